@@ -1,0 +1,9 @@
+pub mod Words
+pub mod Named
+pub mod Users
+pub mod Distinct
+pub mod Texts
+pub mod Values
+pub mod Filter
+pub mod Lacks
+pub mod Streams

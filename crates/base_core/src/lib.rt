@@ -1,0 +1,54 @@
+//! The words that every other crate speaks: names, texts, values, conditions, privileges, lacks,
+//! limits, and streams of bytes.
+//!
+//! A value of this crate is plain data, and contracts see it as such: a [`Name`] and a [`Text`] as
+//! the list of their bytes, a [`Sequence`], [`Several`] or [`Distinct`] as the list of its items, the
+//! enums and the structs with public fields as themselves. So two values are `≡` in a contract
+//! exactly where a client can't tell them apart.
+//!
+//! What a type promises stands in its invariant, once: a [`Name`] is a word of at most 30 bytes in
+//! small letters that is no keyword, a [`Text`] is at most 1,024 bytes of UTF-8 with no control
+//! character, a [`Several`] holds between one item and its limit, a [`Distinct`] the same with
+//! different names, and [`Limits`] stay within what the core can count.
+//!
+//! ```text
+//! Name::read(b"Pay")     // Some: the name `pay`
+//! Name::read(b"select")  // None: a keyword
+//! ```
+//!
+//! [`Source`] and [`Sink`] are the readers and writers of the whole workspace: their ghost members
+//! say which bytes are left or were taken, and whether an error came, so that contracts above can
+//! name the bytes.
+//!
+//! A name is `Copy`, and its comparison and hash go over its bytes. A look-up by name in a row goes
+//! over the columns. Copies of rows and texts take memory for each of their values.
+#![tactic(auto)]
+
+mod bounded;
+mod condition;
+mod keyword;
+mod lack;
+mod limits;
+mod memory;
+mod name;
+mod privilege;
+mod sequence;
+mod stream;
+mod text;
+mod value;
+
+pub use bounded::{Distinct, Named, Several};
+pub use condition::{Assignment, Comparison, Condition, cell, is_chosen, place_of};
+pub use keyword::Keyword;
+pub use lack::{Lack, What};
+pub use limits::Limits;
+pub use memory::{NoMemory, Twin};
+pub use name::{Name, User};
+pub use privilege::{Atom, Kind};
+pub use sequence::Sequence;
+pub use stream::{Broken, Sink, Source, StdSink, StdSource, write_all};
+pub use text::Text;
+pub use value::{ColType, Column, Moment, Row, Value};
+
+#[cfg(test)]
+mod tests;

@@ -1,0 +1,35 @@
+//! How much the core keeps.
+ghost use Rattle.std.specs.Prelude.{◌≡◌, ◌≤◌};
+
+/// How much there may be, each at most what `full` has.
+#[derive(Clone, Copy, Debug, PartialEq, Eq)]
+pub struct Limits {
+    /// Accepted changes.
+    pub changes: u64,
+    pub tables: u64,
+    /// Grants in force of one privilege of one table, each column's UPDATE by itself.
+    pub grants: u64,
+    /// Checkpoints begun.
+    pub checkpoints: u64,
+    pub ghost changes_within: { changes ≤ 1000000 },
+    pub ghost tables_within: { tables ≤ 1024 },
+    pub ghost grants_within: { grants ≤ 1024 },
+    pub ghost checkpoints_within: { checkpoints ≤ 1000000 },
+}
+
+impl Limits {
+    /// 1,000,000 changes, 1,024 tables, 1,024 grants, 1,000,000 checkpoints.
+    pub fn full() -> Limits
+        ensures changes { result.changes ≡ 1000000 }
+        ensures tables { result.tables ≡ 1024 }
+        ensures grants { result.grants ≡ 1024 }
+        ensures checkpoints { result.checkpoints ≡ 1000000 }
+    {
+        Limits {
+            changes: 1_000_000,
+            tables: 1_024,
+            grants: 1_024,
+            checkpoints: 1_000_000,
+        }
+    }
+}

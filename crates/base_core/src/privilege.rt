@@ -1,0 +1,20 @@
+//! Privileges on tables.
+
+use crate::name::Name;
+
+/// What a privilege allows (Griffiths and Wade 1976, section 2).
+#[derive(Clone, Copy, Debug, PartialEq, Eq)]
+pub enum Kind {
+    Select,
+    Insert,
+    Delete,
+    /// To update this column.
+    Update(Name),
+}
+
+/// One privilege on one table: the least that can be granted.
+#[derive(Clone, Copy, Debug, PartialEq, Eq)]
+pub struct Atom {
+    pub table: Name,
+    pub kind: Kind,
+}

@@ -1,0 +1,92 @@
+//! A list on the heap.
+ghost use Rattle.std.specs.Prelude.{◌≡◌, ◌<◌, ◌↔◌, [], IfOk, IsTrue, length, slice_set};
+
+use crate::memory::{NoMemory, Twin};
+use std::alloc::Global;
+use std::marker::Model;
+
+/// Items in order, on the heap. Contracts see the list of them.
+#[derive(Debug, Drop)]
+pub struct Sequence<T> {
+    items: Vec<T>,
+}
+
+impl<T> Model for Sequence<T> {
+    ghost use Rattle.std.specs.Prelude.{List};
+
+    ghost Value = { List T };
+
+    ghost view = { λ s. s.items.items };
+}
+
+impl<T> Sequence<T> {
+    /// No items. It takes no memory.
+    pub fn new(alloc: Global) -> Sequence<T>
+        ensures { result ≡ [] }
+    {
+        Sequence {
+            items: Vec::new(alloc),
+        }
+    }
+
+    /// These items, in the memory that they have.
+    pub fn from_vec(items: Vec<T>) -> Sequence<T>
+        ensures { result ≡ items.items }
+    {
+        Sequence { items }
+    }
+
+    /// The items, in the memory that they have.
+    pub fn into_vec(self) -> Vec<T>
+        ensures { result.items ≡ self }
+    {
+        let Sequence { items } = self;
+        items
+    }
+
+    pub fn as_slice(&self) -> &[T]
+        ensures { result.now ≡ self.now }
+    {
+        self.items.as_slice()
+    }
+
+    pub fn len(&self) -> usize
+        ensures { result ≡ length self.now }
+    {
+        self.items.len()
+    }
+
+    pub fn is_empty(&self) -> bool
+        ensures { IsTrue result ↔ (self.now ≡ []) }
+    {
+        self.items.is_empty()
+    }
+}
+
+impl<T: Drop> Sequence<T> {
+    /// Puts an item in the place of the one at `index`, which has to be below the length.
+    pub fn set(&mut self, index: usize, item: T)
+        requires { index < length self.old }
+        ensures { self.new ≡ slice_set self.old index item }
+    {
+        self.items[index] = item;
+    }
+}
+
+/// Copies of the items, in order.
+pub fn twins_of<T: Twin>(alloc: Global, items: &[T]) -> Result<Vec<T>, NoMemory>
+    ensures { IfOk result (λ copies. copies.items ≡ items.now) }
+{
+    let mut copies = Vec::with_capacity(alloc, items.len())?;
+    for item in items {
+        copies.push(item.try_twin()?)?;
+    }
+    Ok(copies)
+}
+
+impl<T: Twin> Twin for Sequence<T> {
+    fn try_twin(&self) -> Result<Sequence<T>, NoMemory> {
+        let items = twins_of(*self.items.allocator(), self.items.as_slice())?;
+        Ok(Sequence { items })
+    }
+}
