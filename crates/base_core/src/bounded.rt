@@ -1,8 +1,9 @@
-//! Lists that are neither empty nor longer than a limit.
-ghost use Rattle.std.specs.Prelude.{◌≡◌, ◌<◌, ◌≤◌, ℕ, List, true, length, map};
+//! Lists that are no longer than a limit.
+ghost use Rattle.std.specs.Prelude.{◌≡◌, ◌<◌, ◌≤◌, ℕ, List, [], true, length, map};
 ghost use Rattle.base_core.specs.Distinct.{are_distinct};
 
 use crate::name::Name;
+use std::alloc::Global;
 use std::marker::Model;
 
 /// At least one item and at most `LIMIT`, in order. Contracts see the list of them.
@@ -34,6 +35,48 @@ impl<T, const LIMIT: usize> Several<T, LIMIT> {
     pub fn as_slice(&self) -> &[T]
         ensures items { result.now ≡ self.now }
         ensures some { 0 < length self.now }
+        ensures few { length self.now ≤ LIMIT }
+    {
+        self.items.as_slice()
+    }
+}
+
+/// At most `LIMIT` items, in order, or none. Contracts see the list of them.
+#[derive(Debug, Drop)]
+pub struct Limited<T, const LIMIT: usize> {
+    items: Vec<T>,
+}
+
+impl<T, const LIMIT: usize> Model for Limited<T, LIMIT> {
+    ghost use Rattle.std.specs.Prelude.{List, length, ◌≤◌};
+
+    ghost Value = { List T };
+
+    ghost view = { λ s. s.items.items };
+
+    ghost invariant = { λ s. length s.items.items ≤ LIMIT };
+}
+
+impl<T, const LIMIT: usize> Limited<T, LIMIT> {
+    /// No items. It takes no memory.
+    pub fn new(alloc: Global) -> Limited<T, LIMIT>
+        ensures { result ≡ [] }
+    {
+        Limited {
+            items: Vec::new(alloc),
+        }
+    }
+
+    /// These items, in the memory that they have.
+    pub fn from_vec(items: Vec<T>) -> Limited<T, LIMIT>
+        requires { length items.items ≤ LIMIT }
+        ensures { result ≡ items.items }
+    {
+        Limited { items }
+    }
+
+    pub fn as_slice(&self) -> &[T]
+        ensures items { result.now ≡ self.now }
         ensures few { length self.now ≤ LIMIT }
     {
         self.items.as_slice()

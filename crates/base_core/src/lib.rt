@@ -2,14 +2,15 @@
 //! limits, and streams of bytes.
 //!
 //! A value of this crate is plain data, and contracts see it as such: a [`Name`] and a [`Text`] as
-//! the list of their bytes, a [`Sequence`], [`Several`] or [`Distinct`] as the list of its items, the
-//! enums and the structs with public fields as themselves. So two values are `≡` in a contract
-//! exactly where a client can't tell them apart.
+//! the list of their bytes, a [`Sequence`], [`Several`], [`Limited`] or [`Distinct`] as the list of
+//! its items, the enums and the structs with public fields as themselves. So two values are `≡` in a
+//! contract exactly where a client can't tell them apart.
 //!
 //! What a type promises stands in its invariant, once: a [`Name`] is a word of at most 30 bytes in
 //! small letters that is no keyword, a [`Text`] is at most 1,024 bytes of UTF-8 with no control
-//! character, a [`Several`] holds between one item and its limit, a [`Distinct`] the same with
-//! different names, and [`Limits`] stay within what the core can count.
+//! character, a [`Several`] holds between one item and its limit, a [`Limited`] none to its limit, a
+//! [`Distinct`] what a `Several` does with different names, and [`Limits`] stay within what the core
+//! can count.
 //!
 //! ```text
 //! Name::read(b"Pay")     // Some: the name `pay`
@@ -37,7 +38,7 @@ mod stream;
 mod text;
 mod value;
 
-pub use bounded::{Distinct, Named, Several};
+pub use bounded::{Distinct, Limited, Named, Several};
 pub use condition::{Assignment, Comparison, Condition, cell, is_chosen, place_of};
 pub use keyword::Keyword;
 pub use lack::{Lack, What};
@@ -45,7 +46,7 @@ pub use limits::Limits;
 pub use memory::{NoMemory, Twin};
 pub use name::{Name, User};
 pub use privilege::{Atom, Kind};
-pub use sequence::Sequence;
+pub use sequence::{Sequence, twins_of};
 pub use stream::{Broken, Sink, Source, StdSink, StdSource, write_all};
 pub use text::Text;
 pub use value::{ColType, Column, Moment, Row, Value};

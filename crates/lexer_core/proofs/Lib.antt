@@ -1,0 +1,15 @@
+pub mod Numbers
+pub mod Words
+pub mod Marks
+pub mod Chars
+pub mod Texts
+pub mod Halfway
+pub mod Undoubled
+pub mod Reached
+pub mod Spelled
+pub mod Class
+pub mod OneText
+pub mod FirstToken
+pub mod Shortness
+pub mod FirstFault
+pub mod Lines

@@ -1,0 +1,43 @@
+use Rattle.std.proofs.Common.{arith, sym, subst, ap, ◌+◌, List, length, length-drop}
+use Rattle.std.proofs.lemmas.List.{take_rest}
+use Rattle.lexer_core.specs.declared.token.Token as tokens
+use Rattle.lexer_core.specs.Lexing.{AreTokens, long_line}
+use Rattle.lexer_core.proofs.Reached.{Reached, nothing, one_blank, one_token, one_fault, whole}
+use Rattle.lexer_core.proofs.Spelled.{tokens_heard, tokens_say, tokens_within, tokens_ordered}
+use Rattle.lexer_core.proofs.lexer.tokens.Goals as goal
+
+pub returns-then-line-gt-MAX_LINE-clause-outcome : goal.returns-then-line-gt-MAX_LINE-clause-outcome
+returns-then-line-gt-MAX_LINE-clause-outcome c = long_line (omega arith)
+
+pub loop-at-init : goal.loop-at-init
+loop-at-init c = subst (λ (ts : List tokens.Token). Reached c.args.line.now 0 ts) (sym c.new-tokens.ensures.items) (nothing c.args.line.now (omega arith))
+
+pub loop-at-preserved-then-is_blank : goal.loop-at-preserved-then-is_blank
+loop-at-preserved-then-is_blank c = one_blank c.args.line.now c.loop-at.at c.loop-at.tokens.items c.loop-at.invariant c.loop-at-test.true (cc)
+
+pub loop-at-preserved : goal.loop-at-preserved
+loop-at-preserved c =
+    subst (λ (ts : List tokens.Token). Reached c.args.line.now (c.loop-at.at + c.in-Ok.len) ts) (sym c.in_ok-push-in-Ok.ensures.items)
+    (one_token c.args.line.now c.loop-at.at c.loop-at.tokens.items c.loop-at.invariant c.in-Ok.kind c.in-Ok.len c.in-Ok.ensures.first)
+
+pub overflow_add-result : goal.overflow_add-result
+overflow_add-result c =
+    let r = c.loop-at.invariant in
+    let h = ap length (take_rest c.args.line.now c.loop-at.at) in
+    omega (arith, c.in-Err.ensures.fault_within, h, length-drop c.loop-at.at c.args.line.now, r.short)
+
+pub returns-in-Err-clause-outcome : goal.returns-in-Err-clause-outcome
+returns-in-Err-clause-outcome c = one_fault c.args.line.now c.loop-at.at c.loop-at.tokens.items c.loop-at.invariant c.in-Err.fault c.in-Err.ensures.first
+
+pub returns : goal.returns
+returns c =
+    let line = c.args.line.now in
+    let ts = c.loop-at.tokens.items in
+    let read : AreTokens line ts = whole line c.loop-at.at ts c.loop-at.invariant c.loop-at-test.false in
+    record {
+      outcome = read;
+      spelled = tokens_heard line ts read;
+      says = tokens_say line ts read;
+      ordered = tokens_ordered line ts read;
+      within = tokens_within line ts read;
+    }

@@ -1,0 +1,34 @@
+-- Characters of texts.
+use Rattle.std.specs.Prelude.{◌≡◌, ◌≢◌, ℕ, true, ◌==◌, List, ◌∷◌, ◌++◌, [], length, if◌then◌else◌}
+use Rattle.std.specs.List.{flat_map}
+use Rattle.std.specs.Char.{encode_utf8, len_utf8, IsScalar}
+use Rattle.base_core.specs.Texts.{is_printable, ArePlain}
+
+-- how a text writes a character: a quote is doubled
+abbrev pub written : ℕ → List ℕ
+written c = if c == 39 then 39 ∷ 39 ∷ [] else encode_utf8 c
+
+-- and how many bytes that takes
+abbrev pub written_len : ℕ → ℕ
+written_len c = if c == 39 then 2 else len_utf8 c
+
+abbrev pub written_all : List ℕ → List ℕ
+written_all cs = flat_map written cs
+
+-- the bytes begin with no character that may stand in a text
+abbrev pub BeginsWithNoPlain : List ℕ → Type 0
+BeginsWithNoPlain bytes = (c : ℕ) (rest : List ℕ) → IsScalar c → is_printable c ≡ true → bytes ≢ encode_utf8 c ++ rest
+
+-- the bytes begin with a character of n bytes that may stand in a text, and is no quote or stands for one
+pub record BeginsWithPlain (bytes : List ℕ) (n : ℕ) : Type 0 where
+  pub char : ℕ
+  pub rest : List ℕ
+  pub scalar : IsScalar char
+  pub printable : is_printable char ≡ true
+  pub split : bytes ≡ encode_utf8 char ++ rest
+  pub len : n ≡ length (encode_utf8 char)
+
+-- the bytes are a quote, the characters as a text writes them, and then rest
+pub record BeginsText (bytes : List ℕ) (cs rest : List ℕ) : Type 0 where
+  pub plain : ArePlain cs
+  pub split : bytes ≡ 39 ∷ (written_all cs ++ rest)

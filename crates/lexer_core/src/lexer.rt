@@ -1,0 +1,101 @@
+//! Cuts a line into tokens.
+
+ghost use Rattle.std.specs.Prelude.{◌≡◌, ◌≢◌, false, ◌<◌, ◌≤◌, ◌+◌, length, map, slice_index, All, AllPairs, MatchResult, IfOk, IfErr};
+ghost use Rattle.lexer_core.specs.Lexing.{AreHeard, AreTokens, BeginsKind, FailsWith, IsFaultOf, Says, heard, is_blank, starts_number};
+
+use crate::bytes::byte_at;
+use crate::fault::{Code, Fault, ReadFault};
+use crate::mark::mark;
+use crate::number::number;
+use crate::text::text;
+use crate::token::{Kind, Token};
+use crate::word::word;
+use std::alloc::Global;
+
+/// The longest line that is read, in bytes, without its line end.
+pub const MAX_LINE: usize = 4096;
+
+fn is_blank(byte: u8) -> bool
+    ensures { result ≡ is_blank byte }
+{
+    byte == b' ' || byte == b'\t'
+}
+
+fn starts_number(bytes: &[u8]) -> bool
+    ensures { result ≡ starts_number bytes.now }
+{
+    let first = byte_at(bytes, 0);
+    first.is_ascii_digit() || (first == b'-' && byte_at(bytes, 1).is_ascii_digit())
+}
+
+fn first_token(bytes: &[u8]) -> Result<(Kind, usize), Fault>
+    requires some { 0 < length bytes.now }
+    requires short { length bytes.now ≤ 4096 }
+    requires no_blank { is_blank (slice_index bytes.now 0) ≡ false }
+    ensures fault_within { IfErr result (λ f. f.offset < length bytes.now) }
+    ensures first { MatchResult result (λ t. BeginsKind bytes.now t.0 t.1) (λ f. FailsWith bytes.now f) }
+{
+    let first = byte_at(bytes, 0);
+    if first.is_ascii_alphabetic() {
+        return word(bytes);
+    }
+    if starts_number(bytes) {
+        return number(bytes);
+    }
+    if first == b'\'' {
+        return text(bytes);
+    }
+    match mark(bytes) {
+        Some(mark) => Ok((Kind::Mark(mark), mark.text().len())),
+        None => Err(Fault {
+            code: Code::BadByte,
+            offset: 0,
+        }),
+    }
+}
+
+/// The tokens of a line, in order, or its leftmost lexical fault with the byte that it stands at:
+/// `TooLong` (a line of more than 4,096 bytes, at 4096; a text of more than 1,024 bytes, at its
+/// opening quote), `BadByte`, `BadNumber`, `OpenText` or `LongName`. `NoMemory` comes only where
+/// memory for the tokens was refused.
+pub fn tokens(alloc: Global, line: &[u8]) -> Result<Vec<Token>, ReadFault>
+    ensures outcome { MatchResult result (λ v. AreTokens line.now v.items) (λ e. IsFaultOf line.now e) }
+    ensures spelled { IfOk result (λ v. AreHeard line.now v.items) }
+    ensures says { IfOk result (λ v. Says line.now (map (λ t. (heard line.now t).lexeme) v.items)) }
+
+    // Each token starts at or behind the end of the one before, and ends within the line.
+    ensures ordered { IfOk result (λ v. AllPairs (λ before after. before.end ≤ after.start) v.items) }
+    ensures within { IfOk result (λ v. All (λ t. t.end ≤ length line.now) v.items) }
+{
+    if line.len() > MAX_LINE {
+        return Err(ReadFault::At {
+            code: Code::TooLong,
+            offset: MAX_LINE,
+        });
+    }
+    let mut tokens = Vec::new(alloc);
+    let mut at = 0;
+    while at < line.len() {
+        if is_blank(line[at]) {
+            at += 1;
+            continue;
+        }
+        match first_token(&line[at..]) {
+            Ok((kind, len)) => {
+                tokens.push(Token {
+                    kind,
+                    start: at,
+                    end: at + len,
+                })?;
+                at += len;
+            }
+            Err(fault) => {
+                return Err(ReadFault::At {
+                    code: fault.code,
+                    offset: at + fault.offset,
+                });
+            }
+        }
+    }
+    Ok(tokens)
+}

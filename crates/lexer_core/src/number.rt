@@ -1,0 +1,74 @@
+//! Numbers.
+
+ghost use Rattle.std.specs.Prelude.{◌≡◌, ◌≢◌, true, ◌<◌, ◌≤◌, length, slice_index, MatchResult, MatchOption, IfErr};
+ghost use Rattle.std.specs.List.{prefix_len};
+ghost use Rattle.std.specs.Char.{is_ascii_digit};
+ghost use Rattle.std.specs.Str.Parse.{IsNumeral, without_leading_sign};
+ghost use Rattle.lexer_core.specs.Lexing.{BeginsKind, FailsWith, IsNumber, IsTooGreat, sign_len, number_len, starts_number};
+
+use crate::bytes::byte_at;
+use crate::fault::{Code, Fault};
+use crate::token::Kind;
+use crate::word::is_word_byte;
+
+fn digits_len(bytes: &[u8]) -> usize
+    ensures len { result ≡ prefix_len is_ascii_digit bytes.now }
+    ensures within { result ≤ length bytes.now }
+{
+    bytes
+        .iter()
+        .take_while(|byte| byte.is_ascii_digit())
+        .count()
+}
+
+fn sign_len(bytes: &[u8]) -> usize
+    ensures len { result ≡ sign_len bytes.now }
+    ensures within { result ≤ length bytes.now }
+{
+    match bytes {
+        [b'-', ..] => 1,
+        _ => 0,
+    }
+}
+
+fn number_len(bytes: &[u8]) -> usize
+    ensures len { result ≡ number_len bytes.now }
+    ensures within { result ≤ length bytes.now }
+{
+    let sign = sign_len(bytes);
+    sign + digits_len(&bytes[sign..])
+}
+
+/// The number that a sign and digits spell.
+fn value(spelled: &[u8]) -> Option<i64>
+    requires unsigned { slice_index spelled.now 0 ≢ 43 }
+    requires digits { IsNumeral 10 (without_leading_sign spelled.now) }
+    ensures { MatchOption result (IsTooGreat spelled.now) (λ z. IsNumber z spelled.now) }
+{
+    match str::from_utf8(spelled) {
+        Ok(text) => text.parse().ok(),
+        Err(_) => unreachable!(),
+    }
+}
+
+/// The number that stands first.
+pub fn number(bytes: &[u8]) -> Result<(Kind, usize), Fault>
+    requires { starts_number bytes.now ≡ true }
+    ensures fault_within { IfErr result (λ f. f.offset < length bytes.now) }
+    ensures first { MatchResult result (λ t. BeginsKind bytes.now t.0 t.1) (λ f. FailsWith bytes.now f) }
+{
+    let len = number_len(bytes);
+    if is_word_byte(byte_at(bytes, len)) {
+        return Err(Fault {
+            code: Code::BadNumber,
+            offset: 0,
+        });
+    }
+    match value(&bytes[..len]) {
+        Some(number) => Ok((Kind::Number(number), len)),
+        None => Err(Fault {
+            code: Code::BadNumber,
+            offset: 0,
+        }),
+    }
+}

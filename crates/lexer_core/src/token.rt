@@ -1,0 +1,36 @@
+//! Tokens.
+
+use base_core::{Keyword, Name};
+
+#[derive(Clone, Copy, Debug, PartialEq, Eq)]
+pub enum Mark {
+    Open,
+    Close,
+    Comma,
+    Star,
+    Semicolon,
+    Equal,
+    NotEqual,
+    Less,
+    LessEqual,
+    Greater,
+    GreaterEqual,
+}
+
+/// What a token is. A text's bytes stay in the line; `unquoted` makes the text of them.
+#[derive(Clone, Copy, Debug, PartialEq, Eq)]
+pub enum Kind {
+    Keyword(Keyword),
+    Name(Name),
+    Number(i64),
+    Text,
+    Mark(Mark),
+}
+
+/// A token and its slice of the line, in bytes from 0: from `start` to before `end`.
+#[derive(Clone, Copy, Debug, PartialEq, Eq)]
+pub struct Token {
+    pub kind: Kind,
+    pub start: usize,
+    pub end: usize,
+}

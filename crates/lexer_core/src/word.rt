@@ -1,0 +1,52 @@
+//! Words: keywords and names.
+
+ghost use Rattle.std.specs.Prelude.{◌≡◌, ◌<◌, ◌≤◌, true, length, take, take_while, slice_index, MatchResult, IfErr};
+ghost use Rattle.std.specs.List.{prefix_len};
+ghost use Rattle.std.specs.Char.{is_ascii_alphabetic};
+ghost use Rattle.base_core.specs.Words.{is_word_byte};
+ghost use Rattle.lexer_core.specs.Lexing.{BeginsKind, FailsWith};
+
+use crate::fault::{Code, Fault};
+use crate::token::Kind;
+use base_core::{Keyword, Name};
+
+/// The most bytes that a word has.
+pub const MAX_NAME: usize = 30;
+
+pub fn is_word_byte(byte: u8) -> bool
+    ensures { result ≡ is_word_byte byte }
+{
+    byte.is_ascii_alphanumeric() || byte == b'_'
+}
+
+/// The number of bytes of letters, digits and `_` at the front. Where the first is a letter, they are
+/// a word.
+pub fn word_len(bytes: &[u8]) -> usize
+    ensures len { result ≡ prefix_len is_word_byte bytes.now }
+    ensures within { result ≤ length bytes.now }
+{
+    bytes.iter().take_while(|byte| is_word_byte(**byte)).count()
+}
+
+/// The keyword or the name that stands first.
+pub fn word(bytes: &[u8]) -> Result<(Kind, usize), Fault>
+    requires { is_ascii_alphabetic (slice_index bytes.now 0) ≡ true }
+    ensures fault_within { IfErr result (λ f. f.offset < length bytes.now) }
+    ensures first { MatchResult result (λ t. BeginsKind bytes.now t.0 t.1) (λ f. FailsWith bytes.now f) }
+{
+    let len = word_len(bytes);
+    if len > MAX_NAME {
+        return Err(Fault {
+            code: Code::LongName,
+            offset: 0,
+        });
+    }
+    let word = &bytes[..len];
+    if let Some(keyword) = Keyword::read(word) {
+        return Ok((Kind::Keyword(keyword), len));
+    }
+    match Name::read(word) {
+        Some(name) => Ok((Kind::Name(name), len)),
+        None => unreachable!(),
+    }
+}

@@ -1,0 +1,15 @@
+-- What the exit of a `?` returns.
+use Rattle.std.proofs.Common.{◌≡◌, ◌≢◌, ℕ, List, Result, Ok, Err, Option, Some, None, IsErrAnd, length, ap, sym, ◌∙◌, subst}
+use Rattle.lexer_core.specs.Lexing.{Lexeme}
+use Rattle.lexer_core.specs.declared.fault.ReadFault.{ReadFault}
+use Rattle.reader_core.specs.Grammar.{Grammar, judge}
+use Rattle.reader_core.specs.Cursor.{Cursor, Leads, Faults, Takes, judged, fault_of}
+
+pub exits : {V : Type 0} (before : Grammar → Grammar) (after : V → Grammar → Grammar) (says : V → List Lexeme) (r : Result V ReadFault) (e : ReadFault) (old new : Cursor) → IsErrAnd r (λ y. y ≡ e) → Faults before e old → Leads before after says r old new
+exits before after says (Ok v) e old new p f = absurd p
+exits before after says (Err y) e old new p f = subst (λ (x : ReadFault). Faults before x old) (sym p) f
+
+-- the same, as one equation
+pub exit_is : {V : Type 0} (r : Result V ReadFault) (e : ReadFault) → IsErrAnd r (λ y. y ≡ e) → r ≡ Err e
+exit_is (Ok v) e p = absurd p
+exit_is (Err y) e p = ap Err p

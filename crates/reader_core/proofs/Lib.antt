@@ -1,0 +1,11 @@
+pub mod Theory
+pub mod Taking
+pub mod Exits
+pub mod Lists
+pub mod Joining
+pub mod Fine
+pub mod Finishing
+pub mod Whole
+pub mod Once
+pub mod Lines
+pub mod Exactness

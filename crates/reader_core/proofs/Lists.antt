@@ -1,0 +1,177 @@
+-- What is wrong with the items of a list.
+use Rattle.std.proofs.Common.{◌≡◌, ℕ, ◌≤◌, ◌<◌, ◌+◌, suc, length, arith, length-append, append_assoc, Bool, true, false, List, [], ◌∷◌, ◌++◌, ◌&&◌, map, drop, Option, Some, None, Result, Ok, Err, if◌then◌else◌, ap, sym, subst, ◌∙◌, refl}
+use Rattle.std.proofs.lemmas.Grind.{flat_map-append}
+use Rattle.std.proofs.lemmas.List.{append-nil, length-map}
+use Rattle.std.specs.List.{list_any, flat_map}
+use Rattle.base_core.specs.declared.name.Name.{Name}
+use Rattle.lexer_core.specs.Lexing.{Lexeme, kind_of, lexeme_of, heard}
+use Rattle.lexer_core.specs.declared.token.Kind.{Kind}
+use Rattle.lexer_core.specs.declared.token.Kind.TheVariants as kinds
+use Rattle.lexer_core.specs.declared.token.Token as tokens
+use Rattle.lexer_core.specs.declared.fault.ReadFault.{ReadFault}
+use Rattle.lexer_core.specs.declared.fault.ReadFault.TheVariants as faults
+use Rattle.lexer_core.specs.declared.fault.Code.{Code}
+use Rattle.lexer_core.specs.declared.fault.Code.TheVariants as codes
+use Rattle.reader_core.specs.Grammar.{Grammar, Class, Rule, Items, More, One, Case, End, AnyName, judge, fits, mark_of, marked, enter, step, followed_by, can_end, same, mark_from, AreFine}
+use Rattle.reader_core.specs.Cursor.{Cursor, Leads, Takes, Faults, fault_of, judged, left_says, next_kind, next_lexeme, next_is, offset_at}
+use Rattle.reader_core.specs.Language.{listed}
+use Rattle.reader_core.proofs.Theory.{judge_nil, judge_none, judge_some}
+use Rattle.reader_core.proofs.Taking.{says_taken, said_by_kind, only_kind, at_line}
+
+step_item : (r : Rule) (s : List Kind) (c : Class) (i k : Grammar) (x y : Kind) (m : Option Code) → y ≡ x → fits c x ≡ true → mark_of r s x ≡ m → step (Items r s (One c i) k) y ≡ Some (m, followed_by i (More r (s ++ x ∷ []) (One c i) k))
+step_item r s c i k x y m e f h =
+    ap (λ z. step (Items r s (One c i) k) z) e
+    ∙ ap (λ b. marked (mark_of r s x) (if b then Some (followed_by i (More r (s ++ x ∷ []) (One c i) k)) else None)) f
+    ∙ ap (λ z. marked z (Some (followed_by i (More r (s ++ x ∷ []) (One c i) k)))) h
+
+step_misfit : (r : Rule) (s : List Kind) (c : Class) (i k : Grammar) (y : Kind) → fits c y ≡ false → step (Items r s (One c i) k) y ≡ None
+step_misfit r s c i k y f = ap (λ b. marked (mark_of r s y) (if b then Some (followed_by i (More r (s ++ y ∷ []) (One c i) k)) else None)) f
+
+-- ---- the first token of an item
+module _ (at : Cursor) (r : Rule) (s : List Kind) (c : Class) (i k : Grammar) where
+  pub item_bad : (x : Kind) (code : Code) → next_kind at ≡ Some x → fits c x ≡ true → mark_of r s x ≡ Some code → judged (Items r s (One c i) k) at ≡ Some (code, offset_at at)
+  item_bad x code is f m = go at.rest is
+    where
+      go : (ts : List tokens.Token) → next_kind (at_line at.line ts) ≡ Some x → judged (Items r s (One c i) k) (at_line at.line ts) ≡ Some (code, offset_at (at_line at.line ts))
+      go [] e = cc
+      go (t ∷ ts) e = judge_some (length at.line) _ t ts (Some code) _ (step_item r s c i k x t.kind (Some code) (cc) f m)
+
+  pub item_misfit : next_is c at ≡ false → judged (Items r s (One c i) k) at ≡ Some (codes.Expected, offset_at at)
+  item_misfit is = go at.rest is
+    where
+      go : (ts : List tokens.Token) → next_is c (at_line at.line ts) ≡ false → judged (Items r s (One c i) k) (at_line at.line ts) ≡ Some (codes.Expected, offset_at (at_line at.line ts))
+      go [] e = judge_nil (length at.line) (Items r s (One c i) k)
+      go (t ∷ ts) e = judge_none (length at.line) _ t ts (step_misfit r s c i k t.kind e)
+
+pub item_misfit_at : (old : Cursor) (r : Rule) (s : List Kind) (c : Class) (i : Grammar) (e : ReadFault) → e ≡ faults.At codes.Expected (offset_at old) → next_is c old ≡ false → Faults (λ k. Items r s (One c i) k) e old
+item_misfit_at old r s c i e same h = record { judges = λ ne k. item_misfit old r s c i k h ∙ sym (ap fault_of same) }
+
+-- an item past the limit, where items may repeat
+pub item_bad_at : (old : Cursor) (r : Rule) (s : List Kind) (c : Class) (i : Grammar) (code : Code) (e : ReadFault) → r.distinct ≡ false → next_is c old ≡ true → mark_from false (length s) r.limit ≡ Some code → e ≡ faults.At code (offset_at old) → Faults (λ k. Items r s (One c i) k) e old
+item_bad_at old r s c i code e any is m fault = record { judges = λ ne k. go k old.rest is ∙ sym (ap fault_of fault) }
+  where
+    at_any : (t : Kind) → mark_of r s t ≡ Some code
+    at_any t = ap (λ b. mark_from (b && list_any (λ x. same x t) s) (length s) r.limit) any ∙ m
+
+    go : (k : Grammar) (ts : List tokens.Token) → next_is c (at_line old.line ts) ≡ true → judged (Items r s (One c i) k) (at_line old.line ts) ≡ Some (code, offset_at (at_line old.line ts))
+    go k [] e = cc
+    go k (t ∷ ts) e = judge_some (length old.line) _ t ts (Some code) _ (step_item r s c i k t.kind t.kind (Some code) refl e (at_any t.kind))
+
+-- a look at the next token that found none of the class
+pub item_misfit_so : {V : Type 0} (old : Cursor) (r : Rule) (s : List Kind) (c : Class) (i : Grammar) (e : ReadFault) → ◌≡◌ {A = Result V ReadFault} (Err e) (Err (faults.At codes.Expected (offset_at old))) × (next_is c old ≡ false) → Faults (λ k. Items r s (One c i) k) e old
+item_misfit_so old r s c i e h = let p = h.0 in let same : e ≡ faults.At codes.Expected (offset_at old) = cc in item_misfit_at old r s c i e same h.1
+
+-- the token that begins an item is taken
+pub item_taken : {old new : Cursor} (r : Rule) (s : List Kind) (c : Class) (i : Grammar) (x : Kind) (l : Lexeme) → next_kind old ≡ Some x → next_lexeme old ≡ Some l → fits c x ≡ true → mark_of r s x ≡ None → new.rest ≡ drop 1 old.rest → new.line ≡ old.line → Takes (λ k. Items r s (One c i) k) (λ k. followed_by i (More r (s ++ x ∷ []) (One c i) k)) (l ∷ []) old new
+item_taken {old} {new} r s c i x l is says f m rest line = record {
+  says = says_taken old new l says rest line;
+  line = line;
+  judges = λ k. go k old.rest is ∙ ap (λ (ts : List tokens.Token). judge (length old.line) (followed_by i (More r (s ++ x ∷ []) (One c i) k)) ts) (sym rest) ∙ ap (λ (b : List ℕ). judge (length b) (followed_by i (More r (s ++ x ∷ []) (One c i) k)) new.rest) (sym line);
+}
+  where
+    go : (k : Grammar) (ts : List tokens.Token) → next_kind (at_line old.line ts) ≡ Some x → judge (length old.line) (Items r s (One c i) k) ts ≡ judge (length old.line) (followed_by i (More r (s ++ x ∷ []) (One c i) k)) (drop 1 ts)
+    go k [] e = cc
+    go k (t ∷ ts) e = judge_some (length old.line) _ t ts None _ (step_item r s c i k x t.kind None (cc) f m)
+
+-- ---- behind an item
+more_on : (end : ℕ) (line : List ℕ) (ts : List tokens.Token) (r : Rule) (s : List Kind) (i k : Grammar) → next_is r.separator (at_line line ts) ≡ true → judge end (More r s i k) ts ≡ judge end (Items r s i k) (drop 1 ts)
+more_on end line [] r s i k e = cc
+more_on end line (t ∷ ts) r s i k e = judge_some end _ t ts None (Items r s i k) (ap (λ b. if b then Some (None, Items r s i k) else step k t.kind) e)
+
+more_done : (end : ℕ) (line : List ℕ) (ts : List tokens.Token) (r : Rule) (s : List Kind) (i k : Grammar) → next_is r.separator (at_line line ts) ≡ false → judge end (More r s i k) ts ≡ judge end k ts
+unfolding judge
+more_done end line [] r s i k e = refl
+more_done end line (t ∷ ts) r s i k e = ap (λ b. elim (if b then Some (None, Items r s i k) else step k t.kind) [ None ↦ Some ((if can_end k then codes.Trailing else codes.Expected), t.start) | Some s ↦ elim s.0 [ None ↦ judge end s.1 ts | Some code ↦ Some (code, t.start) ] ]) e
+
+-- the items, each behind a separator
+abbrev pub behind_each : {A : Type 0} → Lexeme → (A → List Lexeme) → List A → List Lexeme
+behind_each separator says xs = flat_map (λ y. separator ∷ says y) xs
+
+each_push : {A : Type 0} (separator : Lexeme) (says : A → List Lexeme) (xs : List A) (x : A) (r : List Lexeme) → behind_each separator says (xs ++ x ∷ []) ++ r ≡ behind_each separator says xs ++ separator ∷ (says x ++ r)
+each_push separator says xs x r = simp (flat_map-append, append_assoc)
+
+each_listed : {A : Type 0} (separator : Lexeme) (says : A → List Lexeme) (xs : List A) (x : A) → behind_each separator says (xs ++ x ∷ []) ≡ separator ∷ listed separator says (xs ++ x ∷ [])
+each_listed separator says [] x = refl
+each_listed separator says (y ∷ ys) x = refl
+
+-- A list in the midst, before an item.
+pub record SoFar {A : Type 0} (r : Rule) (separator : Lexeme) (i : Grammar) (first : A → Kind) (says : A → List Lexeme) (xs : List A) (old here : Cursor) : Type 0 where
+  pub line : here.line ≡ old.line
+  pub judges : (k : Grammar) → judged (Items r [] i k) old ≡ judged (Items r (map first xs) i k) here
+  pub said : separator ∷ left_says old ≡ behind_each separator says xs ++ separator ∷ left_says here
+  pub fine : AreFine r [] (map first xs)
+
+-- fine items, with one more
+fine_push : (r : Rule) (seen ks : List Kind) (k : Kind) → AreFine r seen ks → mark_of r (seen ++ ks) k ≡ None → AreFine r seen (ks ++ k ∷ [])
+fine_push r seen [] k h m = (subst (λ (s : List Kind). mark_of r s k ≡ None) (append-nil seen) m, tt)
+fine_push r seen (j ∷ ks) k h m = (h.0, fine_push r (seen ++ j ∷ []) ks k h.1 (subst (λ (s : List Kind). mark_of r s k ≡ None) (sym (append_assoc seen (j ∷ []) ks)) m))
+
+pub firsts_push : {A : Type 0} (first : A → Kind) (xs : List A) (x : A) → map first (xs ++ x ∷ []) ≡ map first xs ++ first x ∷ []
+firsts_push first [] x = refl
+firsts_push first (y ∷ xs) x = ap (λ zs. first y ∷ zs) (firsts_push first xs x)
+
+pub firsts_length : {A : Type 0} (first : A → Kind) (xs : List A) → length (map first xs) ≡ length xs
+firsts_length first [] = refl
+firsts_length first (x ∷ xs) = ap suc (firsts_length first xs)
+
+pub nothing_yet : {A : Type 0} (r : Rule) (separator : Lexeme) (i : Grammar) (first : A → Kind) (says : A → List Lexeme) (xs : List A) (here : Cursor) → xs ≡ [] → SoFar r separator i first says xs here here
+nothing_yet {A} r separator i first says xs here e = subst (λ (ys : List A). SoFar r separator i first says ys here here) (sym e) (record { line = refl; judges = λ k. refl; said = refl; fine = tt })
+
+module _ {A : Type 0} {r : Rule} {separator : Lexeme} {i : Grammar} {first : A → Kind} {says : A → List Lexeme} {xs : List A} {old here mid : Cursor} (x : A)
+    (so_far : SoFar r separator i first says xs old here) (t : Takes (λ k. Items r (map first xs) i k) (λ k. More r (map first (xs ++ x ∷ [])) i k) (says x) here mid) (m : mark_of r (map first xs) (first x) ≡ None) where
+  pub fine_on : AreFine r [] (map first (xs ++ x ∷ []))
+  fine_on = subst (AreFine r []) (sym (firsts_push first xs x)) (fine_push r [] (map first xs) (first x) so_far.fine m)
+
+  pub list_on : (new : Cursor) → next_is r.separator mid ≡ true → next_lexeme mid ≡ Some separator → new.rest ≡ drop 1 mid.rest → new.line ≡ mid.line → SoFar r separator i first says (xs ++ x ∷ []) old new
+  list_on new is heard rest line =
+      let said = says_taken mid new separator heard rest line in
+      record {
+        line = line ∙ t.line ∙ so_far.line;
+        judges = λ k. so_far.judges k ∙ t.judges k ∙ more_on (length mid.line) mid.line mid.rest r (map first (xs ++ x ∷ [])) i k is
+            ∙ ap (λ (ts : List tokens.Token). judge (length mid.line) (Items r (map first (xs ++ x ∷ [])) i k) ts) (sym rest)
+            ∙ ap (λ (b : List ℕ). judge (length b) (Items r (map first (xs ++ x ∷ [])) i k) new.rest) (sym line);
+        said = so_far.said ∙ ap (λ z. behind_each separator says xs ++ separator ∷ z) (t.says ∙ ap (λ z. says x ++ z) said) ∙ sym (each_push separator says xs x (separator ∷ left_says new));
+        fine = fine_on;
+      }
+
+  pub list_done : next_is r.separator mid ≡ false → Takes (λ k. Items r [] i k) (λ k. k) (listed separator says (xs ++ x ∷ [])) old mid
+  list_done is = record {
+    line = t.line ∙ so_far.line;
+    judges = λ k. so_far.judges k ∙ t.judges k ∙ more_done (length mid.line) mid.line mid.rest r (map first (xs ++ x ∷ [])) i k is;
+    says =
+        let e : separator ∷ left_says old ≡ separator ∷ (listed separator says (xs ++ x ∷ []) ++ left_says mid) = so_far.said ∙ ap (λ z. behind_each separator says xs ++ separator ∷ z) t.says ∙ sym (each_push separator says xs x (left_says mid)) ∙ ap (λ z. z ++ left_says mid) (each_listed separator says xs x) in
+        cc;
+  }
+
+-- a list goes on behind fewer tokens
+pub shorter : (old mid new : Cursor) (c : Class) (said : List Lexeme) → left_says old ≡ said ++ left_says mid → next_is c mid ≡ true → new.rest ≡ drop 1 mid.rest → length new.rest < length old.rest
+shorter old mid new c said e is rest =
+    let count : length old.rest ≡ length said + length mid.rest = sym (length-map old.rest (λ t. (heard old.line t).lexeme)) ∙ ap length e ∙ length-append said (left_says mid) ∙ ap (λ n. length said + n) (length-map mid.rest (λ t. (heard mid.line t).lexeme)) in
+    let less : length (drop 1 mid.rest) < length mid.rest = go mid.rest is in
+    let same : length new.rest ≡ length (drop 1 mid.rest) = ap length rest in
+    omega arith
+  where
+    go : (ts : List tokens.Token) → next_is c (at_line mid.line ts) ≡ true → length (drop 1 ts) < length ts
+    go [] e = cc
+    go (t ∷ ts) e = omega arith
+
+-- ---- choices
+pub case_yes : (at : Cursor) (c : Class) (a b : Grammar) → next_is c at ≡ true → judged (Case c a b) at ≡ judged (One c a) at
+case_yes at c a b is = go at.rest is
+  where
+    go : (ts : List tokens.Token) → next_is c (at_line at.line ts) ≡ true → judge (length at.line) (Case c a b) ts ≡ judge (length at.line) (One c a) ts
+    go [] e = cc
+    go (t ∷ ts) e = judge_some (length at.line) _ t ts None a (ap (λ x. if x then Some (None, a) else step b t.kind) e) ∙ sym (judge_some (length at.line) _ t ts None a (ap (λ x. if x then Some (None, a) else None) e))
+
+pub case_no : (at : Cursor) (c : Class) (a b : Grammar) → next_is c at ≡ false → judged (Case c a b) at ≡ judged b at
+unfolding judge
+case_no at c a b is = go at.rest is
+  where
+    go : (ts : List tokens.Token) → next_is c (at_line at.line ts) ≡ false → judge (length at.line) (Case c a b) ts ≡ judge (length at.line) b ts
+    go [] e = refl
+    go (t ∷ ts) e = ap (λ x. elim (if x then Some (None, a) else step b t.kind) [ None ↦ Some ((if can_end b then codes.Trailing else codes.Expected), t.start) | Some s ↦ elim s.0 [ None ↦ judge (length at.line) s.1 ts | Some code ↦ Some (code, t.start) ] ]) e
+
+-- names that stand earlier
+pub any_first : {A : Type 0} (first : A → Kind) (xs : List A) (t : Kind) → list_any (λ x. same x t) (map first xs) ≡ list_any (λ x. same (first x) t) xs
+any_first first [] t = refl
+any_first first (x ∷ xs) t = rw (any_first first xs t) refl

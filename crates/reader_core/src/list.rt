@@ -1,0 +1,75 @@
+//! Lists of items with a separator between each two.
+ghost use Rattle.std.specs.Prelude.{◌≡◌, ◌<◌, ◌∷◌, ◌++◌, [], List, ℕ, None, Some, true, IfOk, length, map};
+ghost use Rattle.std.specs.List.{list_any};
+ghost use Rattle.base_core.specs.Words.{same_name};
+ghost use Rattle.lexer_core.specs.Lexing.{Lexeme};
+ghost use Rattle.lexer_core.specs.declared.token.Kind.{Kind};
+ghost use Rattle.lexer_core.specs.declared.token.Kind.TheVariants as kinds;
+ghost use Rattle.reader_core.specs.Grammar.{Grammar, Rule, Items, More, One, AnyName, followed_by, mark_of, AreFine, same};
+ghost use Rattle.reader_core.specs.Cursor.{Reads, Leads, next_is, next_lexeme};
+ghost use Rattle.reader_core.specs.Language.{listed, name_says, names_rule};
+
+use crate::reader::Reader;
+use base_core::{Name, Named};
+use lexer_core::ReadFault;
+use std::alloc::Global;
+
+/// What a list of the language holds.
+pub trait Item: Drop + Sized {
+    // How many there may be, whether they differ by their first tokens, and what stands between them.
+    ghost rule: { Rule };
+    // The separator as a token says it.
+    ghost separator: { Lexeme };
+    // An item.
+    ghost grammar: { Grammar };
+    // The kind of its first token.
+    ghost first: { Self → Kind };
+    // What it says, token by token.
+    ghost says: { Self → List Lexeme };
+
+    /// Reads the item that comes after these.
+    fn read(reader: &mut Reader<'_>, alloc: Global, before: &[Self]) -> Result<Self, ReadFault>
+        ensures leads { Leads (λ k. Items rule (map first before.now) grammar k) (λ x k. More rule (map first (before.now ++ x ∷ [])) grammar k) says result reader.old reader.new }
+        ensures fine { IfOk result (λ x. mark_of rule (map first before.now) (first x) ≡ None) };
+
+    /// Whether a separator comes next.
+    fn at_separator(reader: &Reader<'_>) -> bool
+        ensures next { result ≡ next_is rule.separator reader.now }
+        ensures said { result ≡ true → next_lexeme reader.now ≡ Some separator };
+}
+
+/// One item, and more of them behind separators.
+pub fn list<T: Item>(reader: &mut Reader<'_>, alloc: Global) -> Result<Vec<T>, ReadFault>
+    ensures reads { Reads (λ k. Items T.rule [] T.grammar k) (λ v. listed T.separator T.says v.items) result reader.old reader.new }
+    ensures some { IfOk result (λ v. 0 < length v.items) }
+    ensures fine { IfOk result (λ v. AreFine T.rule [] (map T.first v.items)) }
+{
+    let mut items = Vec::new(alloc);
+    loop {
+        let item = T::read(reader, alloc, &items)?;
+        items.push(item)?;
+        if !T::at_separator(reader) {
+            return Ok(items);
+        }
+        reader.advance();
+    }
+}
+
+fn has_name<T: Named>(items: &[T], name: Name) -> bool
+    ensures { result ≡ list_any (λ x. same x (kinds.Name name)) (map (λ x. kinds.Name (T.name_of x)) items.now) }
+{
+    items.iter().any(|item| item.name() == name)
+}
+
+impl Reader<'_> {
+    /// The name that begins an item of a list of at most so many, after these.
+    pub fn item_name<T: Named>(&mut self, items: &[T], limit: usize) -> Result<Name, ReadFault>
+        ensures leads { (i : Grammar) → Leads (λ k. Items (names_rule limit) (map (λ x. kinds.Name (T.name_of x)) items.now) (One AnyName i) k) (λ n k. followed_by i (More (names_rule limit) (map (λ x. kinds.Name (T.name_of x)) items.now ++ kinds.Name n ∷ []) (One AnyName i) k)) name_says result self.old self.new }
+        ensures fine { IfOk result (λ n. mark_of (names_rule limit) (map (λ x. kinds.Name (T.name_of x)) items.now) (kinds.Name n) ≡ None) }
+    {
+        let name = self.peek_name()?;
+        self.check_item(has_name(items, name), items.len(), limit)?;
+        self.advance();
+        Ok(name)
+    }
+}

@@ -1,0 +1,224 @@
+//! A reader over the tokens of a line: single tokens.
+ghost use Rattle.std.specs.Prelude.{◌≡◌, ◌≢◌, ◌≤◌, ◌∷◌, [], false, true, length, drop, None, Some, IfOk, IfErr, OnOk, OnErr, option_map};
+ghost use Rattle.base_core.specs.declared.keyword.Keyword.TheVariants as keywords;
+ghost use Rattle.lexer_core.specs.Lexing as lexemes;
+ghost use Rattle.lexer_core.specs.Lexing.{AreHeard};
+ghost use Rattle.reader_core.specs.Grammar.{One, Key, Sign, AnyName, AnyLiteral, AnyType, mark_from};
+ghost use Rattle.reader_core.specs.Cursor.{Cursor, Reads, Faults, Checks, offset_at, next_kind, next_lexeme, next_is};
+ghost use Rattle.reader_core.specs.Language.{name_says, type_lexeme, type_says, value_lexeme};
+
+use base_core::{ColType, Keyword, Name, Value};
+use lexer_core::{Code, Kind, Mark, ReadFault, Token, unquoted};
+use std::alloc::Global;
+use std::marker::Model;
+
+/// The tokens of a line that are left to read.
+#[derive(Drop)]
+pub struct Reader<'a> {
+    line: &'a [u8],
+    rest: &'a [Token],
+}
+
+impl<'a> Model for Reader<'a> {
+    ghost use Rattle.std.specs.Prelude.{length, ◌≤◌};
+    ghost use Rattle.lexer_core.specs.Lexing.{AreHeard};
+    ghost use Rattle.reader_core.specs.Cursor.{Cursor};
+
+    ghost Value = { Cursor };
+
+    ghost view = { λ r. record { line = r.line.now; rest = r.rest.now } };
+
+    ghost invariant = { λ r. (length r.line.now ≤ 4096) × AreHeard r.line.now r.rest.now };
+}
+
+impl<'a> Reader<'a> {
+    pub fn new(line: &'a [u8], tokens: &'a [Token]) -> Reader<'a>
+        requires short { length line.now ≤ 4096 }
+        requires heard { AreHeard line.now tokens.now }
+        ensures { result ≡ record { line = line.now; rest = tokens.now } }
+    {
+        Reader { line, rest: tokens }
+    }
+}
+
+impl Reader<'_> {
+    pub fn peek(&self) -> Option<Kind>
+        ensures { result ≡ next_kind self.now }
+    {
+        match self.rest {
+            [token, ..] => Some(token.kind),
+            [] => None,
+        }
+    }
+
+    pub fn advance(&mut self)
+        requires { next_kind self.old ≢ None }
+        ensures rest { self.new.rest ≡ drop 1 self.old.rest }
+        ensures line { self.new.line ≡ self.old.line }
+    {
+        self.rest = &self.rest[1..];
+    }
+
+    /// The fault of this code at the next token, or at the end of the line.
+    pub fn fault(&self, code: Code) -> ReadFault
+        ensures { result ≡ ReadFault.At code (offset_at self.now) }
+    {
+        let offset = match self.rest {
+            [token, ..] => token.start,
+            [] => self.line.len(),
+        };
+        ReadFault::At { code, offset }
+    }
+
+    pub fn at_keyword(&self, keyword: Keyword) -> bool
+        ensures next { result ≡ next_is (Key keyword) self.now }
+        ensures said { result ≡ true → next_lexeme self.now ≡ Some (lexemes.Key keyword) }
+    {
+        match self.rest {
+            [
+                Token {
+                    kind: Kind::Keyword(next),
+                    ..
+                },
+                ..
+            ] => *next == keyword,
+            _ => false,
+        }
+    }
+
+    pub fn at_mark(&self, mark: Mark) -> bool
+        ensures next { result ≡ next_is (Sign mark) self.now }
+        ensures said { result ≡ true → next_lexeme self.now ≡ Some (lexemes.Sign mark) }
+    {
+        match self.rest {
+            [
+                Token {
+                    kind: Kind::Mark(next),
+                    ..
+                },
+                ..
+            ] => *next == mark,
+            _ => false,
+        }
+    }
+
+    pub fn keyword(&mut self, wanted: Keyword) -> Result<(), ReadFault>
+        ensures { Reads (λ k. One (Key wanted) k) (λ _. lexemes.Key wanted ∷ []) result self.old self.new }
+    {
+        if !self.at_keyword(wanted) {
+            return Err(self.fault(Code::Expected));
+        }
+        self.advance();
+        Ok(())
+    }
+
+    pub fn mark(&mut self, wanted: Mark) -> Result<(), ReadFault>
+        ensures { Reads (λ k. One (Sign wanted) k) (λ _. lexemes.Sign wanted ∷ []) result self.old self.new }
+    {
+        if !self.at_mark(wanted) {
+            return Err(self.fault(Code::Expected));
+        }
+        self.advance();
+        Ok(())
+    }
+
+    pub fn name(&mut self) -> Result<Name, ReadFault>
+        ensures { Reads (λ k. One AnyName k) name_says result self.old self.new }
+    {
+        let name = self.peek_name()?;
+        self.advance();
+        Ok(name)
+    }
+
+    fn peek_type(&self) -> Result<ColType, ReadFault>
+        ensures kind { IfOk result (λ t. next_kind self.now ≡ Some (lexemes.kind_of (type_lexeme t))) }
+        ensures err { OnErr result ((result ≡ Err (ReadFault.At Code.Expected (offset_at self.now))) × (next_is AnyType self.now ≡ false)) }
+    {
+        match self.rest {
+            [
+                Token {
+                    kind: Kind::Keyword(Keyword::Integer),
+                    ..
+                },
+                ..
+            ] => Ok(ColType::Integer),
+            [
+                Token {
+                    kind: Kind::Keyword(Keyword::Text),
+                    ..
+                },
+                ..
+            ] => Ok(ColType::Text),
+            _ => Err(self.fault(Code::Expected)),
+        }
+    }
+
+    pub fn column_type(&mut self) -> Result<ColType, ReadFault>
+        ensures { Reads (λ k. One AnyType k) type_says result self.old self.new }
+    {
+        let ty = self.peek_type()?;
+        self.advance();
+        Ok(ty)
+    }
+
+    /// The name that comes next, which stays where it is.
+    pub fn peek_name(&self) -> Result<Name, ReadFault>
+        ensures kind { IfOk result (λ n. next_kind self.now ≡ Some (lexemes.kind_of (lexemes.Named n))) }
+        ensures err { OnErr result ((result ≡ Err (ReadFault.At Code.Expected (offset_at self.now))) × (next_is AnyName self.now ≡ false)) }
+    {
+        match self.rest {
+            [
+                Token {
+                    kind: Kind::Name(name),
+                    ..
+                },
+                ..
+            ] => Ok(*name),
+            _ => Err(self.fault(Code::Expected)),
+        }
+    }
+
+    /// Whether a literal comes next.
+    pub fn at_literal(&self) -> bool
+        ensures { result ≡ next_is AnyLiteral self.now }
+    {
+        matches!(self.peek(), Some(Kind::Number(_) | Kind::Text))
+    }
+
+    /// The value of the literal that comes next, which stays where it is.
+    pub fn value(&self, alloc: Global) -> Result<Value, ReadFault>
+        requires { next_is AnyLiteral self.now ≡ true }
+        ensures ok { IfOk result (λ v. next_lexeme self.now ≡ Some (value_lexeme v)) }
+        ensures kind { IfOk result (λ v. next_kind self.now ≡ Some (lexemes.kind_of (value_lexeme v))) }
+        ensures err { IfErr result (λ e. e ≡ ReadFault.NoMemory) }
+    {
+        match self.rest {
+            [
+                Token {
+                    kind: Kind::Number(number),
+                    ..
+                },
+                ..
+            ] => Ok(Value::Int(*number)),
+            [token, ..] => match unquoted(alloc, &self.line[token.start..token.end]) {
+                Ok(text) => Ok(Value::Text(text)),
+                Err(_) => Err(ReadFault::NoMemory),
+            },
+            [] => unreachable!(),
+        }
+    }
+
+    /// Whether a list of so many items may have the one that begins here.
+    #[tactic(auto, unfolding(crate::specs::Grammar::mark_from))]
+    pub fn check_item(&self, is_repeated: bool, count: usize, limit: usize) -> Result<(), ReadFault>
+        ensures { Checks (mark_from is_repeated count limit) self.now result }
+    {
+        if is_repeated {
+            return Err(self.fault(Code::Duplicate));
+        }
+        if count >= limit {
+            return Err(self.fault(Code::TooMany));
+        }
+        Ok(())
+    }
+}

@@ -1,0 +1,13 @@
+pub mod Misfits
+pub mod Passing
+pub mod Keeping
+pub mod LineLemmas
+pub mod AnswerLemmas
+pub mod FeedLemmas
+pub mod ServeLemmas
+pub mod CsvLaw
+mod Running
+pub mod Refusals
+pub mod Pushing
+pub mod Offsets
+pub mod Answering

@@ -1,0 +1,49 @@
+-- What a journal says: its tables, and how a statement is judged at it.
+use Rattle.std.specs.Prelude.{ℕ, ◌≡◌, Bool, true, false, List, [], ◌∷◌, ◌++◌, length, map, Ok, Option, None, Some}
+use Rattle.std.specs.List.{fold}
+use Rattle.std.specs.Option.{option_map_or}
+use Rattle.base_core.specs.declared.name.Name.{Name}
+use Rattle.base_core.specs.declared.name.User.{User}
+use Rattle.base_core.specs.declared.limits.Limits.{Limits}
+use Rattle.base_core.specs.declared.value.Row.{Row}
+use Rattle.reader_core.specs.declared.statement.Statement.{Statement}
+use Rattle.reader_core.specs.declared.statement.Statement.TheVariants as statements
+use Rattle.tables_core.specs.Contents.{Contents, opened, with_row, with_change, table_of}
+use Rattle.system_core.specs.declared.event.Entry.{Entry}
+use Rattle.system_core.specs.Verdict.{State, Check, verdict, columns_of}
+
+-- whether a statement is a change
+abbrev pub is_change : Statement → Bool
+is_change (statements.CreateTable table columns) = true
+is_change (statements.Insert table values) = true
+is_change (statements.Select table) = false
+
+-- the tables after a change
+abbrev pub tables_after : List (Name × Contents) → User → Statement → List (Name × Contents)
+tables_after tables user (statements.CreateTable table columns) = tables ++ (table, opened user columns) ∷ []
+tables_after tables user (statements.Insert table values) = with_change table (with_row (record { values = values })) tables
+tables_after tables user (statements.Select table) = tables
+
+abbrev pub tables_with : List (Name × Contents) → Entry → List (Name × Contents)
+tables_with tables e = tables_after tables e.user e.statement
+
+-- the tables of a journal, in order of creation, with their rows
+abbrev pub contents : List Entry → List (Name × Contents)
+contents journal = fold tables_with [] journal
+
+-- what is judged by, at a journal
+abbrev pub state_of : Limits → List Entry → State
+state_of limits journal = record { tables = contents journal; limits = limits; moment = length journal }
+
+-- the verdict on what a user asks, at a journal
+abbrev pub verdict_at : Limits → List Entry → User → Statement → Check
+verdict_at limits journal user asked = verdict (state_of limits journal) user asked
+
+-- each entry is a change that was allowed at the journal before it
+abbrev pub IsLawfulFrom : Limits → List Entry → List Entry → Type 0
+IsLawfulFrom limits before [] = Unit {0}
+IsLawfulFrom limits before (e ∷ es) =
+    (is_change e.statement ≡ true) × (verdict_at limits before e.user e.statement ≡ Ok tt) × IsLawfulFrom limits (before ++ e ∷ []) es
+
+abbrev pub IsLawful : Limits → List Entry → Type 0
+IsLawful limits journal = IsLawfulFrom limits [] journal

@@ -1,0 +1,90 @@
+-- The texts of replies, lacks and faults.
+use Rattle.std.specs.Prelude.{ℕ, List, [], ◌∷◌, ◌++◌, codes, decimal, length}
+use Rattle.std.specs.List.{flat_map}
+use Rattle.base_core.specs.declared.name.User.{User}
+use Rattle.base_core.specs.declared.privilege.Kind.{Kind}
+use Rattle.base_core.specs.declared.privilege.Kind.TheVariants as kinds
+use Rattle.base_core.specs.declared.privilege.Atom.{Atom}
+use Rattle.base_core.specs.declared.value.ColType.{ColType}
+use Rattle.base_core.specs.declared.value.ColType.TheVariants as types
+use Rattle.base_core.specs.declared.lack.Lack.{Lack}
+use Rattle.base_core.specs.declared.lack.Lack.TheVariants as lacks
+use Rattle.base_core.specs.declared.lack.What.{What}
+use Rattle.base_core.specs.declared.lack.What.TheVariants as whats
+use Rattle.lexer_core.specs.Codes.{code_number, code_text}
+use Rattle.lexer_core.specs.declared.fault.Code.{Code}
+use Rattle.system_core.specs.Record.{row_lines}
+use Rattle.system_core.specs.declared.event.Reply.{Reply}
+use Rattle.system_core.specs.declared.event.Reply.TheVariants as replies
+
+-- the parts one after another
+abbrev pub joined : List (List ℕ) → List ℕ
+joined parts = flat_map (λ part. part) parts
+
+abbrev pub kind_text : Kind → List ℕ
+kind_text kinds.Select = codes "SELECT"
+kind_text kinds.Insert = codes "INSERT"
+kind_text kinds.Delete = codes "DELETE"
+kind_text (kinds.Update column) = joined (codes "UPDATE(" ∷ column ∷ codes ")" ∷ [])
+
+abbrev pub type_text : ColType → List ℕ
+type_text types.Integer = codes "INTEGER"
+type_text types.Text = codes "TEXT"
+
+abbrev pub what_text : What → List ℕ
+what_text whats.Changes = codes "changes"
+what_text whats.Tables = codes "tables"
+what_text whats.Grants = codes "grants"
+what_text whats.Checkpoints = codes "checkpoints"
+
+-- a user, what is said of him, a privilege, and its table
+abbrev pub about_atom : User → List ℕ → Atom → List ℕ
+about_atom user said atom = joined (user.0 ∷ said ∷ kind_text atom.kind ∷ codes " on " ∷ atom.table ∷ [])
+
+-- what is missing, without the moment
+abbrev pub lack_text : Lack → List ℕ
+lack_text (lacks.NoTable table) = joined (codes "no table " ∷ table ∷ [])
+lack_text (lacks.TableExists table) = joined (codes "table " ∷ table ∷ codes " exists" ∷ [])
+lack_text (lacks.NoColumn table column) = joined (codes "no column " ∷ column ∷ codes " in " ∷ table ∷ [])
+lack_text (lacks.NoPrivilege user atom) = about_atom user (codes " lacks ") atom
+lack_text (lacks.NoGrantOption user atom) = about_atom user (codes " may not grant ") atom
+lack_text (lacks.NoGrant by to atom) = joined (about_atom by (codes " granted no ") atom ∷ codes " to " ∷ to.0 ∷ [])
+lack_text (lacks.NoCheckpoint number) = joined (codes "no checkpoint " ∷ decimal number ∷ [])
+lack_text (lacks.NoTableThen table number) = joined (codes "no table " ∷ table ∷ codes " at checkpoint " ∷ decimal number ∷ [])
+lack_text (lacks.NoSelectThen user table) = joined (user.0 ∷ codes " lacked" ∷ codes " SELECT on " ∷ table ∷ [])
+lack_text (lacks.NoSelectNow user table) = joined (user.0 ∷ codes " now lacks" ∷ codes " SELECT on " ∷ table ∷ [])
+lack_text (lacks.WrongCount given wanted) = joined (decimal given ∷ codes " values for " ∷ decimal wanted ∷ codes " columns" ∷ [])
+lack_text (lacks.WrongType column wanted) = joined (codes "column " ∷ column ∷ codes " takes " ∷ type_text wanted ∷ [])
+lack_text (lacks.Full what) = joined (codes "full: " ∷ what_text what ∷ [])
+lack_text lacks.Busy = codes "busy"
+lack_text lacks.NoMemory = codes "no memory"
+lack_text lacks.Worn = codes "worn"
+
+-- a word, a moment, and what is missing
+abbrev pub stamped : List ℕ → ℕ → Lack → List ℕ
+stamped word at lack = joined (word ∷ decimal at ∷ codes ": " ∷ lack_text lack ∷ codes "\n" ∷ [])
+
+-- a refusal, of which the one by a worn turnstile has no moment
+abbrev pub refusal_text : ℕ → Lack → List ℕ
+refusal_text at lacks.Worn = codes "refused: worn\n"
+refusal_text at lack = stamped (codes "refused @") at lack
+
+-- what is written of a reply
+abbrev pub reply_text : Reply → List ℕ
+reply_text (replies.Done at) = joined (codes "done @" ∷ decimal at.0 ∷ codes "\n" ∷ [])
+reply_text (replies.Rows at rows) = joined (codes "rows " ∷ decimal (length rows) ∷ codes " @" ∷ decimal at.0 ∷ codes "\n" ∷ row_lines rows ∷ [])
+reply_text (replies.Denied at lack) = stamped (codes "denied @") at.0 lack
+reply_text (replies.Refused at lack) = refusal_text at.0 lack
+reply_text replies.Idle = []
+
+-- what is written of a line that is not read, with the byte of the line
+abbrev pub fault_text : Code → ℕ → List ℕ
+fault_text code offset = joined (codes "error " ∷ decimal (code_number code) ∷ codes " at " ∷ decimal offset ∷ codes ": " ∷ code_text code ∷ codes "\n" ∷ [])
+
+-- what is written of a line that was not read for want of memory
+abbrev pub unread_text : List ℕ
+unread_text = codes "refused: no memory\n"
+
+-- what is written of an event that was done, where its reply's text found no memory
+abbrev pub lost_text : List ℕ
+lost_text = codes "reply lost: no memory\n"

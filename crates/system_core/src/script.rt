@@ -1,0 +1,6 @@
+//! Lines from a reader, answered to a writer.
+
+pub mod address;
+pub mod line;
+pub mod serve;
+pub mod server;

@@ -1,0 +1,249 @@
+//! The core: the journal of accepted changes, and the tables that it makes.
+ghost use Rattle.std.specs.Prelude.{◌≡◌, ◌+◌, ◌<◌, ◌≤◌, ◌++◌, ◌∷◌, [], true, false, length, map, Ok, Some, option_map, IsSome, IfOk, OnOk, OnErr, MatchResult, vec_len};
+ghost use Rattle.std.specs.Vec.{vec_capacity};
+ghost use Rattle.tables_core.specs.Contents.{selected, table_of};
+ghost use Rattle.system_core.specs.Verdict.{columns_of};
+ghost use Rattle.system_core.specs.Journal.{IsLawful, is_change, verdict_at, contents};
+ghost use Rattle.system_core.specs.World.{opening, entry, moment_of, next_moment, entered, turned_away, IsFull, CarriesOut, Answers, Step, Run, IsRunOfSome};
+
+use crate::carry::carry_out;
+use crate::event::{Entry, Event, Reply};
+use crate::judging::{columns_of, judge};
+use base_core::{Column, Lack, Limits, Moment, Name, NoMemory, Row, Sequence, User};
+use reader_core::Statement;
+use std::alloc::{AllocError, Global};
+use std::marker::Model;
+use tables_core::Tables;
+
+/// The core. Contracts see the world that it stands for: the journal of accepted changes, the chunk,
+/// and the limits.
+#[derive(Drop)]
+pub struct System {
+    alloc: Global,
+    chunk: usize,
+    limits: Limits,
+    journal: Vec<Entry>,
+    tables: Tables,
+}
+
+impl Model for System {
+    ghost use Rattle.system_core.specs.World.{World};
+    ghost use Rattle.system_core.specs.Standing.{Stands};
+
+    ghost Value = { World };
+
+    ghost view = { λ s. record { journal = s.journal.items; chunk = s.chunk; limits = s.limits } };
+
+    ghost invariant = { λ s. Stands s.chunk s.limits s.journal.items s.tables };
+}
+
+fn is_change(statement: &Statement) -> bool
+    ensures { result ≡ is_change statement.now }
+{
+    !matches!(statement, Statement::Select { .. })
+}
+
+fn turn_away(at: Moment, lack: Lack) -> Reply
+    ensures { result ≡ turned_away at lack }
+{
+    if lack.is_denial() {
+        Reply::Denied { at, lack }
+    } else {
+        Reply::Refused { at, lack }
+    }
+}
+
+fn names_of(alloc: Global, columns: &[Column]) -> Result<Vec<Name>, AllocError>
+    ensures { IfOk result (λ names. names.items ≡ map (λ c. c.name) columns.now) }
+{
+    columns.iter().map(|column| column.name).collect(alloc)
+}
+
+/// All rows of a table, with all columns in table order.
+fn rows_of(alloc: Global, tables: &Tables, table: Name) -> Result<Vec<Row>, NoMemory>
+    requires { IsSome (table_of tables.now table) }
+    ensures { IfOk result (λ rows. option_map (selected (map (λ c. c.name) (columns_of tables.now table)) []) (table_of tables.now table) ≡ Some rows.items) }
+{
+    let names = names_of(alloc, columns_of(tables, table))?;
+    tables.select(&table, &names, &[])
+}
+
+/// Notes a reply where there is room.
+fn note(replies: &mut Vec<Reply>, reply: Reply)
+    requires { vec_len replies.old < vec_capacity replies.old }
+    ensures { replies.new.items ≡ replies.old.items ++ reply ∷ [] }
+{
+    match replies.push(reply) {
+        Ok(()) => {}
+        Err(_) => unreachable!(),
+    }
+}
+
+/// Enters into a journal that has room.
+fn enter(journal: &mut Vec<Entry>, entry: Entry)
+    requires { vec_len journal.old < vec_capacity journal.old }
+    ensures { journal.new.items ≡ journal.old.items ++ entry ∷ [] }
+{
+    match journal.push(entry) {
+        Ok(()) => {}
+        Err(_) => unreachable!(),
+    }
+}
+
+fn count(journal: &[Entry]) -> u64
+    ensures { result ≡ length journal.now }
+{
+    journal.len() as u64
+}
+
+impl System {
+    /// Nothing entered, with full limits. The chunk is the number of records that a step of the
+    /// checkpointer takes, from 1 to 64. `NoMemory` where a request for memory was refused.
+    pub fn new(alloc: Global, chunk: usize) -> Result<System, NoMemory>
+        requires some { 0 < chunk }
+        requires small { chunk ≤ 64 }
+        ensures opening { IfOk result (λ s. s.journal ≡ []) }
+        ensures chunk { IfOk result (λ s. s.chunk ≡ chunk) }
+        ensures full { IfOk result (λ s. IsFull s.limits) }
+    {
+        System::with_limits(alloc, chunk, Limits::full())
+    }
+
+    /// The same with these limits.
+    pub fn with_limits(alloc: Global, chunk: usize, limits: Limits) -> Result<System, NoMemory>
+        requires some { 0 < chunk }
+        requires small { chunk ≤ 64 }
+        ensures { IfOk result (λ s. s ≡ opening chunk limits) }
+    {
+        Ok(System {
+            alloc,
+            chunk,
+            limits,
+            journal: Vec::new(alloc),
+            tables: Tables::new(alloc),
+        })
+    }
+
+    /// The number of accepted changes.
+    pub fn moment(&self) -> Moment
+        ensures { result ≡ moment_of self.now }
+    {
+        let _ = &self.tables;
+        Moment(count(&self.journal))
+    }
+
+    /// The accepted changes, in order: entry m, counted from 1, made moment m. Each was allowed at
+    /// the journal before it.
+    pub fn journal(&self) -> &[Entry]
+        ensures journal { result.now ≡ self.now.journal }
+        ensures lawful { IsLawful self.now.limits self.now.journal }
+    {
+        &self.journal
+    }
+
+    fn judged(&self, user: User, statement: &Statement) -> Result<(), Lack>
+        ensures { result ≡ verdict_at self.now.limits self.now.journal user statement.now }
+    {
+        let moment = Moment(count(&self.journal));
+        judge(&self.tables, &self.limits, user, statement, moment)
+    }
+
+    /// Carries out an allowed change, and enters it.
+    fn change(&mut self, entry: Entry) -> Result<(), NoMemory>
+        requires allowed { verdict_at self.old.limits self.old.journal entry.user entry.statement ≡ Ok tt }
+        requires change { is_change entry.statement ≡ true }
+        ensures ok { OnOk result (self.new ≡ entered self.old entry) }
+        ensures err { OnErr result (self.new ≡ self.old) }
+    {
+        self.journal.reserve(1)?;
+        carry_out(self.alloc, &mut self.tables, entry.user, &entry.statement)?;
+        enter(&mut self.journal, entry);
+        Ok(())
+    }
+
+    /// Answers an allowed query.
+    fn query(&self, entry: &Entry) -> Reply
+        requires allowed { verdict_at self.now.limits self.now.journal entry.now.user entry.now.statement ≡ Ok tt }
+        requires query { is_change entry.now.statement ≡ false }
+        ensures { CarriesOut self.now entry.now result self.now }
+    {
+        let at = self.moment();
+        match &entry.statement {
+            Statement::Select { table } => match rows_of(self.alloc, &self.tables, *table) {
+                Ok(rows) => Reply::Rows {
+                    at,
+                    rows: Sequence::from_vec(rows),
+                },
+                Err(NoMemory) => Reply::Refused {
+                    at,
+                    lack: Lack::NoMemory,
+                },
+            },
+            Statement::CreateTable { .. } | Statement::Insert { .. } => unreachable!(),
+        }
+    }
+
+    /// Carries out what is allowed.
+    fn carry_out(&mut self, entry: Entry) -> Reply
+        requires { verdict_at self.old.limits self.old.journal entry.user entry.statement ≡ Ok tt }
+        ensures { CarriesOut self.old entry result self.new }
+    {
+        if !is_change(&entry.statement) {
+            return self.query(&entry);
+        }
+        let at = self.moment();
+        match self.change(entry) {
+            Ok(()) => Reply::Done {
+                at: Moment(at.0 + 1),
+            },
+            Err(NoMemory) => Reply::Refused {
+                at,
+                lack: Lack::NoMemory,
+            },
+        }
+    }
+
+    fn say(&mut self, entry: Entry) -> Reply
+        ensures { Answers self.old entry (verdict_at self.old.limits self.old.journal entry.user entry.statement) result self.new }
+    {
+        match self.judged(entry.user, &entry.statement) {
+            Err(lack) => turn_away(self.moment(), lack),
+            Ok(()) => self.carry_out(entry),
+        }
+    }
+
+    /// One event: a step of the machine. What the verdict allows is carried out, and a change is
+    /// entered; else the reply names the first lack, and nothing changes. Want of memory is Refused
+    /// with NoMemory, and changes nothing.
+    pub fn step(&mut self, event: Event) -> Reply
+        ensures { Step self.old event result self.new }
+    {
+        match event {
+            Event::Say {
+                pass,
+                user,
+                statement,
+            } => self.say(Entry {
+                pass,
+                user,
+                statement,
+            }),
+            Event::Step | Event::Abandon => Reply::Idle,
+        }
+    }
+
+    /// One step after another. Where there is no memory to note a reply, the events before it were
+    /// done, with these replies, and no later one.
+    pub fn run(&mut self, events: Vec<Event>) -> Result<Vec<Reply>, (NoMemory, Vec<Reply>)>
+        ensures { MatchResult result (λ replies. Run self.old events.items replies.items self.new) (λ e. IsRunOfSome self.old events.items e.1.items self.new) }
+    {
+        let mut replies = Vec::new(self.alloc);
+        for event in events {
+            if let Err(AllocError) = replies.reserve(1) {
+                return Err((NoMemory, replies));
+            }
+            note(&mut replies, self.step(event));
+        }
+        Ok(replies)
+    }
+}

@@ -1,0 +1,74 @@
+-- What tables hold, and what each change makes of it.
+use Rattle.std.specs.Prelude.{ℕ, ◌+◌, Bool, not, List, [], ◌∷◌, ◌++◌, Option, slice_get, map, filter, option_and_then, if◌then◌else◌}
+use Rattle.std.specs.List.{filter_map, fold}
+use Rattle.std.specs.Map.{lookup, set_value}
+use Rattle.std.specs.Option.{option_map_or}
+use Rattle.base_core.specs.Words.{same_name}
+use Rattle.base_core.specs.Filter.{place, cell, with_value, is_chosen}
+use Rattle.base_core.specs.declared.name.Name.{Name}
+use Rattle.base_core.specs.declared.name.User.{User}
+use Rattle.base_core.specs.declared.value.Value.{Value}
+use Rattle.base_core.specs.declared.value.Row.{Row}
+use Rattle.base_core.specs.declared.value.Column.{Column}
+use Rattle.base_core.specs.declared.condition.Condition.{Condition}
+use Rattle.base_core.specs.declared.condition.Assignment.{Assignment}
+
+-- one table: its owner, its columns, how many rows were ever inserted, and the rows that it has now,
+-- each with its number, which is how many rows were inserted before it
+pub record Contents : Type 0 where
+  pub owner : User
+  pub columns : List Column
+  pub inserted : ℕ
+  pub rows : List (ℕ × Row)
+
+-- whether the filter chooses a numbered row
+abbrev pub chooses : List Column → List Condition → ℕ × Row → Bool
+chooses columns conditions numbered = is_chosen columns conditions numbered.1.values
+
+-- the values of the named columns, in the order of the names
+abbrev pub cut_values : List Column → List Name → List Value → List Value
+cut_values columns names values = filter_map (cell columns values) names
+
+-- the values after each assignment in turn
+abbrev pub assigned_values : List Column → List Assignment → List Value → List Value
+assigned_values columns sets values = fold (λ made set. with_value made (place columns set.column) set.value) values sets
+
+-- a numbered row after the assignments, under the number that it had
+abbrev pub assigned_row : List Column → List Assignment → ℕ × Row → ℕ × Row
+assigned_row columns sets numbered = (numbered.0, record { values = assigned_values columns sets numbered.1.values })
+
+-- the same where the filter chooses the row; any other row is left as it is
+abbrev pub updated_row : List Column → List Assignment → List Condition → ℕ × Row → ℕ × Row
+updated_row columns sets conditions numbered = if chooses columns conditions numbered then assigned_row columns sets numbered else numbered
+
+-- a new table: no row is or was in it
+abbrev pub opened : User → List Column → Contents
+opened owner columns = record { owner = owner; columns = columns; inserted = 0; rows = [] }
+
+-- the table with one row more, behind the others, numbered by the rows inserted before it
+abbrev pub with_row : Row → Contents → Contents
+with_row row t = record t { inserted = t.inserted + 1; rows = t.rows ++ (t.inserted, row) ∷ [] }
+
+-- the table without the chosen rows
+abbrev pub deleted : List Condition → Contents → Contents
+deleted conditions t = record t { rows = filter (λ numbered. not (chooses t.columns conditions numbered)) t.rows }
+
+-- the table with the assignments made in each chosen row, in place
+abbrev pub updated : List Assignment → List Condition → Contents → Contents
+updated sets conditions t = record t { rows = map (updated_row t.columns sets conditions) t.rows }
+
+-- the chosen rows, cut to the named columns
+abbrev pub selected : List Name → List Condition → Contents → List Row
+selected names conditions t = map (λ numbered. record { values = cut_values t.columns names numbered.1.values }) (filter (chooses t.columns conditions) t.rows)
+
+-- the table of this name
+abbrev pub table_of : List (Name × Contents) → Name → Option Contents
+table_of tables name = lookup (same_name name) tables
+
+-- the column of this name in the table of that name
+abbrev pub column_of : List (Name × Contents) → Name → Name → Option Column
+column_of tables name column = option_and_then (λ t. option_and_then (slice_get t.columns) (place t.columns column)) (table_of tables name)
+
+-- the tables with a change made to the one of this name; where there is none, the tables as they are
+abbrev pub with_change : Name → (Contents → Contents) → List (Name × Contents) → List (Name × Contents)
+with_change name change tables = option_map_or (λ t. set_value (same_name name) tables (change t)) (table_of tables name) tables

@@ -1,0 +1,5 @@
+pub mod Contents
+pub mod Laws
+pub use Rattle.base_core.specs.Words
+pub use Rattle.base_core.specs.Values
+pub use Rattle.base_core.specs.Filter

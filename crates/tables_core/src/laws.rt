@@ -1,0 +1,26 @@
+//! Laws of what tables hold, each a contract.
+ghost use Rattle.std.specs.Prelude.{List};
+ghost use Rattle.base_core.specs.declared.name.User.{User};
+ghost use Rattle.base_core.specs.declared.value.Row.{Row};
+ghost use Rattle.base_core.specs.declared.value.Column.{Column};
+ghost use Rattle.base_core.specs.declared.condition.Condition.{Condition};
+ghost use Rattle.base_core.specs.declared.condition.Assignment.{Assignment};
+ghost use Rattle.tables_core.specs.Contents.{opened, with_row, deleted, updated};
+ghost use Rattle.tables_core.specs.Laws.{LookUpAfterChange, LookUpAfterNew, NamesAfterChange, IsNumbered, KeepsNumbered};
+
+/// What look-ups find after a change to one table, and after a new one; and that a change to one
+/// table leaves the names in their order.
+pub fn look_ups_after_changes()
+    ensures changed { LookUpAfterChange }
+    ensures created { LookUpAfterNew }
+    ensures names { NamesAfterChange }
+{}
+
+/// The numbers of a table's rows rise, and its next number is above them all: at first, and after
+/// each change. So no two rows of a table have one number.
+pub fn numbers_rise()
+    ensures opened { (owner : User) (columns : List Column) → IsNumbered (opened owner columns) }
+    ensures inserted { (row : Row) → KeepsNumbered (with_row row) }
+    ensures deleted { (conditions : List Condition) → KeepsNumbered (deleted conditions) }
+    ensures updated { (sets : List Assignment) (conditions : List Condition) → KeepsNumbered (updated sets conditions) }
+{}

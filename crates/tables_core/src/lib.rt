@@ -1,0 +1,44 @@
+//! Typed tables in memory: rows under numbers, filters, and assignments.
+//!
+//! A value of [`Tables`] stands for the list of its tables in the order of their creation, each with
+//! its name, its owner, its columns, the number of rows ever inserted, and the rows that it has now.
+//! A row's number is how many rows were inserted into its table before it: it stays when the row is
+//! updated, and no later row gets it once the row is deleted.
+//!
+//! The one contract: each change makes of that list exactly what its definition in
+//! `specs/Contents.antt` says, each look-up answers by the list, and a call that answers
+//! [`NoMemory`](base_core::NoMemory) leaves the list as it was.
+//!
+//! The calls check neither that columns exist nor that types fit: a condition on a column that the
+//! table hasn't, or on a value of another type than its literal, is not met, a name that is no
+//! column is left out of what is selected, an assignment to it changes nothing, and values are kept
+//! as they are given. Callers that refuse such names and values look the column up first, by
+//! [`Tables::column`].
+//!
+//! ```text
+//! let mut tables = Tables::new(alloc);
+//! tables.create(pay, ann, columns)?;         // pay: wage INTEGER
+//! tables.insert(&pay, row)?;                 // row 0 is (5)
+//! tables.update(&pay, &wage_is_7, &[])?;     // row 0 is (7)
+//! tables.select(&pay, &[wage], &[])?         // the one row (7)
+//! ```
+//!
+//! A table is found by its name in constant time, by a hash, however many tables there are. So
+//! `len`, `is_empty`, `name_at`, `owner`, `columns`, `row_count` and `inserted` take constant time,
+//! and `create` and `insert` too, but for a growth now and then that moves what is there. `column`
+//! goes over the table's columns. `select` and `delete` go once over the rows of the table and
+//! `update` twice, with the filter at each row; to that `select` adds the copies of the values that
+//! it gives, and `update` one copy of the assignments for each chosen row. `create`, `insert`,
+//! `select` and `update` take memory, and no other call does.
+#![tactic(auto)]
+
+mod laws;
+mod rows;
+mod table;
+mod tables;
+
+pub use laws::{look_ups_after_changes, numbers_rise};
+pub use tables::Tables;
+
+#[cfg(test)]
+mod tests;

@@ -1,0 +1,118 @@
+//! Work on the rows of one table.
+ghost use Rattle.std.specs.Prelude.{◌≡◌, IfOk, OnOk, OnErr, replicate, count_by, map, filter, not};
+ghost use Rattle.tables_core.specs.Contents.{chooses, cut_values, assigned_values, updated_row};
+
+use base_core::{
+    Assignment, Column, Condition, Name, NoMemory, Row, Sequence, Twin, Value, cell, is_chosen,
+    place_of,
+};
+use std::alloc::Global;
+
+/// A row, and how many rows were inserted into its table before it.
+pub type NumberedRow = (u64, Row);
+
+/// Whether the filter chooses a row of these columns.
+pub fn chooses(columns: &[Column], filter: &[Condition], numbered: &NumberedRow) -> bool
+    ensures { result ≡ chooses columns.now filter.now numbered.now }
+{
+    is_chosen(columns, filter, numbered.1.values.as_slice())
+}
+
+/// How many of the rows the filter chooses.
+fn count_chosen(columns: &[Column], filter: &[Condition], rows: &[NumberedRow]) -> usize
+    ensures { result ≡ count_by (chooses columns.now filter.now) rows.now }
+{
+    rows.iter()
+        .filter(|numbered| chooses(columns, filter, *numbered))
+        .count()
+}
+
+/// Copies of the values of the named columns.
+pub fn cut(
+    alloc: Global,
+    columns: &[Column],
+    names: &[Name],
+    values: &[Value],
+) -> Result<Row, NoMemory>
+    ensures { IfOk result (λ row. row.values ≡ cut_values columns.now names.now values.now) }
+{
+    let mut items = Vec::new(alloc);
+    for name in names {
+        if let Some(value) = cell(columns, values, *name) {
+            items.push(value.try_twin()?)?;
+        }
+    }
+    Ok(Row {
+        values: Sequence::from_vec(items),
+    })
+}
+
+/// Copies of the assignments.
+fn copy_of(alloc: Global, sets: &[Assignment]) -> Result<Vec<Assignment>, NoMemory>
+    ensures { IfOk result (λ copy. copy.items ≡ sets.now) }
+{
+    let mut copy = Vec::with_capacity(alloc, sets.len())?;
+    for set in sets {
+        copy.push(set.try_twin()?)?;
+    }
+    Ok(copy)
+}
+
+/// So many copies of the assignments.
+fn copies_of(
+    alloc: Global,
+    sets: &[Assignment],
+    count: usize,
+) -> Result<Vec<Vec<Assignment>>, NoMemory>
+    ensures { IfOk result (λ copies. map (λ c. c.items) copies.items ≡ replicate count sets.now) }
+{
+    let mut copies = Vec::new(alloc);
+    for _made in 0..count {
+        copies.push(copy_of(alloc, sets)?)?;
+    }
+    Ok(copies)
+}
+
+/// Moves the assigned values into a row.
+fn assign(columns: &[Column], sets: Vec<Assignment>, values: &mut Sequence<Value>)
+    ensures { values.new ≡ assigned_values columns.now sets.items values.old }
+{
+    for set in sets {
+        if let Some(place) = place_of(columns, set.column) {
+            if place < values.len() {
+                values.set(place, set.value);
+            }
+        }
+    }
+}
+
+/// Makes the assignments in each row that the filter chooses. The copies are made first, so that
+/// nothing has changed where one of them finds no memory.
+pub fn update_chosen(
+    alloc: Global,
+    columns: &[Column],
+    rows: &mut [NumberedRow],
+    sets: &[Assignment],
+    filter: &[Condition],
+) -> Result<(), NoMemory>
+    ensures ok { OnOk result (rows.new ≡ map (updated_row columns.now sets.now filter.now) rows.old) }
+    ensures no_memory { OnErr result (rows.new ≡ rows.old) }
+{
+    let count = count_chosen(columns, filter, rows);
+    let mut copies = copies_of(alloc, sets, count)?;
+    for numbered in rows.iter_mut() {
+        if chooses(columns, filter, numbered) {
+            if let Some(copy) = copies.pop() {
+                assign(columns, copy, &mut numbered.1.values);
+            }
+        }
+    }
+    Ok(())
+}
+
+/// Drops the rows that the filter chooses.
+pub fn drop_chosen(columns: &[Column], rows: &mut Vec<NumberedRow>, conditions: &[Condition])
+    ensures { rows.new.items ≡ filter (λ r. not (chooses columns.now conditions.now r)) rows.old.items }
+{
+    rows.retain(|numbered| !chooses(columns, conditions, numbered));
+}

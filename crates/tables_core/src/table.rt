@@ -1,0 +1,119 @@
+//! One table.
+ghost use Rattle.std.specs.Prelude.{◌≡◌, ◌<◌, ◌^◌, IfOk, OnOk, OnErr, length};
+ghost use Rattle.tables_core.specs.Contents.{opened, with_row, deleted, updated, selected};
+
+use crate::rows::{self, NumberedRow};
+use base_core::{Assignment, Column, Condition, Name, NoMemory, Row, Sequence, User};
+use std::alloc::Global;
+use std::marker::Model;
+
+#[derive(Drop)]
+pub struct Table {
+    owner: User,
+    columns: Sequence<Column>,
+    inserted: u64,
+    rows: Vec<NumberedRow>,
+}
+
+impl Model for Table {
+    ghost use Rattle.tables_core.specs.Contents.{Contents};
+
+    ghost Value = { Contents };
+
+    ghost view = { λ t. record { owner = t.owner; columns = t.columns; inserted = t.inserted; rows = t.rows.items } };
+}
+
+impl Table {
+    /// A table without rows. It takes no memory.
+    pub fn new(alloc: Global, owner: User, columns: Sequence<Column>) -> Table
+        ensures { result ≡ opened owner columns }
+    {
+        Table {
+            owner,
+            columns,
+            inserted: 0,
+            rows: Vec::new(alloc),
+        }
+    }
+
+    pub fn owner(&self) -> User
+        ensures { result ≡ self.now.owner }
+    {
+        self.owner
+    }
+
+    pub fn columns(&self) -> &[Column]
+        ensures { result.now ≡ self.now.columns }
+    {
+        self.columns.as_slice()
+    }
+
+    pub fn row_count(&self) -> usize
+        ensures { result ≡ length self.now.rows }
+    {
+        self.rows.len()
+    }
+
+    pub fn inserted(&self) -> u64
+        ensures { result ≡ self.now.inserted }
+    {
+        self.inserted
+    }
+
+    /// Appends a row under the next number.
+    pub fn insert(&mut self, row: Row) -> Result<(), NoMemory>
+        requires { self.old.inserted < 2 ^ 63 }
+        ensures ok { OnOk result (self.new ≡ with_row row self.old) }
+        ensures no_memory { OnErr result (self.new ≡ self.old) }
+    {
+        self.rows.push((self.inserted, row))?;
+        self.inserted += 1;
+        Ok(())
+    }
+
+    /// The named columns of the chosen rows.
+    pub fn select(
+        &self,
+        alloc: Global,
+        names: &[Name],
+        filter: &[Condition],
+    ) -> Result<Vec<Row>, NoMemory>
+        ensures { IfOk result (λ rows. rows.items ≡ selected names.now filter.now self.now) }
+    {
+        let columns = self.columns.as_slice();
+        let mut chosen = Vec::new(alloc);
+        for numbered in &self.rows {
+            if rows::chooses(columns, filter, numbered) {
+                let values = numbered.1.values.as_slice();
+                chosen.push(rows::cut(alloc, columns, names, values)?)?;
+            }
+        }
+        Ok(chosen)
+    }
+
+    /// Makes the assignments in the chosen rows.
+    pub fn update(
+        &mut self,
+        alloc: Global,
+        sets: &[Assignment],
+        filter: &[Condition],
+    ) -> Result<(), NoMemory>
+        ensures ok { OnOk result (self.new ≡ updated sets.now filter.now self.old) }
+        ensures no_memory { OnErr result (self.new ≡ self.old) }
+    {
+        rows::update_chosen(
+            alloc,
+            self.columns.as_slice(),
+            self.rows.as_mut_slice(),
+            sets,
+            filter,
+        )
+    }
+
+    /// Drops the chosen rows.
+    pub fn delete(&mut self, filter: &[Condition])
+        ensures { self.new ≡ deleted filter.now self.old }
+    {
+        rows::drop_chosen(self.columns.as_slice(), &mut self.rows, filter);
+    }
+}

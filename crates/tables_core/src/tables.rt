@@ -1,0 +1,184 @@
+//! All tables, by name.
+ghost use Rattle.std.specs.Prelude.{◌≡◌, ◌<◌, ◌^◌, ◌↔◌, ◌++◌, ◌∷◌, [], IfOk, OnOk, OnErr, IsTrue, IsSome, IsSomeAnd, Some, None, slice_get, length, option_map};
+ghost use Rattle.std.specs.Option.{option_copied, option_map_or};
+ghost use Rattle.tables_core.specs.Contents.{opened, with_row, deleted, updated, selected, table_of, column_of, with_change};
+
+use crate::table::Table;
+use base_core::{Assignment, Column, Condition, Name, NoMemory, Row, Sequence, User, place_of};
+use indexmap::IndexMap;
+use std::alloc::Global;
+use std::marker::Model;
+
+/// Tables in the order of their creation. Contracts see the list of them, each with its name.
+#[derive(Drop)]
+pub struct Tables {
+    alloc: Global,
+    tables: IndexMap<Name, Table>,
+}
+
+impl Model for Tables {
+    ghost use Rattle.std.specs.Prelude.{List};
+    ghost use Rattle.tables_core.specs.Contents.{Contents};
+    ghost use Rattle.base_core.specs.declared.name.Name.{Name};
+
+    ghost Value = { List (Name × Contents) };
+
+    ghost view = { λ t. t.tables.entries };
+}
+
+impl Tables {
+    /// No tables. It takes no memory.
+    pub fn new(alloc: Global) -> Tables
+        ensures { result ≡ [] }
+    {
+        Tables {
+            alloc,
+            tables: IndexMap::new(alloc),
+        }
+    }
+
+    /// How many tables there are.
+    pub fn len(&self) -> usize
+        ensures { result ≡ length self.now }
+    {
+        self.tables.len()
+    }
+
+    /// Whether there is no table.
+    pub fn is_empty(&self) -> bool
+        ensures { IsTrue result ↔ (self.now ≡ []) }
+    {
+        self.tables.is_empty()
+    }
+
+    /// The name of the table at this place in the order of creation, counted from 0. None from the
+    /// number of tables on.
+    pub fn name_at(&self, index: usize) -> Option<Name>
+        ensures { result ≡ option_map (λ t. t.0) (slice_get self.now index) }
+    {
+        let (name, _) = self.tables.get_index(index)?;
+        Some(*name)
+    }
+
+    /// The owner of the table of this name. None where there is no such table.
+    pub fn owner(&self, name: &Name) -> Option<User>
+        ensures { result ≡ option_map (λ t. t.owner) (table_of self.now name.now) }
+    {
+        Some(self.tables.get(name)?.owner())
+    }
+
+    /// The columns of the table of this name, in order. None where there is no such table.
+    pub fn columns(&self, name: &Name) -> Option<&[Column]>
+        ensures { option_copied result ≡ option_map (λ t. t.columns) (table_of self.now name.now) }
+    {
+        Some(self.tables.get(name)?.columns())
+    }
+
+    /// The column of this name in the table of that name. None where there is no such table, or no
+    /// such column in it.
+    pub fn column(&self, name: &Name, column: Name) -> Option<Column>
+        ensures { result ≡ column_of self.now name.now column }
+    {
+        let columns = self.columns(name)?;
+        columns.get(place_of(columns, column)?).copied()
+    }
+
+    /// How many rows the table of this name has now. 0 where there is no such table.
+    pub fn row_count(&self, name: &Name) -> usize
+        ensures { result ≡ option_map_or (λ t. length t.rows) (table_of self.now name.now) 0 }
+    {
+        match self.tables.get(name) {
+            Some(table) => table.row_count(),
+            None => 0,
+        }
+    }
+
+    /// How many rows were ever inserted into the table of this name: the number of the next one.
+    /// 0 where there is no such table.
+    pub fn inserted(&self, name: &Name) -> u64
+        ensures { result ≡ option_map_or (λ t. t.inserted) (table_of self.now name.now) 0 }
+    {
+        match self.tables.get(name) {
+            Some(table) => table.inserted(),
+            None => 0,
+        }
+    }
+
+    /// Adds a table without rows, behind the others. Its name must be new. `NoMemory` where a
+    /// request for memory was refused.
+    pub fn create(
+        &mut self,
+        name: Name,
+        owner: User,
+        columns: Sequence<Column>,
+    ) -> Result<(), NoMemory>
+        requires { table_of self.old name ≡ None }
+        ensures ok { OnOk result (self.new ≡ self.old ++ (name, opened owner columns) ∷ []) }
+        ensures no_memory { OnErr result (self.new ≡ self.old) }
+    {
+        let table = Table::new(self.alloc, owner, columns);
+        self.tables.insert(name, table)?;
+        Ok(())
+    }
+
+    /// Appends a row to a table, under the number of rows inserted before it. The table must be
+    /// there, with fewer than 2^63 rows ever inserted. `NoMemory` where a request for memory was
+    /// refused.
+    pub fn insert(&mut self, name: &Name, row: Row) -> Result<(), NoMemory>
+        requires { IsSomeAnd (table_of self.old name.now) (λ t. t.inserted < 2 ^ 63) }
+        ensures ok { OnOk result (self.new ≡ with_change name.now (with_row row) self.old) }
+        ensures no_memory { OnErr result (self.new ≡ self.old) }
+    {
+        match self.tables.get_mut(name) {
+            Some(table) => table.insert(row),
+            None => unreachable!(),
+        }
+    }
+
+    /// Copies of the rows that the filter chooses, in the order of their numbers, each cut to the
+    /// named columns, in the order of these names. The table must be there. `NoMemory` where a
+    /// request for memory was refused.
+    pub fn select(
+        &self,
+        name: &Name,
+        columns: &[Name],
+        filter: &[Condition],
+    ) -> Result<Vec<Row>, NoMemory>
+        requires { IsSome (table_of self.now name.now) }
+        ensures { IfOk result (λ rows. option_map (selected columns.now filter.now) (table_of self.now name.now) ≡ Some rows.items) }
+    {
+        match self.tables.get(name) {
+            Some(table) => table.select(self.alloc, columns, filter),
+            None => unreachable!(),
+        }
+    }
+
+    /// Makes the assignments, one after the other, in each row that the filter chooses. Rows keep
+    /// their places and numbers. The table must be there. `NoMemory` where a request for memory was
+    /// refused: then no row has changed.
+    pub fn update(
+        &mut self,
+        name: &Name,
+        sets: &[Assignment],
+        filter: &[Condition],
+    ) -> Result<(), NoMemory>
+        requires { IsSome (table_of self.old name.now) }
+        ensures ok { OnOk result (self.new ≡ with_change name.now (updated sets.now filter.now) self.old) }
+        ensures no_memory { OnErr result (self.new ≡ self.old) }
+    {
+        match self.tables.get_mut(name) {
+            Some(table) => table.update(self.alloc, sets, filter),
+            None => unreachable!(),
+        }
+    }
+
+    /// Drops the rows that the filter chooses; the others keep their order and numbers. Where there
+    /// is no such table, nothing changes.
+    pub fn delete(&mut self, name: &Name, filter: &[Condition])
+        ensures { self.new ≡ with_change name.now (deleted filter.now) self.old }
+    {
+        if let Some(table) = self.tables.get_mut(name) {
+            table.delete(filter);
+        }
+    }
+}
