@@ -1,23 +1,18 @@
 -- No line spells two statements or has two faults, so that the answer is exact.
-use Rattle.std.proofs.Common.{◌≡◌, ◌≢◌, ℕ, Bool, true, false, List, [], ◌∷◌, ◌++◌, map, length, Option, Some, None, Result, Ok, Err, IfOk, IfErr, IsErrAnd, ap, sym, subst, ◌∙◌, refl, ◌⊎◌, inl, inr, ◌==◌, arith, Vec, Global, vec_len}
-use Rattle.std.proofs.lemmas.Bool.{eqb-true}
-use Rattle.std.proofs.lemmas.List.{append-nil, map-append}
-use Rattle.lexer_core.specs.Lexing.{Lexeme, Says, AreTokens, IsLineFault, IsFaultOf, Lexed, start, blank, token, kind_of, heard}
-use Rattle.lexer_core.specs.Lexing as lexemes
+use Rattle.std.proofs.Common.{◌≡◌, ℕ, List, [], ◌∷◌, ◌++◌, map, length, Some, None, Result, Ok, Err, IfOk, IfErr, ap, sym, subst, ◌∙◌, refl, inl, inr}
+use Rattle.std.proofs.lemmas.List.{map-append}
+use Rattle.lexer_core.specs.Lexing.{Lexeme, Says, AreTokens, IsLineFault, Lexed, start, blank, token, kind_of}
 use Rattle.lexer_core.specs.declared.token.Kind.{Kind}
-use Rattle.lexer_core.specs.declared.token.Mark.TheVariants as marks
 use Rattle.lexer_core.specs.declared.token.Token as tokens
 use Rattle.lexer_core.specs.declared.fault.Code.{Code}
-use Rattle.lexer_core.specs.declared.fault.Code.TheVariants as codes
 use Rattle.lexer_core.specs.declared.fault.ReadFault.{ReadFault}
 use Rattle.lexer_core.specs.declared.fault.ReadFault.TheVariants as faults
 use Rattle.reader_core.specs.declared.statement.Statement.{Statement}
 use Rattle.reader_core.specs.declared.statement.Statement.TheVariants as statements
-use Rattle.reader_core.specs.Grammar.{Fault, judge}
+use Rattle.reader_core.specs.Grammar.{Fault}
 use Rattle.reader_core.specs.Matches.{IsFault, IsWhole}
-use Rattle.reader_core.specs.Cursor.{Cursor, Takes, Faults, judged, fault_of, left_says}
-use Rattle.reader_core.specs.Language.{statement, body, finish, statement_says, SaysStatement, IsFinished, IsLawful, Spells, IsReadFault, lexical, nothing, ungrammatical, IsReadFaultOf, UnlessNoMemory}
-use Rattle.reader_core.proofs.Theory.{sound, fault_from_judge, judge_from_whole, judge_from_fault, one_fault as one_grammar_fault}
+use Rattle.reader_core.specs.Language.{statement, SaysStatement, Spells, IsReadFault, lexical, nothing, ungrammatical, IsReadFaultOf, UnlessNoMemory}
+use Rattle.reader_core.proofs.Theory.{sound, judge_from_whole, judge_from_fault, one_fault as one_grammar_fault}
 use Rattle.lexer_core.proofs.Lines.{says_once as one_reading, tokens_once as one_list_of_tokens, says_no_fault as said_or_faulty, fault_once as one_lexical_fault}
 use Rattle.reader_core.proofs.Whole.{says_whole}
 use Rattle.reader_core.proofs.Once.{said_once}

@@ -1,9 +1,9 @@
 -- What the exit of a `?` returns.
-use Rattle.std.proofs.Common.{◌≡◌, ◌≢◌, ℕ, List, Result, Ok, Err, Option, Some, None, IsErrAnd, length, ap, sym, ◌∙◌, subst}
+use Rattle.std.proofs.Common.{◌≡◌, List, Result, Ok, Err, IsErrAnd, ap, sym, subst}
 use Rattle.lexer_core.specs.Lexing.{Lexeme}
 use Rattle.lexer_core.specs.declared.fault.ReadFault.{ReadFault}
-use Rattle.reader_core.specs.Grammar.{Grammar, judge}
-use Rattle.reader_core.specs.Cursor.{Cursor, Leads, Faults, Takes, judged, fault_of}
+use Rattle.reader_core.specs.Grammar.{Grammar}
+use Rattle.reader_core.specs.Cursor.{Cursor, Leads, Faults}
 
 pub exits : {V : Type 0} (before : Grammar → Grammar) (after : V → Grammar → Grammar) (says : V → List Lexeme) (r : Result V ReadFault) (e : ReadFault) (old new : Cursor) → IsErrAnd r (λ y. y ≡ e) → Faults before e old → Leads before after says r old new
 exits before after says (Ok v) e old new p f = absurd p

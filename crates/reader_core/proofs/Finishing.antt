@@ -1,9 +1,9 @@
 -- The end of a statement: a ";", and then nothing.
-use Rattle.std.proofs.Common.{◌≡◌, ℕ, true, List, [], ◌∷◌, drop, length, map, Some, None, OnOk, IfErr, Result, Ok, Err, sym, ap, ◌∙◌, inr, refl}
+use Rattle.std.proofs.Common.{◌≡◌, true, [], ◌∷◌, drop, map, Some, None, OnOk, IfErr, Result, Ok, Err, ap, ◌∙◌, inr}
 use Rattle.lexer_core.specs.Lexing as lexemes
 use Rattle.lexer_core.specs.declared.token.Mark.TheVariants as marks
 use Rattle.lexer_core.specs.declared.fault.ReadFault.{ReadFault}
-use Rattle.reader_core.specs.Grammar.{Sign, End, One}
+use Rattle.reader_core.specs.Grammar.{Sign, End}
 use Rattle.reader_core.specs.Cursor.{Cursor, judged, fault_of, left_says, next_is, next_lexeme}
 use Rattle.reader_core.specs.Language.{finish, IsFinished}
 use Rattle.reader_core.proofs.Taking.{one_taken}

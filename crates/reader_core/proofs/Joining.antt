@@ -1,9 +1,9 @@
 -- One part of the language behind another.
-use Rattle.std.proofs.Common.{◌≡◌, ◌≢◌, List, ◌++◌, length, ap, sym, ◌∙◌, append_assoc}
+use Rattle.std.proofs.Common.{List, ◌++◌, ap, sym, ◌∙◌, append_assoc}
 use Rattle.lexer_core.specs.Lexing.{Lexeme}
 use Rattle.lexer_core.specs.declared.fault.ReadFault.{ReadFault}
 use Rattle.reader_core.specs.Grammar.{Grammar}
-use Rattle.reader_core.specs.Cursor.{Cursor, Takes, Faults, judged, left_says}
+use Rattle.reader_core.specs.Cursor.{Cursor, Takes, Faults, left_says}
 
 -- a fault behind what was taken
 pub fault_behind : {before next : Grammar → Grammar} {said : List Lexeme} {old mid : Cursor} {e : ReadFault} (after : Grammar → Grammar) → Takes before (λ k. next (after k)) said old mid → Faults next e mid → Faults before e old

@@ -1,25 +1,18 @@
 -- What the reader answers.
-use Rattle.std.proofs.Common.{◌≡◌, ◌≢◌, ℕ, Bool, true, false, List, [], ◌∷◌, ◌++◌, map, length, Option, Some, None, Result, Ok, Err, IfOk, IfErr, IsErrAnd, ap, sym, subst, ◌∙◌, refl, ◌⊎◌, inl, inr, ◌==◌, arith, Vec, Global, vec_len}
+use Rattle.std.proofs.Common.{◌≡◌, ◌≢◌, ℕ, true, false, List, [], ◌∷◌, ◌++◌, map, length, Some, Result, Ok, Err, IfErr, IsErrAnd, ap, sym, subst, ◌∙◌, refl, inl, inr, ◌==◌, arith, Vec, Global, vec_len}
 use Rattle.std.proofs.lemmas.Bool.{eqb-true}
-use Rattle.std.proofs.lemmas.List.{append-nil, map-append}
-use Rattle.lexer_core.specs.Lexing.{Lexeme, Says, AreTokens, IsLineFault, IsFaultOf, Lexed, start, blank, token, kind_of, heard}
-use Rattle.lexer_core.specs.Lexing as lexemes
-use Rattle.lexer_core.specs.declared.token.Kind.{Kind}
-use Rattle.lexer_core.specs.declared.token.Mark.TheVariants as marks
+use Rattle.std.proofs.lemmas.List.{append-nil}
+use Rattle.lexer_core.specs.Lexing.{Lexeme, Says, AreTokens, IsFaultOf, heard}
 use Rattle.lexer_core.specs.declared.token.Token as tokens
 use Rattle.lexer_core.specs.declared.fault.Code.{Code}
 use Rattle.lexer_core.specs.declared.fault.Code.TheVariants as codes
 use Rattle.lexer_core.specs.declared.fault.ReadFault.{ReadFault}
 use Rattle.lexer_core.specs.declared.fault.ReadFault.TheVariants as faults
 use Rattle.reader_core.specs.declared.statement.Statement.{Statement}
-use Rattle.reader_core.specs.declared.statement.Statement.TheVariants as statements
 use Rattle.reader_core.specs.Grammar.{Fault, judge}
-use Rattle.reader_core.specs.Matches.{IsFault, IsWhole}
 use Rattle.reader_core.specs.Cursor.{Cursor, Takes, Faults, judged, fault_of, left_says}
-use Rattle.reader_core.specs.Language.{statement, body, finish, statement_says, SaysStatement, IsFinished, IsLawful, Spells, IsReadFault, lexical, nothing, ungrammatical, IsReadFaultOf, UnlessNoMemory}
-use Rattle.reader_core.proofs.Theory.{sound, fault_from_judge, judge_from_whole, judge_from_fault, one_fault as one_grammar_fault}
-use Rattle.reader_core.proofs.Whole.{says_whole}
-use Rattle.reader_core.proofs.Once.{said_once}
+use Rattle.reader_core.specs.Language.{statement, body, finish, statement_says, SaysStatement, IsFinished, IsLawful, Spells, IsReadFault, lexical, nothing, ungrammatical, IsReadFaultOf}
+use Rattle.reader_core.proofs.Theory.{sound, fault_from_judge}
 
 -- ---- what the reader answers
 pub exit_err : {V : Type 0} (P : ReadFault → Type 0) (r : Result V ReadFault) (e : ReadFault) → IsErrAnd r (λ y. y ≡ e) → P e → IfErr r P

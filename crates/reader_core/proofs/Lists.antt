@@ -1,22 +1,20 @@
 -- What is wrong with the items of a list.
-use Rattle.std.proofs.Common.{◌≡◌, ℕ, ◌≤◌, ◌<◌, ◌+◌, suc, length, arith, length-append, append_assoc, Bool, true, false, List, [], ◌∷◌, ◌++◌, ◌&&◌, map, drop, Option, Some, None, Result, Ok, Err, if◌then◌else◌, ap, sym, subst, ◌∙◌, refl}
+use Rattle.std.proofs.Common.{◌≡◌, ℕ, ◌<◌, ◌+◌, suc, length, arith, length-append, append_assoc, true, false, List, [], ◌∷◌, ◌++◌, ◌&&◌, map, drop, Option, Some, None, Result, Err, if◌then◌else◌, ap, sym, subst, ◌∙◌, refl}
 use Rattle.std.proofs.lemmas.Grind.{flat_map-append}
 use Rattle.std.proofs.lemmas.List.{append-nil, length-map}
 use Rattle.std.specs.List.{list_any, flat_map}
-use Rattle.base_core.specs.declared.name.Name.{Name}
-use Rattle.lexer_core.specs.Lexing.{Lexeme, kind_of, lexeme_of, heard}
+use Rattle.lexer_core.specs.Lexing.{Lexeme, heard}
 use Rattle.lexer_core.specs.declared.token.Kind.{Kind}
-use Rattle.lexer_core.specs.declared.token.Kind.TheVariants as kinds
 use Rattle.lexer_core.specs.declared.token.Token as tokens
 use Rattle.lexer_core.specs.declared.fault.ReadFault.{ReadFault}
 use Rattle.lexer_core.specs.declared.fault.ReadFault.TheVariants as faults
 use Rattle.lexer_core.specs.declared.fault.Code.{Code}
 use Rattle.lexer_core.specs.declared.fault.Code.TheVariants as codes
-use Rattle.reader_core.specs.Grammar.{Grammar, Class, Rule, Items, More, One, Case, End, AnyName, judge, fits, mark_of, marked, enter, step, followed_by, can_end, same, mark_from, AreFine}
-use Rattle.reader_core.specs.Cursor.{Cursor, Leads, Takes, Faults, fault_of, judged, left_says, next_kind, next_lexeme, next_is, offset_at}
+use Rattle.reader_core.specs.Grammar.{Grammar, Class, Rule, Items, More, One, Case, judge, fits, mark_of, marked, step, followed_by, can_end, same, mark_from, AreFine}
+use Rattle.reader_core.specs.Cursor.{Cursor, Takes, Faults, fault_of, judged, left_says, next_kind, next_lexeme, next_is, offset_at}
 use Rattle.reader_core.specs.Language.{listed}
 use Rattle.reader_core.proofs.Theory.{judge_nil, judge_none, judge_some}
-use Rattle.reader_core.proofs.Taking.{says_taken, said_by_kind, only_kind, at_line}
+use Rattle.reader_core.proofs.Taking.{says_taken, at_line}
 
 step_item : (r : Rule) (s : List Kind) (c : Class) (i k : Grammar) (x y : Kind) (m : Option Code) → y ≡ x → fits c x ≡ true → mark_of r s x ≡ m → step (Items r s (One c i) k) y ≡ Some (m, followed_by i (More r (s ++ x ∷ []) (One c i) k))
 step_item r s c i k x y m e f h =

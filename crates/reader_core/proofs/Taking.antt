@@ -1,5 +1,5 @@
 -- Single tokens.
-use Rattle.std.proofs.Common.{◌≡◌, ◌≢◌, ◌-◌, ◌==◌, ℕ, Bool, true, false, List, [], ◌∷◌, ◌++◌, length, map, take, drop, Option, Some, None, Result, Err, if◌then◌else◌, ap, sym, subst, ◌∙◌, refl}
+use Rattle.std.proofs.Common.{◌≡◌, ◌-◌, ◌==◌, ℕ, true, false, List, [], ◌∷◌, length, take, drop, Option, Some, None, Result, Err, if◌then◌else◌, ap, sym, ◌∙◌, refl}
 use Rattle.std.specs.Option.{is_some}
 use Rattle.std.proofs.lemmas.Bool.{eqb-true}
 use Rattle.base_core.specs.declared.keyword.Keyword.{Keyword}
@@ -18,7 +18,7 @@ use Rattle.lexer_core.specs.declared.token.Token as tokens
 use Rattle.lexer_core.specs.declared.fault.Code.TheVariants as codes
 use Rattle.lexer_core.specs.declared.fault.ReadFault.{ReadFault}
 use Rattle.lexer_core.specs.declared.fault.ReadFault.TheVariants as faults
-use Rattle.reader_core.specs.Grammar.{Grammar, Class, End, One, Key, Sign, AnyType, AnyLiteral, fits, step, judge, keyword_number, mark_number}
+use Rattle.reader_core.specs.Grammar.{Grammar, Class, End, One, Key, Sign, AnyType, AnyLiteral, fits, judge, keyword_number, mark_number}
 use Rattle.reader_core.specs.Cursor.{Cursor, Takes, Faults, judged, left_says, next_kind, next_lexeme, next_is, offset_at, fault_of}
 use Rattle.reader_core.specs.Language.{type_lexeme, value_lexeme}
 use Rattle.reader_core.proofs.Theory.{judge_nil, judge_none, judge_some}

@@ -1,5 +1,5 @@
 -- The judge finds the leftmost fault of the grammar's sentences.
-use Rattle.std.proofs.Common.{◌≡◌, ℕ, Bool, true, false, nat_le, pos, List, [], ◌∷◌, ◌++◌, map, Option, Some, None, if◌then◌else◌, cond, ap, sym, subst, ◌∙◌, refl, append_assoc, arith, rules, ◌⊎◌, inl, inr}
+use Rattle.std.proofs.Common.{◌≡◌, ℕ, Bool, true, false, nat_le, pos, List, [], ◌∷◌, ◌++◌, map, Option, Some, None, if◌then◌else◌, ap, sym, subst, ◌∙◌, refl, append_assoc, arith, rules, ◌⊎◌, inl, inr}
 use Rattle.std.proofs.lemmas.List.{append-nil}
 use Rattle.base_core.specs.declared.keyword.Keyword.TheVariants as keywords
 use Rattle.lexer_core.specs.declared.token.Mark.TheVariants as marks
@@ -8,7 +8,7 @@ use Rattle.lexer_core.specs.declared.token.Kind.TheVariants as kinds
 use Rattle.lexer_core.specs.declared.token.Token as tokens
 use Rattle.lexer_core.specs.declared.fault.Code.{Code}
 use Rattle.lexer_core.specs.declared.fault.Code.TheVariants as codes
-use Rattle.reader_core.specs.Grammar.{Grammar, End, One, Case, Items, More, Class, Key, Sign, AnyName, AnyLiteral, AnyType, AnyTest, AtLeastOne, Rule, fits, mark_of, mark_from, marked, enter, step, can_end, followed_by, Fault, judge}
+use Rattle.reader_core.specs.Grammar.{Grammar, End, One, Case, Items, More, Class, Key, Sign, AnyName, AnyLiteral, AnyType, AnyTest, AtLeastOne, fits, mark_of, mark_from, marked, enter, step, can_end, followed_by, Fault, judge}
 use Rattle.reader_core.specs.Language.{statement}
 use Rattle.reader_core.specs.Matches.{Spot, fine, IsNext, Matches, done, one, this, other, item, next, last, IsWhole, Begins, GoesOn, IsWrongAt, IsWrongHere, IsFault}
 

@@ -1,13 +1,9 @@
 -- What says a statement is a whole sentence of the grammar.
-use Rattle.std.proofs.Common.{◌≡◌, ℕ, ◌+◌, ◌<◌, Bool, true, false, List, [], ◌∷◌, ◌++◌, map, length, Option, Some, None, ap, sym, subst, ◌∙◌, refl, append_assoc, arith, ◌⊎◌, inl, inr}
+use Rattle.std.proofs.Common.{◌≡◌, Bool, true, false, List, [], ◌∷◌, ◌++◌, map, Option, None, ap, sym, subst, ◌∙◌, refl, append_assoc, arith, inl, inr}
 use Rattle.std.specs.List.{flat_map}
 use Rattle.std.proofs.lemmas.List.{append-nil, map-append, length-map}
-use Rattle.base_core.specs.declared.keyword.Keyword.TheVariants as keywords
 use Rattle.base_core.specs.declared.value.Value.{Value}
-use Rattle.base_core.specs.declared.value.Value.TheVariants as values
 use Rattle.base_core.specs.declared.value.Column.{Column}
-use Rattle.base_core.specs.declared.value.ColType.{ColType}
-use Rattle.base_core.specs.declared.value.ColType.TheVariants as types
 use Rattle.lexer_core.specs.Lexing.{Lexeme, kind_of}
 use Rattle.lexer_core.specs.Lexing as lexemes
 use Rattle.lexer_core.specs.declared.token.Kind.{Kind}
@@ -16,7 +12,7 @@ use Rattle.lexer_core.specs.declared.token.Mark.TheVariants as marks
 use Rattle.lexer_core.specs.declared.fault.Code.{Code}
 use Rattle.reader_core.specs.declared.statement.Statement.{Statement}
 use Rattle.reader_core.specs.declared.statement.Statement.TheVariants as statements
-use Rattle.reader_core.specs.Grammar.{Grammar, Class, Key, Sign, AnyType, AnyLiteral, Rule, Items, More, One, End, fits, mark_of, followed_by, AreFine}
+use Rattle.reader_core.specs.Grammar.{Grammar, Sign, Rule, Items, More, One, fits, mark_of, followed_by, AreFine}
 use Rattle.reader_core.specs.Matches.{Spot, fine, IsNext, Matches, done, one, this, other, item, next, last, IsWhole}
 use Rattle.reader_core.specs.Language.{commas, column_item, literal_item, statement, finish, comma, listed, column_says, value_says, value_lexeme, type_lexeme, statement_says, IsLawful, SaysStatement}
 use Rattle.reader_core.proofs.Taking.{value_fits, type_fits}

@@ -1,5 +1,5 @@
 -- Grammars as data, and what is wrong with a list of tokens.
-use Rattle.std.specs.Prelude.{◌≡◌, ◌≢◌, ℕ, ◌+◌, ℤ, Bool, true, false, if◌then◌else◌, ◌||◌, ◌&&◌, not, List, [], ◌∷◌, ◌++◌, length, map, Option, Some, None, nat_eq, nat_le, pos}
+use Rattle.std.specs.Prelude.{◌≡◌, ℕ, Bool, true, false, if◌then◌else◌, ◌||◌, ◌&&◌, List, [], ◌∷◌, ◌++◌, length, Option, Some, None, nat_eq, nat_le, pos}
 use Rattle.std.specs.List.{list_any}
 use Rattle.base_core.specs.Words.{same_name}
 use Rattle.base_core.specs.declared.keyword.Keyword.{Keyword}

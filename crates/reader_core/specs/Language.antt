@@ -1,5 +1,5 @@
 -- The language: its grammar, and what a line of it says.
-use Rattle.std.specs.Prelude.{◌≡◌, ◌<◌, ◌≤◌, ℕ, Bool, true, false, List, [], ◌∷◌, ◌++◌, ◌⊎◌, length, map, Result, Ok, Err}
+use Rattle.std.specs.Prelude.{◌≡◌, ◌<◌, ◌≤◌, ℕ, Bool, true, false, List, [], ◌∷◌, ◌++◌, ◌⊎◌, length, map, Result, Err}
 use Rattle.std.specs.List.{flat_map}
 use Rattle.base_core.specs.Distinct.{are_distinct}
 use Rattle.base_core.specs.declared.keyword.Keyword.TheVariants as keywords
@@ -11,9 +11,7 @@ use Rattle.base_core.specs.declared.value.ColType.{ColType}
 use Rattle.base_core.specs.declared.value.ColType.TheVariants as types
 use Rattle.lexer_core.specs.Lexing.{Lexeme, Says, AreTokens, IsLineFault}
 use Rattle.lexer_core.specs.Lexing as lexemes
-use Rattle.lexer_core.specs.declared.token.Kind.{Kind}
 use Rattle.lexer_core.specs.declared.token.Token as tokens
-use Rattle.lexer_core.specs.declared.token.Kind.TheVariants as kinds
 use Rattle.lexer_core.specs.declared.token.Mark.TheVariants as marks
 use Rattle.lexer_core.specs.declared.fault.Code.{Code}
 use Rattle.lexer_core.specs.declared.fault.Code.TheVariants as codes
@@ -21,7 +19,7 @@ use Rattle.lexer_core.specs.declared.fault.ReadFault.{ReadFault}
 use Rattle.lexer_core.specs.declared.fault.ReadFault.TheVariants as faults
 use Rattle.reader_core.specs.declared.statement.Statement.{Statement}
 use Rattle.reader_core.specs.declared.statement.Statement.TheVariants as statements
-use Rattle.reader_core.specs.Grammar.{Grammar, End, One, Case, Items, More, Rule, Class, Key, Sign, AnyName, AnyLiteral, AnyType}
+use Rattle.reader_core.specs.Grammar.{Grammar, End, One, Case, Items, Rule, Key, Sign, AnyName, AnyLiteral, AnyType}
 use Rattle.reader_core.specs.Matches.{IsFault}
 
 -- ---- the grammar

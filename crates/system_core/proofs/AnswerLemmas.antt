@@ -3,7 +3,7 @@ use Rattle.std.proofs.Common.{◌≤◌, ◌<◌, ◌+◌, ◌-◌, ℕ, List, [
 use Rattle.std.specs.Str.Lines.{strip_carriage_return}
 use Rattle.std.proofs.lemmas.List.{take_all, length-take}
 use Rattle.std.proofs.lemmas.Bool.{cases_lt}
-use Rattle.system_core.specs.declared.script.line.TheConstants.{LONGEST_LINE, KEPT_BYTES}
+use Rattle.system_core.specs.declared.lines.line.TheConstants.{LONGEST_LINE, KEPT_BYTES}
 use Rattle.system_core.specs.Serving.{AnswersAll}
 
 strip_length : (l : List ℕ) → length l ≤ length (strip_carriage_return l) + 1

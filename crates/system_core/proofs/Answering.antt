@@ -1,5 +1,5 @@
 -- What is written for a line is an answer to it.
-use Rattle.std.proofs.Common.{◌≡◌, ℕ, List, Option, subst, sym, inl, inr}
+use Rattle.std.proofs.Common.{ℕ, List, Option, subst, sym, inl, inr}
 use Rattle.base_core.specs.Streams.{Writes, WritesFrontOf}
 use Rattle.base_core.specs.declared.name.User.{User}
 use Rattle.lexer_core.specs.declared.fault.Code.{Code}

@@ -10,7 +10,7 @@ use Rattle.std.proofs.lemmas.Bool.Decides.{nat_tests}
 use Rattle.std.proofs.KnownBytes.{Appends-trans, Appends-nil}
 use Rattle.memchr.specs.Find.{IsFirstByte, is_byte}
 use Rattle.base_core.specs.Streams.{WritesFront}
-use Rattle.system_core.specs.declared.script.line.TheConstants.{LONGEST_LINE, KEPT_BYTES}
+use Rattle.system_core.specs.declared.lines.line.TheConstants.{LONGEST_LINE, KEPT_BYTES}
 use Rattle.system_core.specs.Lines.{Cut, NoFeed}
 use Rattle.system_core.specs.Serving.{AnswersAll, AnswersLine, BreaksLine, Feeds, Breaks}
 use Rattle.system_core.proofs.LineLemmas.{Cut-append, Cut-feed, Cut-open, ByRecursion-append}

@@ -1,5 +1,5 @@
 -- An allowed change may be carried out, and the system stands as before after it.
-use Rattle.std.proofs.Common.{◌≡◌, ℕ, ◌+◌, ◌<◌, ◌≤◌, ◌^◌, Bool, true, false, cond, subst, List, [], ◌∷◌, ◌++◌, Ok, Err, Option, Some, None, IsSomeAnd, length, option_map, refl, sym, ap, ◌∙◌, arith, append_assoc, nat_lt}
+use Rattle.std.proofs.Common.{◌≡◌, ℕ, ◌+◌, ◌<◌, ◌≤◌, ◌^◌, Bool, true, false, cond, subst, List, [], ◌∷◌, ◌++◌, Ok, Option, Some, None, IsSomeAnd, length, option_map, refl, sym, ap, ◌∙◌, arith, append_assoc}
 use Rattle.std.specs.Option.{option_map_or}
 use Rattle.std.proofs.lemmas.Bool.{ltb-true}
 use Rattle.std.proofs.lemmas.List.{append-nil, length-append}
@@ -8,16 +8,14 @@ use Rattle.base_core.specs.Words.{same_name}
 use Rattle.base_core.specs.declared.name.Name.{Name}
 use Rattle.base_core.specs.declared.name.User.{User}
 use Rattle.base_core.specs.declared.privilege.Kind.TheVariants as kinds
-use Rattle.base_core.specs.declared.lack.Lack.TheVariants as lacks
-use Rattle.base_core.specs.declared.lack.What.TheVariants as whats
 use Rattle.base_core.specs.declared.limits.Limits.{Limits}
 use Rattle.base_core.specs.declared.value.Row.{Row}
 use Rattle.reader_core.specs.declared.statement.Statement.{Statement}
 use Rattle.reader_core.specs.declared.statement.Statement.TheVariants as statements
-use Rattle.tables_core.specs.Contents.{Contents, opened, with_row, with_change, table_of}
+use Rattle.tables_core.specs.Contents.{Contents, opened, with_row, table_of}
 use Rattle.tables_core.proofs.ContentsLemmas.{table_of-with_change, table_of-append}
 use Rattle.system_core.specs.declared.event.Entry.{Entry}
-use Rattle.system_core.specs.Verdict.{State, Check, verdict, first_lack, table_is_new, table_stands, holds, of_table, count_is_right, types_are_right, columns_of, room_for_change, room_for_table}
+use Rattle.system_core.specs.Verdict.{State, Check, verdict, table_is_new, table_stands, holds, of_table, count_is_right, types_are_right, columns_of, room_for_change, room_for_table}
 use Rattle.system_core.specs.Journal.{contents, tables_with, tables_after, state_of, verdict_at, is_change, IsLawfulFrom}
 use Rattle.system_core.specs.Carrying.{CanCarry}
 use Rattle.system_core.specs.Standing.{Stands, inserted_of}

@@ -1,5 +1,5 @@
 -- A fault of a line stands at no great offset.
-use Rattle.std.proofs.Common.{◌≡◌, ℕ, ◌≤◌, ◌<◌, ◌+◌, List, [], ◌∷◌, ◌++◌, length, drop, arith, ap, sym, subst}
+use Rattle.std.proofs.Common.{◌≡◌, ℕ, ◌≤◌, List, [], ◌∷◌, ◌++◌, length, drop, arith, ap, subst}
 use Rattle.std.proofs.lemmas.List.{length-append, length-drop}
 use Rattle.lexer_core.specs.Lexing.{AreTokens, AreHeard, IsLineFault, long_line, behind, Lexed, start, blank, token, Fails, long_name, joined_number, great_number, bad_text, open_text, long_text, stray, Lexeme}
 use Rattle.lexer_core.specs.Text.{written_all}
@@ -7,7 +7,7 @@ use Rattle.lexer_core.specs.declared.fault.Code.{Code}
 use Rattle.lexer_core.specs.declared.token.Token as tokens
 use Rattle.lexer_core.specs.declared.token.Kind.{Kind}
 use Rattle.lexer_core.proofs.Spelled.{tokens_heard}
-use Rattle.reader_core.specs.Matches.{IsFault, IsWrongHere}
+use Rattle.reader_core.specs.Matches.{IsWrongHere}
 use Rattle.reader_core.specs.Grammar.{Grammar}
 use Rattle.reader_core.specs.Language.{IsReadFault, lexical, nothing, ungrammatical}
 

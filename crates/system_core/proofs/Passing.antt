@@ -1,5 +1,5 @@
 -- What a passed check says.
-use Rattle.std.proofs.Common.{◌≡◌, Bool, true, false, not, List, [], ◌∷◌, refl, Ok, Err, Option, Some, None}
+use Rattle.std.proofs.Common.{◌≡◌, Bool, true, false, not, List, ◌∷◌, refl, Ok, Err, Option, Some, None}
 use Rattle.std.specs.Option.{is_some}
 use Rattle.base_core.specs.declared.lack.Lack.{Lack}
 use Rattle.system_core.specs.Verdict.{Check, require, first_lack}

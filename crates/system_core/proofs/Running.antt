@@ -1,5 +1,5 @@
 -- A run goes on by one step.
-use Rattle.std.proofs.Common.{◌≡◌, List, [], ◌∷◌, ◌++◌, refl, sym, subst}
+use Rattle.std.proofs.Common.{List, [], ◌∷◌, ◌++◌, refl, subst}
 use Rattle.system_core.specs.declared.event.Event.{Event}
 use Rattle.system_core.specs.declared.event.Reply.{Reply}
 use Rattle.system_core.specs.World.{World, Step, Run}

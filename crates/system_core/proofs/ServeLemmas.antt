@@ -4,7 +4,7 @@ use Rattle.std.specs.Str.Lines.{lines, strip_carriage_return}
 use Rattle.std.specs.Io.KnownBytes.{Consumes, Keeps}
 use Rattle.std.proofs.lemmas.List.{map-append, length-append, length-take}
 use Rattle.std.proofs.KnownBytes.{Appends-trans, Appends-kept, Consumes-trans, Consumes-kept, Consumes-nil}
-use Rattle.system_core.specs.declared.script.line.TheConstants.{LONGEST_LINE, KEPT_BYTES}
+use Rattle.system_core.specs.declared.lines.line.TheConstants.{LONGEST_LINE, KEPT_BYTES}
 use Rattle.system_core.specs.Lines.{Cut, NoFeed, whole_lines}
 use Rattle.system_core.specs.Serving.{AnswersAll, AnswersLine, BreaksLine, Feeds, Breaks, Run, BrokenRun, Serving}
 use Rattle.system_core.proofs.LineLemmas.{Cut-append, lines-Cut, whole_lines-Cut, last_line}

@@ -1,5 +1,5 @@
 -- What a change needs of the tables.
-use Rattle.std.specs.Prelude.{ℕ, ◌≡◌, ◌<◌, ◌^◌, List, None, IsSomeAnd}
+use Rattle.std.specs.Prelude.{◌≡◌, ◌<◌, ◌^◌, List, None, IsSomeAnd}
 use Rattle.base_core.specs.declared.name.Name.{Name}
 use Rattle.reader_core.specs.declared.statement.Statement.{Statement}
 use Rattle.reader_core.specs.declared.statement.Statement.TheVariants as statements

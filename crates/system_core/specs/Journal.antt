@@ -1,16 +1,14 @@
 -- What a journal says: its tables, and how a statement is judged at it.
-use Rattle.std.specs.Prelude.{ℕ, ◌≡◌, Bool, true, false, List, [], ◌∷◌, ◌++◌, length, map, Ok, Option, None, Some}
+use Rattle.std.specs.Prelude.{◌≡◌, Bool, true, false, List, [], ◌∷◌, ◌++◌, length, Ok}
 use Rattle.std.specs.List.{fold}
-use Rattle.std.specs.Option.{option_map_or}
 use Rattle.base_core.specs.declared.name.Name.{Name}
 use Rattle.base_core.specs.declared.name.User.{User}
 use Rattle.base_core.specs.declared.limits.Limits.{Limits}
-use Rattle.base_core.specs.declared.value.Row.{Row}
 use Rattle.reader_core.specs.declared.statement.Statement.{Statement}
 use Rattle.reader_core.specs.declared.statement.Statement.TheVariants as statements
-use Rattle.tables_core.specs.Contents.{Contents, opened, with_row, with_change, table_of}
+use Rattle.tables_core.specs.Contents.{Contents, opened, with_row, with_change}
 use Rattle.system_core.specs.declared.event.Entry.{Entry}
-use Rattle.system_core.specs.Verdict.{State, Check, verdict, columns_of}
+use Rattle.system_core.specs.Verdict.{State, Check, verdict}
 
 -- whether a statement is a change
 abbrev pub is_change : Statement → Bool

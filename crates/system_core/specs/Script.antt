@@ -1,5 +1,5 @@
 -- What a script's line says, and what may be written for it.
-use Rattle.std.specs.Prelude.{◌≡◌, ◌⊎◌, ◌+◌, ◌<◌, ℕ, Bool, false, not, ◌==◌, nat_lt, List, [], ◌∷◌, length, take, drop, slice_index, if◌then◌else◌, Option, None, Some, Result, Ok, Err}
+use Rattle.std.specs.Prelude.{◌≡◌, ◌⊎◌, ◌+◌, ◌<◌, ℕ, Bool, false, not, ◌==◌, nat_lt, List, length, take, drop, slice_index, if◌then◌else◌, Option, None, Some, Result, Ok, Err}
 use Rattle.std.specs.List.{list_all, prefix_len}
 use Rattle.std.specs.Char.{is_ascii_alphabetic}
 use Rattle.std.proofs.Common.{arith, sym, ◌∙◌}
@@ -20,7 +20,7 @@ use Rattle.system_core.specs.Texts.{reply_text, fault_text, unread_text, lost_te
 use Rattle.system_core.specs.World.{World, Step, opening, IsFull}
 use Rattle.system_core.specs.declared.event.Event.TheVariants as events
 use Rattle.system_core.specs.declared.event.Reply.{Reply}
-use Rattle.system_core.specs.declared.script.serve.SessionFault.{SessionFault}
+use Rattle.system_core.specs.declared.lines.serve.SessionFault.{SessionFault}
 
 abbrev pub colon : ℕ
 colon = 58

@@ -6,9 +6,9 @@ use Rattle.std.specs.Str.Lines.{lines, strip_carriage_return}
 use Rattle.std.specs.Io.KnownBytes.{Appends, Consumes, Keeps, IsAtEnd}
 use Rattle.base_core.specs.Streams.{WritesFront}
 use Rattle.system_core.specs.Lines.{Cut, whole_lines}
-use Rattle.system_core.specs.declared.script.line.TheConstants.{KEPT_BYTES}
-use Rattle.system_core.specs.declared.script.serve.SessionFault.{SessionFault}
-use Rattle.system_core.specs.declared.script.serve.SessionFault.TheVariants as faults
+use Rattle.system_core.specs.declared.lines.line.TheConstants.{KEPT_BYTES}
+use Rattle.system_core.specs.declared.lines.serve.SessionFault.{SessionFault}
+use Rattle.system_core.specs.declared.lines.serve.SessionFault.TheVariants as faults
 
 -- The lines are answered one after another.
 abbrev pub AnswersAll : {X : Type 0} → (X → List ℕ → List ℕ → X → Type 0) → X → List (List ℕ) → List ℕ → X → Type 0

@@ -1,5 +1,5 @@
 -- Which statements may be carried out: for each a list of checks, of which the first that fails is the lack.
-use Rattle.std.specs.Prelude.{ℕ, Bool, true, false, not, nat_lt, ◌==◌, if◌then◌else◌, List, [], ◌∷◌, length, map, is_some, Option, Some, None, Result, Ok, Err}
+use Rattle.std.specs.Prelude.{ℕ, Bool, false, not, nat_lt, ◌==◌, if◌then◌else◌, List, [], ◌∷◌, length, map, is_some, Option, Some, None, Result, Ok, Err}
 use Rattle.std.specs.Option.{option_map_or}
 use Rattle.base_core.specs.Users.{same_user}
 use Rattle.base_core.specs.Values.{has_type}

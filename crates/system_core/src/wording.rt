@@ -9,6 +9,9 @@ use base_core::{Atom, ColType, Kind, Lack, Moment, Name, NoMemory, Row, User, Wh
 use lexer_core::Code;
 use std::alloc::Global;
 
+// Room for most replies of one line, so that their text asks for memory once.
+const USUAL_BYTES: usize = 96;
+
 fn type_text(ty: ColType) -> &'static [u8]
     ensures { result.now ≡ type_text ty }
 {
@@ -183,7 +186,7 @@ fn rows_text(mut text: Vec<u8>, at: Moment, rows: &[Row]) -> Result<Vec<u8>, NoM
 pub fn reply_text(alloc: Global, reply: &Reply) -> Result<Vec<u8>, NoMemory>
     ensures { IfOk result (λ text. text.items ≡ reply_text reply.now) }
 {
-    let mut text = Vec::new(alloc);
+    let mut text = Vec::with_capacity(alloc, USUAL_BYTES)?;
     match reply {
         Reply::Done { at } => push_number_in(&mut text, b"done @", at.0, b"\n")?,
         Reply::Rows { at, rows } => return rows_text(text, *at, rows.as_slice()),
@@ -199,7 +202,7 @@ pub fn reply_text(alloc: Global, reply: &Reply) -> Result<Vec<u8>, NoMemory>
 pub fn fault_text(alloc: Global, code: Code, offset: usize) -> Result<Vec<u8>, NoMemory>
     ensures { IfOk result (λ text. text.items ≡ fault_text code offset) }
 {
-    let mut text = Vec::new(alloc);
+    let mut text = Vec::with_capacity(alloc, USUAL_BYTES)?;
     push_number_in(&mut text, b"error ", code.number() as u64, b" at ")?;
     push_number_in(&mut text, b"", offset as u64, b": ")?;
     push_all(&mut text, &[code.text().as_bytes(), b"\n"])?;

@@ -1,5 +1,4 @@
-use Rattle.std.proofs.Common.{◌≡◌, List, [], ◌++◌, ◌∷◌, map, sym, subst}
-use Rattle.reader_core.specs.Grammar.{AreFine}
+use Rattle.std.proofs.Common.{sym}
 use Rattle.reader_core.proofs.Lists.{list_on, list_done, fine_on, shorter, nothing_yet}
 use Rattle.reader_core.proofs.list.list.Goals as goal
 

@@ -1,4 +1,4 @@
-use Rattle.std.proofs.Common.{refl, ◌∙◌, ◌++◌, ◌∷◌, [], map, sym}
+use Rattle.std.proofs.Common.{◌++◌, ◌∷◌, [], map}
 use Rattle.lexer_core.specs.declared.token.Kind.TheVariants as kinds
 use Rattle.reader_core.specs.Grammar.{One, More, AnyType, End}
 use Rattle.reader_core.specs.Language.{names_rule, column_item}

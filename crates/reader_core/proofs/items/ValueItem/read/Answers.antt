@@ -1,8 +1,7 @@
-use Rattle.std.proofs.Common.{refl, ◌∙◌, ◌≡◌, None, Some, ap, sym, map, List, ◌++◌, ◌∷◌, [], false, length}
+use Rattle.std.proofs.Common.{refl, ◌≡◌, None, Some, sym, map, List, false, length}
 use Rattle.lexer_core.specs.Lexing.{kind_of}
 use Rattle.lexer_core.specs.declared.token.Kind.{Kind}
 use Rattle.reader_core.specs.Grammar.{mark_of, mark_from, AnyLiteral, End}
-use Rattle.reader_core.specs.Cursor.{fault_of}
 use Rattle.reader_core.specs.Language.{commas, value_lexeme}
 use Rattle.reader_core.proofs.Exits.{exits}
 use Rattle.reader_core.proofs.Lists.{item_bad_at, item_misfit_at, item_taken, firsts_length, firsts_push}

@@ -1,4 +1,3 @@
-use Rattle.std.proofs.Common.{refl}
 use Rattle.reader_core.specs.Grammar.{AnyType}
 use Rattle.lexer_core.specs.Lexing.{kind_of}
 use Rattle.reader_core.specs.Language.{type_lexeme}

@@ -1,7 +1,4 @@
-use Rattle.std.proofs.Common.{◌≡◌, None, OnOk, IfErr, Result, Ok, Err, sym, inr}
-use Rattle.lexer_core.specs.declared.token.Mark.TheVariants as marks
-use Rattle.reader_core.specs.Grammar.{Sign, End}
-use Rattle.reader_core.specs.Language.{finish}
+use Rattle.std.proofs.Common.{sym}
 use Rattle.reader_core.proofs.Finishing.{ends_behind, fails_behind}
 use Rattle.reader_core.proofs.reader.Reader.finish.Goals as goal
 

@@ -1,4 +1,4 @@
-use Rattle.std.proofs.Common.{refl, Err, ap, sym, ◌∙◌}
+use Rattle.std.proofs.Common.{refl}
 use Rattle.reader_core.specs.Grammar.{AnyName}
 use Rattle.lexer_core.specs.Lexing as lexemes
 use Rattle.lexer_core.specs.declared.token.Kind.TheVariants as kinds

@@ -1,4 +1,4 @@
-use Rattle.std.proofs.Common.{◌≡◌, Ok, sym, ◌∙◌}
+use Rattle.std.proofs.Common.{◌≡◌, Ok}
 use Rattle.system_core.specs.Journal.{verdict_at}
 use Rattle.system_core.proofs.Keeping.{CanCarry-stands, Stands-more}
 use Rattle.system_core.proofs.system.System.change.Goals as goal

@@ -1,0 +1,15 @@
+use Rattle.std.proofs.Common.{◌≡◌, ℕ, false, List, ◌++◌, length, take}
+use Rattle.system_core.specs.declared.lines.line.TheConstants.{KEPT_BYTES}
+use Rattle.system_core.specs.Lines.{NoFeed}
+use Rattle.system_core.specs.Serving.{Feeds}
+use Rattle.system_core.proofs.lines.serve.feed.Given as goal
+
+-- what came before the rest of the piece was fed
+abbrev pub invariant-loop-end : goal.invariant-loop-end
+invariant-loop-end g l =
+    (g.W.Sink.failed l.writer ≡ false)
+    × ((rest : List ℕ) → NoFeed rest → l.initial.line ≡ take KEPT_BYTES rest → (done : List ℕ) × (done ++ l.left ≡ l.piece)
+    × Feeds g.D.LineServer.answers rest done l.line l.initial.server l.server (g.W.Sink.taken l.initial.writer) (g.W.Sink.taken l.writer))
+
+abbrev pub decreases-loop-end : goal.decreases-loop-end
+decreases-loop-end g l = length l.left
