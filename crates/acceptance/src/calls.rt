@@ -1,17 +1,24 @@
 //! Calls of the core, and its replies.
-ghost use Rattle.std.specs.Prelude.{◌<◌, ◌≤◌};
+ghost use Rattle.std.specs.Prelude.{◌<◌, ◌≤◌, IfOk};
+ghost use Rattle.system_core.specs.World.{IsServed};
 
 use base_core::{Limits, Name, User};
 use reader_core::read;
 use std::alloc::Global;
 use std::test::Fail;
-use system_core::{Event, Reply, System, reply_text};
+use system_core::{Event, Reply, System, is_served, reply_text};
 
-fn say(alloc: Global, statement: &[u8]) -> Result<Event, Fail> {
+fn say(alloc: Global, statement: &[u8]) -> Result<Event, Fail>
+    ensures { IfOk result IsServed }
+{
+    let statement = read(alloc, statement)?;
+    if !is_served(&statement) {
+        return Err(Fail::from("not carried out yet"));
+    }
     Ok(Event::Say {
         pass: 0,
         user: User(Name::read(b"ann").ok_or("no name")?),
-        statement: read(alloc, statement)?,
+        statement,
     })
 }
 

@@ -1,3 +1,4 @@
 pub mod Filled
 pub mod Folded
+pub mod Initials
 pub mod Printable

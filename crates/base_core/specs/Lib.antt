@@ -1,9 +1,11 @@
 pub mod Words
 pub mod Named
+pub mod Spelled
 pub mod Users
 pub mod Distinct
 pub mod Texts
 pub mod Values
 pub mod Filter
 pub mod Lacks
+pub mod Full
 pub mod Streams

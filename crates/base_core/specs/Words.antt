@@ -41,6 +41,10 @@ folded word = map to_ascii_lowercase word
 abbrev pub is_spelled_by : List ℕ → Keyword → Bool
 is_spelled_by word k = bytes_eq (folded (text_of k)) (folded word)
 
+-- whether a keyword begins with this small letter
+abbrev pub begins_with : ℕ → Keyword → Bool
+begins_with letter k = slice_index (folded (text_of k)) 0 == letter
+
 unfoldable pub all_keywords : List Keyword
 all_keywords = keywords.And ∷ keywords.Checkpoint ∷ keywords.Checkpoints ∷ keywords.Create ∷ keywords.Delete ∷ keywords.Export ∷ keywords.For ∷ keywords.From ∷ keywords.Grant ∷ keywords.Insert ∷ keywords.Integer ∷ keywords.Into ∷ keywords.On ∷ keywords.Only ∷ keywords.Option ∷ keywords.Revoke ∷ keywords.Select ∷ keywords.Set ∷ keywords.Table ∷ keywords.Text ∷ keywords.To ∷ keywords.Update ∷ keywords.Values ∷ keywords.Where ∷ keywords.With ∷ []
 

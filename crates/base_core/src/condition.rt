@@ -35,6 +35,14 @@ pub struct Assignment {
     pub value: Value,
 }
 
+impl Named for Condition {
+    ghost name_of = { λ c. c.column };
+
+    fn name(&self) -> Name {
+        self.column
+    }
+}
+
 impl Named for Assignment {
     ghost name_of = { λ a. a.column };
 

@@ -1,8 +1,8 @@
 //! The reserved words.
 
-ghost use Rattle.std.specs.Prelude.{◌≡◌, ◌≢◌, map, MatchOption};
-ghost use Rattle.std.specs.List.{find};
-ghost use Rattle.base_core.specs.Words.{text_of, is_spelled_by, keyword_of};
+ghost use Rattle.std.specs.Prelude.{◌≡◌, map};
+ghost use Rattle.std.specs.List.{filter, find};
+ghost use Rattle.base_core.specs.Words.{all_keywords, begins_with, text_of, is_spelled_by, keyword_of};
 
 #[derive(Clone, Copy, Debug, PartialEq, Eq)]
 pub enum Keyword {
@@ -32,34 +32,6 @@ pub enum Keyword {
     Where,
     With,
 }
-
-const KEYWORDS: [Keyword; 25] = [
-    Keyword::And,
-    Keyword::Checkpoint,
-    Keyword::Checkpoints,
-    Keyword::Create,
-    Keyword::Delete,
-    Keyword::Export,
-    Keyword::For,
-    Keyword::From,
-    Keyword::Grant,
-    Keyword::Insert,
-    Keyword::Integer,
-    Keyword::Into,
-    Keyword::On,
-    Keyword::Only,
-    Keyword::Option,
-    Keyword::Revoke,
-    Keyword::Select,
-    Keyword::Set,
-    Keyword::Table,
-    Keyword::Text,
-    Keyword::To,
-    Keyword::Update,
-    Keyword::Values,
-    Keyword::Where,
-    Keyword::With,
-];
 
 impl Keyword {
     /// The keyword in capitals.
@@ -105,7 +77,32 @@ impl Keyword {
     pub fn read(word: &[u8]) -> Option<Keyword>
         ensures { result ≡ keyword_of word.now }
     {
-        first_spelled(&KEYWORDS, word)
+        let initial = word.first()?.to_ascii_lowercase();
+        first_spelled(beginning_with(initial), word)
+    }
+}
+
+/// The keywords that begin with a small letter: three at most, so that a word is compared with few.
+#[tactic(auto, unfolding(crate::specs::Words::all_keywords))]
+fn beginning_with(initial: u8) -> &'static [Keyword]
+    ensures { result.now ≡ filter (begins_with initial) all_keywords }
+{
+    match initial {
+        b'a' => &[Keyword::And],
+        b'c' => &[Keyword::Checkpoint, Keyword::Checkpoints, Keyword::Create],
+        b'd' => &[Keyword::Delete],
+        b'e' => &[Keyword::Export],
+        b'f' => &[Keyword::For, Keyword::From],
+        b'g' => &[Keyword::Grant],
+        b'i' => &[Keyword::Insert, Keyword::Integer, Keyword::Into],
+        b'o' => &[Keyword::On, Keyword::Only, Keyword::Option],
+        b'r' => &[Keyword::Revoke],
+        b's' => &[Keyword::Select, Keyword::Set],
+        b't' => &[Keyword::Table, Keyword::Text, Keyword::To],
+        b'u' => &[Keyword::Update],
+        b'v' => &[Keyword::Values],
+        b'w' => &[Keyword::Where, Keyword::With],
+        _ => &[],
     }
 }
 

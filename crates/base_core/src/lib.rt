@@ -37,6 +37,7 @@ mod sequence;
 mod stream;
 mod text;
 mod value;
+mod word;
 
 pub use bounded::{Distinct, Limited, Named, Several};
 pub use condition::{Assignment, Comparison, Condition, cell, is_chosen, place_of};
@@ -50,6 +51,7 @@ pub use sequence::{Sequence, twins_of};
 pub use stream::{Broken, Sink, Source, StdSink, StdSource, write_all};
 pub use text::Text;
 pub use value::{ColType, Column, Moment, Row, Value};
+pub use word::{MAX_NAME, Word, is_word_byte};
 
 #[cfg(test)]
 mod tests;

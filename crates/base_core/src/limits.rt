@@ -1,5 +1,5 @@
 //! How much the core keeps.
-ghost use Rattle.std.specs.Prelude.{◌≡◌, ◌≤◌};
+ghost use Rattle.std.specs.Prelude.{◌≤◌};
 
 /// How much there may be, each at most what `full` has.
 #[derive(Clone, Copy, Debug, PartialEq, Eq)]
@@ -18,12 +18,11 @@ pub struct Limits {
 }
 
 impl Limits {
+    ghost use Rattle.base_core.specs.Full.{IsFull};
+
     /// 1,000,000 changes, 1,024 tables, 1,024 grants, 1,000,000 checkpoints.
     pub fn full() -> Limits
-        ensures changes { result.changes ≡ 1000000 }
-        ensures tables { result.tables ≡ 1024 }
-        ensures grants { result.grants ≡ 1024 }
-        ensures checkpoints { result.checkpoints ≡ 1000000 }
+        ensures { IsFull result }
     {
         Limits {
             changes: 1_000_000,

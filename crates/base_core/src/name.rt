@@ -1,20 +1,17 @@
 //! Names of tables, columns and users.
-ghost use Rattle.std.specs.Prelude.{◌≡◌, ◌≢◌, map, MatchOption, IsTrue, IfSome, List, length, slice_index};
-ghost use Rattle.std.specs.Char.{is_ascii_alphabetic};
-ghost use Rattle.base_core.specs.Words.{is_word, is_word_byte, is_name, name_of, folded, IsName};
+ghost use Rattle.std.specs.Prelude.{◌≡◌, true, length};
+ghost use Rattle.base_core.specs.Words.{is_name, name_of, folded, IsName};
 
 use crate::bounded::Named;
-use crate::keyword::Keyword;
+use crate::word::{MAX_NAME, Word, is_word};
 use std::hash::{Hash, Hasher};
 use std::marker::Model;
-
-const MAX_LEN: usize = 30;
 
 /// A word of at most 30 bytes in small letters that is no keyword. Contracts see its bytes.
 #[derive(Clone, Copy, Debug)]
 pub struct Name {
     len: u8,
-    bytes: [u8; MAX_LEN],
+    bytes: [u8; MAX_NAME],
 }
 
 impl Model for Name {
@@ -70,42 +67,33 @@ impl Hash for Name {
     }
 }
 
-fn is_word_byte(byte: u8) -> bool
-    ensures { result ≡ is_word_byte byte }
-{
-    byte.is_ascii_alphanumeric() || byte == b'_'
-}
-
-fn starts_with_letter(bytes: &[u8]) -> bool
-    ensures { result ≡ is_ascii_alphabetic (slice_index bytes.now 0) }
-{
-    bytes
-        .first()
-        .is_some_and(|first| first.is_ascii_alphabetic())
-}
-
-fn is_word(word: &[u8]) -> bool
-    ensures { result ≡ is_word word.now }
-{
-    starts_with_letter(word) && word.iter().all(|byte| is_word_byte(*byte))
-}
-
 impl Name {
     /// The name that a word spells, in any case: its letters are made small. None for what is no
     /// word, for more than 30 bytes, and for a keyword.
     pub fn read(word: &[u8]) -> Option<Name>
         ensures { result ≡ name_of word.now }
     {
-        if !is_word(word) || word.len() > MAX_LEN || Keyword::read(word).is_some() {
+        if word.len() > MAX_NAME || !is_word(word) {
             return None;
         }
-        let mut bytes = [0; MAX_LEN];
+        match Word::read(word) {
+            Word::Keyword(_) => None,
+            Word::Name(name) => Some(name),
+        }
+    }
+
+    /// The name that a word spells which is no keyword and has at most 30 bytes.
+    pub(crate) fn of_word(word: &[u8]) -> Name
+        requires { is_name word.now ≡ true }
+        ensures { result ≡ folded word.now }
+    {
+        let mut bytes = [0; MAX_NAME];
         bytes[..word.len()].copy_from_slice(word);
         bytes.make_ascii_lowercase();
-        Some(Name {
+        Name {
             len: word.len() as u8,
             bytes,
-        })
+        }
     }
 
     pub fn as_bytes(&self) -> &[u8]

@@ -1,10 +1,12 @@
 -- A quoted text says one text: its inside, with each doubled quote once.
-use Rattle.std.proofs.Common.{◌≡◌, ℕ, ◌+◌, ◌-◌, ◌/◌, ◌%◌, ◌≤◌, Bool, true, false, cond, List, [], ◌∷◌, ◌++◌, length, take, drop, refl, sym, ◌∙◌, ap, arith, ltb, length-append}
+use Rattle.std.proofs.Common.{◌≡◌, ℕ, ◌+◌, ◌-◌, ◌/◌, ◌%◌, ◌≤◌, Bool, true, false, cond, List, [], ◌∷◌, ◌++◌, length, take, drop, refl, sym, ◌∙◌, ap, subst, arith, ltb, length-append}
+use Rattle.std.proofs.lemmas.Bool.{or_parts}
 use Rattle.std.proofs.lemmas.List.{take_at}
 use Rattle.std.proofs.lemmas.Bool.Decides.{nat_tests}
 use Rattle.std.specs.Prelude.{◌==◌, if◌then◌else◌}
 use Rattle.std.specs.Char.{encode_utf8}
-use Rattle.std.specs.Str.{encode_utf8_all}
+use Rattle.std.specs.List.{list_any}
+use Rattle.std.specs.Str.{IsUtf8, encode_utf8_all}
 use Rattle.base_core.specs.Texts.{IsText}
 use Rattle.lexer_core.specs.Text.{written_all}
 use Rattle.lexer_core.specs.Lexing.{QuotesText, undoubled, unquoted}
@@ -60,3 +62,33 @@ says_unquoted t quoted q =
 
 pub quoted_text : (t quoted : List ℕ) → QuotesText t quoted → IsText t
 quoted_text t quoted q = record { chars = q.chars; plain = q.quoted.plain; encoded = q.value; short = q.short }
+
+-- bytes without a quote say themselves
+no_quote_stays : (w : List ℕ) → list_any (λ b. b == 39) w ≡ false → undoubled false w ≡ w
+unfolding undoubled
+no_quote_stays [] e = refl
+no_quote_stays (b ∷ w) e =
+    let parts = or_parts (b == 39) (list_any (λ b. b == 39) w) e in
+    stays b w parts.0 ∙ ap (λ (u : List ℕ). b ∷ u) (no_quote_stays w parts.1)
+
+-- what stands between the quotes of a text
+abbrev inside_of : List ℕ → List ℕ
+inside_of quoted = take (length quoted - 1 - 1) (drop 1 quoted)
+
+-- with no quote among it, it is the text
+module _ (t quoted : List ℕ) (q : QuotesText t quoted) (none : list_any (λ b. b == 39) (inside_of quoted) ≡ false) where
+  said : t ≡ inside_of quoted
+  unfolding unquoted
+  said =
+      let same : length quoted - 2 ≡ length quoted - 1 - 1 = omega arith in
+      says_unquoted t quoted q
+      ∙ (ap (λ (n : ℕ). undoubled false (take n (drop 1 quoted))) same ∙ no_quote_stays (inside_of quoted) none)
+
+  pub inside_said : inside_of quoted ≡ unquoted quoted
+  inside_said = sym said ∙ says_unquoted t quoted q
+
+  pub inside_is_utf8 : IsUtf8 (inside_of quoted)
+  inside_is_utf8 = (q.chars, (q.quoted.plain.scalars, sym q.value ∙ said))
+
+  pub inside_is_text : IsText (inside_of quoted)
+  inside_is_text = subst IsText said (quoted_text t quoted q)

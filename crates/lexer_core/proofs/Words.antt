@@ -1,14 +1,13 @@
 -- Words and digits at the front.
 use Rattle.std.proofs.lemmas.Bool.{and_from}
-use Rattle.std.proofs.Common.{◌≡◌, ℕ, suc, ◌+◌, ◌<◌, ◌≤◌, Bool, true, false, cond, ◌&&◌, ◌||◌, List, [], ◌∷◌, Option, Some, None, length, take, get_or, refl, sym, ◌∙◌, ap, subst, arith}
+use Rattle.std.proofs.Common.{◌≡◌, ℕ, suc, ◌+◌, ◌<◌, ◌≤◌, Bool, true, false, cond, ◌||◌, List, [], ◌∷◌, Some, length, take, get_or, refl, sym, ◌∙◌, ap, subst, arith}
 use Rattle.std.proofs.lemmas.List.{get_or-take, length-take-le}
 use Rattle.std.proofs.lemmas.List.Sums.{prefix_len-le-length, prefix_len_passes}
-use Rattle.std.proofs.lemmas.Bool.Decides.{nat_tests}
-use Rattle.std.specs.Prelude.{nat_le, not, is_some, if◌then◌else◌, ◌==◌}
+use Rattle.std.specs.Prelude.{◌==◌}
 use Rattle.std.specs.Int.{is_in_range}
 use Rattle.std.specs.List.{prefix_len, list_all}
 use Rattle.std.specs.Char.{is_ascii_alphabetic}
-use Rattle.base_core.specs.Words.{is_word_byte, is_word, is_name, name_of, folded, keyword_of}
+use Rattle.base_core.specs.Words.{is_word_byte, is_word, name_of, keyword_of}
 use Rattle.base_core.specs.declared.keyword.Keyword.{Keyword}
 use Rattle.lexer_core.specs.declared.token.Kind.TheVariants as kinds
 use Rattle.lexer_core.specs.Lexing.{Key, Named, BeginsKind}
@@ -46,15 +45,6 @@ word_byte false true l v e = refl
 word_byte false false true v e = refl
 word_byte false false false v e = cc
 
-some_or_none : {A : Type 0} (x : A) (o : Option A) → o ≡ Some x → o ≡ None → ⊥
-some_or_none x o e f = let clash : Some x ≡ None = sym e ∙ f in cc clash
-
-le_test : (a b : ℕ) → a ≤ b → nat_le a b ≡ true
-le_test a b h = grind (arith, nat_tests)
-
-named_if : (b : Bool) (w : List ℕ) → b ≡ true → (if b then Some w else None) ≡ Some w
-named_if b w e = rw e refl
-
 pub letter_is_word_byte : (b : ℕ) → is_ascii_alphabetic b ≡ true → is_word_byte b ≡ true
 letter_is_word_byte b e = word_byte (is_in_range 48 57 b) (is_in_range 65 90 b) (is_in_range 97 122 b) (b == 95) e
 
@@ -68,23 +58,14 @@ module _ (bytes : List ℕ) (n : ℕ) (is : n ≡ prefix_len is_word_byte bytes)
   word_ends : is_word_byte (get_or bytes n 0) ≡ false
   word_ends = subst (λ (m : ℕ). is_word_byte (get_or bytes m 0) ≡ false) (sym is) (stops is_word_byte refl bytes)
 
-  front_is_word : is_word (take n bytes) ≡ true
+  pub front_is_word : is_word (take n bytes) ≡ true
   front_is_word =
       let first : get_or (take n bytes) 0 0 ≡ get_or bytes 0 0 = get_or-take n bytes 0 0 word_some in
       let all : list_all is_word_byte (take n bytes) ≡ true = subst (λ (m : ℕ). list_all is_word_byte (take m bytes) ≡ true) (sym is) (all_front is_word_byte bytes) in
       and_from (is_ascii_alphabetic (get_or (take n bytes) 0 0)) (list_all is_word_byte (take n bytes)) (ap is_ascii_alphabetic first ∙ letter) all
 
-  pub keyword_first : (k : Keyword) → Some k ≡ keyword_of (take n bytes) → BeginsKind bytes (kinds.Keyword k) n
-  keyword_first k e = record { lexeme = Key k; same = refl; begins = record { some = word_some; within = word_within; spelled = (front_is_word, sym e); ends = word_ends } }
+  pub keyword_first : (k : Keyword) → keyword_of (take n bytes) ≡ Some k → BeginsKind bytes (kinds.Keyword k) n
+  keyword_first k e = record { lexeme = Key k; same = refl; begins = record { some = word_some; within = word_within; spelled = (front_is_word, e); ends = word_ends } }
 
-  pub name_first : (name : List ℕ) → Some name ≡ name_of (take n bytes) → BeginsKind bytes (kinds.Name name) n
-  name_first name e = record { lexeme = Named name; same = refl; begins = record { some = word_some; within = word_within; spelled = (front_is_word, sym e); ends = word_ends } }
-
-  pub word_or_name : n ≤ 30 → None ≡ keyword_of (take n bytes) → None ≡ name_of (take n bytes) → ⊥
-  word_or_name short no_keyword no_name =
-      let w : List ℕ = take n bytes in
-      let len : length w ≡ n = length-take-le n bytes word_within in
-      let fits : length w ≤ 30 = omega arith in
-      let le : nat_le (length w) 30 ≡ true = le_test (length w) 30 fits in
-      let free : not (is_some (keyword_of w)) ≡ true = ap (λ (o : Option Keyword). not (is_some o)) (sym no_keyword) in
-      some_or_none (folded w) (name_of w) (named_if (is_name w) (folded w) (and_from (is_word w && nat_le (length w) 30) (not (is_some (keyword_of w))) (and_from (is_word w) (nat_le (length w) 30) front_is_word le) free)) (sym no_name)
+  pub name_first : (name : List ℕ) → name_of (take n bytes) ≡ Some name → BeginsKind bytes (kinds.Name name) n
+  name_first name e = record { lexeme = Named name; same = refl; begins = record { some = word_some; within = word_within; spelled = (front_is_word, e); ends = word_ends } }

@@ -1,8 +1,12 @@
 -- Characters of texts.
-use Rattle.std.specs.Prelude.{◌≡◌, ◌≢◌, ℕ, true, ◌==◌, List, ◌∷◌, ◌++◌, [], length, if◌then◌else◌}
+use Rattle.std.specs.Prelude.{◌≡◌, ◌≢◌, ℕ, Bool, true, ◌||◌, ◌==◌, List, ◌∷◌, ◌++◌, [], length, if◌then◌else◌}
 use Rattle.std.specs.List.{flat_map}
-use Rattle.std.specs.Char.{encode_utf8, len_utf8, IsScalar}
+use Rattle.std.specs.Char.{encode_utf8, is_ascii_graphic, len_utf8, IsScalar}
 use Rattle.base_core.specs.Texts.{is_printable, ArePlain}
+
+-- a character of one byte that is no control character
+abbrev pub is_printable_ascii : ℕ → Bool
+is_printable_ascii b = is_ascii_graphic b || (b == 32)
 
 -- how a text writes a character: a quote is doubled
 abbrev pub written : ℕ → List ℕ

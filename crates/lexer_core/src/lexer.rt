@@ -15,7 +15,11 @@ use std::alloc::Global;
 /// The longest line that is read, in bytes, without its line end.
 pub const MAX_LINE: usize = 4096;
 
-fn is_blank(byte: u8) -> bool
+/// For how many tokens there is room from the start: a usual line has no more.
+const USUAL_TOKENS: usize = 16;
+
+/// Whether the byte is a space or a tab, which separate tokens.
+pub fn is_blank(byte: u8) -> bool
     ensures { result ≡ is_blank byte }
 {
     byte == b' ' || byte == b'\t'
@@ -73,7 +77,9 @@ pub fn tokens(alloc: Global, line: &[u8]) -> Result<Vec<Token>, ReadFault>
             offset: MAX_LINE,
         });
     }
-    let mut tokens = Vec::new(alloc);
+    let Ok(mut tokens) = Vec::with_capacity(alloc, line.len().min(USUAL_TOKENS)) else {
+        return Err(ReadFault::NoMemory);
+    };
     let mut at = 0;
     while at < line.len() {
         if is_blank(line[at]) {

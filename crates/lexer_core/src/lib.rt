@@ -21,8 +21,9 @@
 //! That a line says one thing, has one list of tokens and one fault, and never both, are laws, each on
 //! an empty function.
 //!
-//! Reading goes over the bytes of a line once. [`tokens`] takes memory for its vector, [`unquoted`]
-//! for its text; nothing else takes any.
+//! Reading goes over the bytes of a line once, and over those of a word or a number once more, to
+//! say which it is. [`tokens`] takes memory for its vector: once for a usual line, of at most 16
+//! tokens. [`unquoted`] takes memory for its text, once. Nothing else takes any.
 #![tactic(auto)]
 
 mod bytes;
@@ -35,13 +36,14 @@ mod text;
 mod token;
 mod word;
 
+pub use base_core::MAX_NAME;
 pub use bytes::byte_at;
 pub use fault::{Code, ReadFault};
 pub use laws::{one_fault, one_list_of_tokens, one_reading, said_or_faulty};
-pub use lexer::{MAX_LINE, tokens};
+pub use lexer::{MAX_LINE, is_blank, tokens};
 pub use text::unquoted;
 pub use token::{Kind, Mark, Token};
-pub use word::{MAX_NAME, word_len};
+pub use word::word_len;
 
 #[cfg(test)]
 mod tests;

@@ -9,7 +9,7 @@ ghost use Rattle.lexer_core.specs.Lexing.{BeginsKind, FailsWith, IsNumber, IsToo
 use crate::bytes::byte_at;
 use crate::fault::{Code, Fault};
 use crate::token::Kind;
-use crate::word::is_word_byte;
+use base_core::is_word_byte;
 
 fn digits_len(bytes: &[u8]) -> usize
     ensures len { result ≡ prefix_len is_ascii_digit bytes.now }

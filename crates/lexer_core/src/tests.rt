@@ -59,13 +59,17 @@ fn tokens_of_a_line(rt: HostRuntime) -> Result<(), Fail> {
 
 #[test]
 fn text_of_a_token(rt: HostRuntime) -> Result<(), Fail> {
-    let line = "a = 'it''s \u{e9}'".as_bytes();
+    let line = "a = 'it''s \u{e9}' 'na\u{ef}ve'".as_bytes();
     let tokens = tokens(rt.alloc(), line)?;
-    assert_eq!(rt; tokens.len(), 3);
+    assert_eq!(rt; tokens.len(), 4);
     let token = tokens[2];
     assert_eq!(rt; token.kind, Kind::Text);
     let text = unquoted(rt.alloc(), &line[token.start..token.end])?;
     assert_eq!(rt; text.as_str(), "it's \u{e9}");
+    let token = tokens[3];
+    assert_eq!(rt; token.kind, Kind::Text);
+    let text = unquoted(rt.alloc(), &line[token.start..token.end])?;
+    assert_eq!(rt; text.as_str(), "na\u{ef}ve");
     Ok(())
 }
 

@@ -3,7 +3,7 @@
 ghost use Rattle.std.specs.Prelude.{◌≡◌, ◌≢◌, false, true, ℕ, List, ◌<◌, ◌≤◌, ◌++◌, ◌∷◌, length, drop, slice_index, MatchResult, IfErr, IfOk, MatchOption};
 ghost use Rattle.std.specs.Char.{IsScalar, encode_utf8};
 ghost use Rattle.std.specs.Str.{StartsWithNoChar};
-ghost use Rattle.lexer_core.specs.Text.{BeginsWithNoPlain, BeginsWithPlain, written_len};
+ghost use Rattle.lexer_core.specs.Text.{BeginsWithNoPlain, BeginsWithPlain, is_printable_ascii, written_len};
 ghost use Rattle.lexer_core.specs.Lexing.{BeginsKind, FailsWith, IsSomeText, unquoted};
 
 use crate::bytes::byte_at;
@@ -22,10 +22,19 @@ fn first_char(bytes: &[u8]) -> Option<char>
     front.utf8_chunks().next()?.valid().chars().next()
 }
 
+fn is_printable_ascii(byte: u8) -> bool
+    ensures { result ≡ is_printable_ascii byte }
+{
+    byte.is_ascii_graphic() || byte == b' '
+}
+
 /// The length of the character that the bytes begin with, if it may stand in a text.
 fn plain_len(bytes: &[u8]) -> Option<usize>
     ensures { MatchOption result (BeginsWithNoPlain bytes.now) (BeginsWithPlain bytes.now) }
 {
+    if is_printable_ascii(byte_at(bytes, 0)) {
+        return Some(1);
+    }
     let first = first_char(bytes)?;
     if first.is_control() {
         None
@@ -80,14 +89,13 @@ fn written_len(char: char) -> usize
     if char == '\'' { 2 } else { char.len_utf8() }
 }
 
-/// What a quoted text says: its characters, a doubled quote once. The bytes are those of a token
-/// of kind `Text`, with its quotes. Takes memory for the text.
-pub fn unquoted(alloc: Global, quoted: &[u8]) -> Result<Text, AllocError>
+/// What a quoted text says whose quotes are doubled.
+fn with_quotes_once(alloc: Global, quoted: &[u8]) -> Result<Text, AllocError>
     requires text { IsSomeText quoted.now }
     requires short { length quoted.now ≤ 4096 }
     ensures { IfOk result (λ text. text ≡ unquoted quoted.now) }
 {
-    let mut text = String::new(alloc);
+    let mut text = String::with_capacity(alloc, quoted.len())?;
     let mut at = 1;
     while at + 1 < quoted.len() {
         match first_char(&quoted[at..]) {
@@ -99,4 +107,21 @@ pub fn unquoted(alloc: Global, quoted: &[u8]) -> Result<Text, AllocError>
         }
     }
     Ok(Text::from_string(text))
+}
+
+/// What a quoted text says: its characters, a doubled quote once. The bytes are those of a token
+/// of kind `Text`, with its quotes. Takes memory for the text, once.
+pub fn unquoted(alloc: Global, quoted: &[u8]) -> Result<Text, AllocError>
+    requires text { IsSomeText quoted.now }
+    requires short { length quoted.now ≤ 4096 }
+    ensures { IfOk result (λ text. text ≡ unquoted quoted.now) }
+{
+    let inside = &quoted[1..quoted.len() - 1];
+    if inside.contains(&b'\'') {
+        return with_quotes_once(alloc, quoted);
+    }
+    match str::from_utf8(inside) {
+        Ok(text) => Ok(Text::from_string(String::from_str(alloc, text)?)),
+        Err(_) => unreachable!(),
+    }
 }

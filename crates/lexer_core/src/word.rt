@@ -8,16 +8,7 @@ ghost use Rattle.lexer_core.specs.Lexing.{BeginsKind, FailsWith};
 
 use crate::fault::{Code, Fault};
 use crate::token::Kind;
-use base_core::{Keyword, Name};
-
-/// The most bytes that a word has.
-pub const MAX_NAME: usize = 30;
-
-pub fn is_word_byte(byte: u8) -> bool
-    ensures { result ≡ is_word_byte byte }
-{
-    byte.is_ascii_alphanumeric() || byte == b'_'
-}
+use base_core::{MAX_NAME, Word, is_word_byte};
 
 /// The number of bytes of letters, digits and `_` at the front. Where the first is a letter, they are
 /// a word.
@@ -41,12 +32,8 @@ pub fn word(bytes: &[u8]) -> Result<(Kind, usize), Fault>
             offset: 0,
         });
     }
-    let word = &bytes[..len];
-    if let Some(keyword) = Keyword::read(word) {
-        return Ok((Kind::Keyword(keyword), len));
-    }
-    match Name::read(word) {
-        Some(name) => Ok((Kind::Name(name), len)),
-        None => unreachable!(),
+    match Word::read(&bytes[..len]) {
+        Word::Keyword(keyword) => Ok((Kind::Keyword(keyword), len)),
+        Word::Name(name) => Ok((Kind::Name(name), len)),
     }
 }

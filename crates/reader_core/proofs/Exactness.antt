@@ -1,5 +1,5 @@
 -- No line spells two statements or has two faults, so that the answer is exact.
-use Rattle.std.proofs.Common.{◌≡◌, ℕ, List, [], ◌∷◌, ◌++◌, map, length, Some, None, Result, Ok, Err, IfOk, IfErr, ap, sym, subst, ◌∙◌, refl, inl, inr}
+use Rattle.std.proofs.Common.{◌≡◌, ℕ, Bool, List, [], ◌∷◌, ◌++◌, map, length, Some, None, Result, Ok, Err, IfOk, IfErr, ap, sym, subst, ◌∙◌, refl, inl, inr}
 use Rattle.std.proofs.lemmas.List.{map-append}
 use Rattle.lexer_core.specs.Lexing.{Lexeme, Says, AreTokens, IsLineFault, Lexed, start, blank, token, kind_of}
 use Rattle.lexer_core.specs.declared.token.Kind.{Kind}
@@ -11,10 +11,10 @@ use Rattle.reader_core.specs.declared.statement.Statement.{Statement}
 use Rattle.reader_core.specs.declared.statement.Statement.TheVariants as statements
 use Rattle.reader_core.specs.Grammar.{Fault}
 use Rattle.reader_core.specs.Matches.{IsFault, IsWhole}
-use Rattle.reader_core.specs.Language.{statement, SaysStatement, Spells, IsReadFault, lexical, nothing, ungrammatical, IsReadFaultOf, UnlessNoMemory}
+use Rattle.reader_core.specs.Language.{statement, statement_says, SaysStatement, Spells, IsReadFault, lexical, nothing, ungrammatical, IsReadFaultOf, UnlessNoMemory}
 use Rattle.reader_core.proofs.Theory.{sound, judge_from_whole, judge_from_fault, one_fault as one_grammar_fault}
 use Rattle.lexer_core.proofs.Lines.{says_once as one_reading, tokens_once as one_list_of_tokens, says_no_fault as said_or_faulty, fault_once as one_lexical_fault}
-use Rattle.reader_core.proofs.Whole.{says_whole}
+use Rattle.reader_core.proofs.Whole.{says_whole, ending, ended}
 use Rattle.reader_core.proofs.Once.{said_once}
 
 -- ---- the kinds of tokens are those of what they say
@@ -34,13 +34,21 @@ nothing_said line s said says p none =
     let kinds : map kind_of said ≡ [] = sym (lexed_kinds line (length line) says.tokens_of said says.lexed) ∙ ap (map (λ t. t.kind)) same in
     some_said said s p kinds
   where
+    begins : (s : Statement) (b : Bool) → [] ≡ statement_says s ++ ending b → ⊥
+    begins (statements.CreateTable t cs) b e = cc
+    begins (statements.Insert t vs) b e = cc
+    begins (statements.Select l t f) b e = cc
+    begins (statements.Delete t f) b e = cc
+    begins (statements.Update t xs f) b e = cc
+    begins (statements.Grant p t us o) b e = cc
+    begins (statements.Revoke p t us) b e = cc
+    begins statements.Checkpoint b e = cc
+    begins statements.Checkpoints b e = cc
+    begins (statements.Export n o) b e = cc
+
     some_said : (said : List Lexeme) (s : Statement) → SaysStatement said s → map kind_of said ≡ [] → ⊥
-    some_said said (statements.CreateTable t cs) (inl e) k = let z = ap (map kind_of) (sym e) ∙ k in cc
-    some_said said (statements.CreateTable t cs) (inr e) k = let z = ap (map kind_of) (sym e) ∙ k in cc
-    some_said said (statements.Insert t vs) (inl e) k = let z = ap (map kind_of) (sym e) ∙ k in cc
-    some_said said (statements.Insert t vs) (inr e) k = let z = ap (map kind_of) (sym e) ∙ k in cc
-    some_said said (statements.Select t) (inl e) k = let z = ap (map kind_of) (sym e) ∙ k in cc
-    some_said said (statements.Select t) (inr e) k = let z = ap (map kind_of) (sym e) ∙ k in cc
+    some_said [] s p k = let e = ended [] s p in begins s e.0 e.1
+    some_said (l ∷ said) s p k = cc
 
 no_fault : (f : Fault) → None ≡ Some f → ⊥
 no_fault f e = cc

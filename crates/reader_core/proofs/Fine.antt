@@ -3,7 +3,6 @@ use Rattle.std.proofs.Common.{◌≡◌, ℕ, ◌+◌, ◌≤◌, ◌<◌, Bool,
 use Rattle.std.specs.List.{list_any, list_all}
 use Rattle.std.proofs.lemmas.List.{length-map}
 use Rattle.std.proofs.lemmas.List.Folds.{list_all-append}
-use Rattle.std.proofs.lemmas.Simd.{map-map}
 use Rattle.std.proofs.lemmas.Bool.{and_parts, and_from}
 use Rattle.std.proofs.lemmas.Bool.Decides.{nat_tests}
 use Rattle.base_core.specs.Words.{same_name}
@@ -13,7 +12,9 @@ use Rattle.lexer_core.specs.declared.token.Kind.TheVariants as kinds
 use Rattle.lexer_core.specs.declared.fault.Code.{Code}
 use Rattle.lexer_core.specs.declared.fault.Code.TheVariants as codes
 use Rattle.reader_core.specs.Grammar.{Rule, AreFine, mark_from, same}
-use Rattle.reader_core.specs.Language.{names_rule, commas}
+use Rattle.reader_core.specs.declared.privilege.Privilege.{Privilege}
+use Rattle.reader_core.specs.Privileges.{word_of, word_keyword, same_word, are_different}
+use Rattle.reader_core.specs.Language.{names_rule, commas, privileges_rule}
 
 -- ---- single marks
 no_mark : (repeated : Bool) (full : Bool) → ◌≡◌ {A = Option Code} (if repeated then Some codes.Duplicate else if full then Some codes.TooMany else None) None → (repeated ≡ false) × (full ≡ false)
@@ -39,29 +40,22 @@ fine_few r seen (k ∷ ks) f h =
     let more = fine_few r (seen ++ k ∷ []) ks f.1 (omega (arith, m.1, length-append seen (k ∷ []))) in
     omega (arith, more, length-append seen (k ∷ []))
 
-pub fine_if_few : (limit : ℕ) (seen ks : List Kind) → length seen + length ks ≤ limit → AreFine (commas limit false) seen ks
-fine_if_few limit seen [] h = tt
-fine_if_few limit seen (k ∷ ks) h = (mark_none false (length seen) limit refl (omega arith), fine_if_few limit (seen ++ k ∷ []) ks (omega (arith, length-append seen (k ∷ []))))
+few_fine : (r : Rule) → r.distinct ≡ false → (seen ks : List Kind) → length seen + length ks ≤ r.limit → AreFine r seen ks
+few_fine r any seen [] h = tt
+few_fine r any seen (k ∷ ks) h = (mark_none (r.distinct && list_any (λ x. same x k) seen) (length seen) r.limit (ap (λ b. b && list_any (λ x. same x k) seen) any) (omega arith), few_fine r any (seen ++ k ∷ []) ks (omega (arith, length-append seen (k ∷ []))))
 
--- ---- different names
-abbrev named : List (List ℕ) → List Kind
-named names = map (λ n. kinds.Name n) names
+-- items that may repeat
+pub fine_if_few : {A : Type 0} (r : Rule) (first : A → Kind) (xs : List A) → r.distinct ≡ false → length xs ≤ r.limit → AreFine r [] (map first xs)
+fine_if_few r first xs any h = few_fine r any [] (map first xs) (omega (arith, length-map xs first))
+
+-- ---- different items, as a test tells them apart
+abbrev pub differ : {A : Type 0} → (A → A → Bool) → List A → Bool
+differ same_item [] = true
+differ same_item (x ∷ xs) = not (list_any (same_item x) xs) && differ same_item xs
 
 -- none of the ones is among the others
-abbrev are_apart : List (List ℕ) → List (List ℕ) → Bool
-are_apart ones others = list_all (λ x. not (list_any (same_name x) others)) ones
-
-apart_nil : (ones : List (List ℕ)) → are_apart ones [] ≡ true
-apart_nil [] = refl
-apart_nil (x ∷ ones) = apart_nil ones
-
-named_push : (names : List (List ℕ)) (n : List ℕ) → named (names ++ n ∷ []) ≡ named names ++ kinds.Name n ∷ []
-named_push [] n = refl
-named_push (x ∷ names) n = ap (λ ks. kinds.Name x ∷ ks) (named_push names n)
-
-any_named : (names : List (List ℕ)) (n : List ℕ) → list_any (λ x. same x (kinds.Name n)) (named names) ≡ list_any (λ x. same_name x n) names
-any_named [] n = refl
-any_named (x ∷ names) n = ap (λ b. same_name x n || b) (any_named names n)
+abbrev are_apart : {A : Type 0} → (A → A → Bool) → List A → List A → Bool
+are_apart same_item ones others = list_all (λ x. not (list_any (same_item x) others)) ones
 
 neither : (x y : Bool) → (x || y) ≡ false → (x ≡ false) × (y ≡ false)
 neither true y e = cc
@@ -74,53 +68,94 @@ not_true false e = refl
 not_false : (b : Bool) → b ≡ false → not b ≡ true
 not_false b e = ap not e
 
-apart_more : (ones : List (List ℕ)) (n : List ℕ) (others : List (List ℕ)) → list_any (λ x. same_name x n) ones ≡ false → are_apart ones others ≡ true → are_apart ones (n ∷ others) ≡ true
-apart_more [] n others e a = refl
-apart_more (x ∷ ones) n others e a =
-    let p = neither (same_name x n) (list_any (λ y. same_name y n) ones) e in
-    let q = and_parts (not (list_any (same_name x) others)) (are_apart ones others) a in
-    and_from (not (same_name x n || list_any (same_name x) others)) (are_apart ones (n ∷ others)) (ap (λ b. not (b || list_any (same_name x) others)) p.0 ∙ q.0) (apart_more ones n others p.1 q.1)
+module _ {A : Type 0} (same_item : A → A → Bool) where
+  apart_nil : (ones : List A) → are_apart same_item ones [] ≡ true
+  apart_nil [] = refl
+  apart_nil (x ∷ ones) = apart_nil ones
 
-apart_less : (ones : List (List ℕ)) (n : List ℕ) (others : List (List ℕ)) → are_apart ones (n ∷ others) ≡ true → (list_any (λ x. same_name x n) ones ≡ false) × (are_apart ones others ≡ true)
-apart_less [] n others a = (refl, refl)
-apart_less (x ∷ ones) n others a =
-    let q = and_parts (not (same_name x n || list_any (same_name x) others)) (are_apart ones (n ∷ others)) a in
-    let p = neither (same_name x n) (list_any (same_name x) others) (not_true (same_name x n || list_any (same_name x) others) q.0) in
-    let more = apart_less ones n others q.1 in
-    (ap (λ b. b || list_any (λ y. same_name y n) ones) p.0 ∙ more.0, and_from (not (list_any (same_name x) others)) (are_apart ones others) (not_false (list_any (same_name x) others) p.1) more.1)
+  apart_more : (ones : List A) (n : A) (others : List A) → list_any (λ x. same_item x n) ones ≡ false → are_apart same_item ones others ≡ true → are_apart same_item ones (n ∷ others) ≡ true
+  apart_more [] n others e a = refl
+  apart_more (x ∷ ones) n others e a =
+      let p = neither (same_item x n) (list_any (λ y. same_item y n) ones) e in
+      let q = and_parts (not (list_any (same_item x) others)) (are_apart same_item ones others) a in
+      and_from (not (same_item x n || list_any (same_item x) others)) (are_apart same_item ones (n ∷ others)) (ap (λ b. not (b || list_any (same_item x) others)) p.0 ∙ q.0) (apart_more ones n others p.1 q.1)
 
-apart_push : (ones : List (List ℕ)) (n : List ℕ) (others : List (List ℕ)) → are_apart (ones ++ n ∷ []) others ≡ (are_apart ones others && (not (list_any (same_name n) others) && true))
-apart_push ones n others = list_all-append (λ x. not (list_any (same_name x) others)) ones (n ∷ [])
+  apart_less : (ones : List A) (n : A) (others : List A) → are_apart same_item ones (n ∷ others) ≡ true → (list_any (λ x. same_item x n) ones ≡ false) × (are_apart same_item ones others ≡ true)
+  apart_less [] n others a = (refl, refl)
+  apart_less (x ∷ ones) n others a =
+      let q = and_parts (not (same_item x n || list_any (same_item x) others)) (are_apart same_item ones (n ∷ others)) a in
+      let p = neither (same_item x n) (list_any (same_item x) others) (not_true (same_item x n || list_any (same_item x) others) q.0) in
+      let more = apart_less ones n others q.1 in
+      (ap (λ b. b || list_any (λ y. same_item y n) ones) p.0 ∙ more.0, and_from (not (list_any (same_item x) others)) (are_apart same_item ones others) (not_false (list_any (same_item x) others) p.1) more.1)
 
-fine_apart : (limit : ℕ) (seen names : List (List ℕ)) → AreFine (names_rule limit) (named seen) (named names) → (are_distinct names ≡ true) × (are_apart seen names ≡ true)
-fine_apart limit seen [] f = (refl, apart_nil seen)
-fine_apart limit seen (n ∷ names) f =
-    let m = unmarked (list_any (λ x. same x (kinds.Name n)) (named seen)) (length (named seen)) limit f.0 in
-    let more = fine_apart limit (seen ++ n ∷ []) names (subst (λ (ks : List Kind). AreFine (names_rule limit) ks (named names)) (sym (named_push seen n)) f.1) in
-    let q = and_parts (are_apart seen names) (not (list_any (same_name n) names) && true) (sym (apart_push seen n names) ∙ more.1) in
-    let new = and_parts (not (list_any (same_name n) names)) true q.1 in
-    (and_from (not (list_any (same_name n) names)) (are_distinct names) new.0 more.0, apart_more seen n names (sym (any_named seen n) ∙ m.0) q.0)
+  apart_push : (ones : List A) (n : A) (others : List A) → are_apart same_item (ones ++ n ∷ []) others ≡ (are_apart same_item ones others && (not (list_any (same_item n) others) && true))
+  apart_push ones n others = list_all-append (λ x. not (list_any (same_item x) others)) ones (n ∷ [])
 
-apart_fine : (limit : ℕ) (seen names : List (List ℕ)) → length seen + length names ≤ limit → are_distinct names ≡ true → are_apart seen names ≡ true → AreFine (names_rule limit) (named seen) (named names)
-apart_fine limit seen [] h d a = tt
-apart_fine limit seen (n ∷ names) h d a =
-    let p = and_parts (not (list_any (same_name n) names)) (are_distinct names) d in
-    let q = apart_less seen n names a in
-    let count : length (named seen) ≡ length seen = length-map seen (λ x. kinds.Name x) in (
-      mark_none (list_any (λ x. same x (kinds.Name n)) (named seen)) (length (named seen)) limit (any_named seen n ∙ q.0) (omega arith),
-      subst (λ (ks : List Kind). AreFine (names_rule limit) ks (named names)) (named_push seen n)
-          (apart_fine limit (seen ++ n ∷ []) names (omega (arith, length-append seen (n ∷ []))) p.1
-          (apart_push seen n names ∙ and_from (are_apart seen names) (not (list_any (same_name n) names) && true) q.1 (and_from (not (list_any (same_name n) names)) true p.0 refl))),
-    )
+firsts_push : {A : Type 0} (first : A → Kind) (xs : List A) (n : A) → map first (xs ++ n ∷ []) ≡ map first xs ++ first n ∷ []
+firsts_push first [] n = refl
+firsts_push first (x ∷ xs) n = ap (λ ks. first x ∷ ks) (firsts_push first xs n)
 
--- items by their names
+-- items that their first tokens tell apart
+module _ {A : Type 0} (same_item : A → A → Bool) (first : A → Kind) (tells : (x y : A) → same (first x) (first y) ≡ same_item x y) (limit : ℕ) where
+  any_first : (xs : List A) (n : A) → list_any (λ k. same k (first n)) (map first xs) ≡ list_any (λ x. same_item x n) xs
+  any_first [] n = refl
+  any_first (x ∷ xs) n = ap (λ b. b || list_any (λ k. same k (first n)) (map first xs)) (tells x n) ∙ ap (λ b. same_item x n || b) (any_first xs n)
+
+  fine_apart : (seen xs : List A) → AreFine (commas limit true) (map first seen) (map first xs) → (differ same_item xs ≡ true) × (are_apart same_item seen xs ≡ true)
+  fine_apart seen [] f = (refl, apart_nil same_item seen)
+  fine_apart seen (n ∷ xs) f =
+      let m = unmarked (list_any (λ k. same k (first n)) (map first seen)) (length (map first seen)) limit f.0 in
+      let more = fine_apart (seen ++ n ∷ []) xs (subst (λ (ks : List Kind). AreFine (commas limit true) ks (map first xs)) (sym (firsts_push first seen n)) f.1) in
+      let q = and_parts (are_apart same_item seen xs) (not (list_any (same_item n) xs) && true) (sym (apart_push same_item seen n xs) ∙ more.1) in
+      let new = and_parts (not (list_any (same_item n) xs)) true q.1 in
+      (and_from (not (list_any (same_item n) xs)) (differ same_item xs) new.0 more.0, apart_more same_item seen n xs (sym (any_first seen n) ∙ m.0) q.0)
+
+  apart_fine : (seen xs : List A) → length seen + length xs ≤ limit → differ same_item xs ≡ true → are_apart same_item seen xs ≡ true → AreFine (commas limit true) (map first seen) (map first xs)
+  apart_fine seen [] h d a = tt
+  apart_fine seen (n ∷ xs) h d a =
+      let p = and_parts (not (list_any (same_item n) xs)) (differ same_item xs) d in
+      let q = apart_less same_item seen n xs a in
+      let count : length (map first seen) ≡ length seen = length-map seen first in (
+        mark_none (list_any (λ k. same k (first n)) (map first seen)) (length (map first seen)) limit (any_first seen n ∙ q.0) (omega arith),
+        subst (λ (ks : List Kind). AreFine (commas limit true) ks (map first xs)) (firsts_push first seen n)
+            (apart_fine (seen ++ n ∷ []) xs (omega (arith, length-append seen (n ∷ []))) p.1
+            (apart_push same_item seen n xs ∙ and_from (are_apart same_item seen xs) (not (list_any (same_item n) xs) && true) q.1 (and_from (not (list_any (same_item n) xs)) true p.0 refl))),
+      )
+
+  pub differ_if_fine : (xs : List A) → AreFine (commas limit true) [] (map first xs) → differ same_item xs ≡ true
+  differ_if_fine xs f = (fine_apart [] xs f).0
+
+  pub fine_if_differ : (xs : List A) → length xs ≤ limit → differ same_item xs ≡ true → AreFine (commas limit true) [] (map first xs)
+  fine_if_differ xs h d = apart_fine [] xs (omega arith) d refl
+
+-- ---- items by their names
+distinct_is : {A : Type 0} (name_of : A → List ℕ) (xs : List A) → are_distinct (map name_of xs) ≡ differ (λ x y. same_name (name_of x) (name_of y)) xs
+distinct_is name_of [] = refl
+distinct_is {A = A} name_of (x ∷ xs) = ap (λ b. not b && are_distinct (map name_of xs)) (any_of xs) ∙ ap (λ b. not (list_any (λ y. same_name (name_of x) (name_of y)) xs) && b) (distinct_is name_of xs)
+  where
+    any_of : (ys : List A) → list_any (same_name (name_of x)) (map name_of ys) ≡ list_any (λ y. same_name (name_of x) (name_of y)) ys
+    any_of [] = refl
+    any_of (y ∷ ys) = ap (λ b. same_name (name_of x) (name_of y) || b) (any_of ys)
+
 pub distinct_if_fine : {A : Type 0} (limit : ℕ) (name_of : A → List ℕ) (xs : List A) → AreFine (names_rule limit) [] (map (λ x. kinds.Name (name_of x)) xs) → are_distinct (map name_of xs) ≡ true
-distinct_if_fine limit name_of xs f = (fine_apart limit [] (map name_of xs) (subst (AreFine (names_rule limit) []) (sym (map-map (λ n. kinds.Name n) name_of xs)) f)).0
+distinct_if_fine limit name_of xs f = distinct_is name_of xs ∙ differ_if_fine (λ x y. same_name (name_of x) (name_of y)) (λ x. kinds.Name (name_of x)) (λ x y. refl) limit xs f
 
 pub fine_if_distinct : {A : Type 0} (limit : ℕ) (name_of : A → List ℕ) (xs : List A) → length xs ≤ limit → are_distinct (map name_of xs) ≡ true → AreFine (names_rule limit) [] (map (λ x. kinds.Name (name_of x)) xs)
-fine_if_distinct limit name_of xs h d =
-    let few : length (map name_of xs) ≤ limit = omega (arith, length-map xs name_of) in
-    subst (AreFine (names_rule limit) []) (map-map (λ n. kinds.Name n) name_of xs) (apart_fine limit [] (map name_of xs) (omega arith) d refl)
+fine_if_distinct limit name_of xs h d = fine_if_differ (λ x y. same_name (name_of x) (name_of y)) (λ x. kinds.Name (name_of x)) (λ x y. refl) limit xs h (sym (distinct_is name_of xs) ∙ d)
+
+-- ---- privileges by their words
+abbrev word_kind : Privilege → Kind
+word_kind p = kinds.Keyword (word_keyword (word_of p))
+
+different_is : (ps : List Privilege) → are_different ps ≡ differ same_word ps
+different_is [] = refl
+different_is (p ∷ ps) = ap (λ b. not (list_any (same_word p) ps) && b) (different_is ps)
+
+pub different_if_fine : (ps : List Privilege) → AreFine privileges_rule [] (map word_kind ps) → are_different ps ≡ true
+different_if_fine ps f = different_is ps ∙ differ_if_fine same_word word_kind (λ x y. refl) 4 ps f
+
+pub fine_if_different : (ps : List Privilege) → length ps ≤ 4 → are_different ps ≡ true → AreFine privileges_rule [] (map word_kind ps)
+fine_if_different ps h d = fine_if_differ same_word word_kind (λ x y. refl) 4 ps h (sym (different_is ps) ∙ d)
 
 -- as many as the rule allows
 pub few_if_fine : {A : Type 0} (r : Rule) (first : A → Kind) (xs : List A) → AreFine r [] (map first xs) → length xs ≤ r.limit

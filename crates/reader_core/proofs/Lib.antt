@@ -3,9 +3,16 @@ pub mod Taking
 pub mod Exits
 pub mod Lists
 pub mod Joining
+pub mod Choosing
+pub mod Words
 pub mod Fine
 pub mod Finishing
 pub mod Whole
 pub mod Once
 pub mod Lines
 pub mod Exactness
+pub mod Doubled
+pub mod Proper
+pub mod Writing
+pub mod Back
+pub mod Choices

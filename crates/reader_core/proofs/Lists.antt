@@ -1,7 +1,8 @@
 -- What is wrong with the items of a list.
-use Rattle.std.proofs.Common.{◌≡◌, ℕ, ◌<◌, ◌+◌, suc, length, arith, length-append, append_assoc, true, false, List, [], ◌∷◌, ◌++◌, ◌&&◌, map, drop, Option, Some, None, Result, Err, if◌then◌else◌, ap, sym, subst, ◌∙◌, refl}
+use Rattle.std.proofs.Common.{◌≡◌, ℕ, ◌<◌, ◌+◌, suc, length, arith, length-append, append_assoc, true, false, All, List, [], ◌∷◌, ◌++◌, ◌&&◌, map, drop, Option, Some, None, Result, Err, if◌then◌else◌, ap, sym, subst, ◌∙◌, refl}
 use Rattle.std.proofs.lemmas.Grind.{flat_map-append}
 use Rattle.std.proofs.lemmas.List.{append-nil, length-map}
+use Rattle.std.proofs.lemmas.List.Elements.{All-nil, All-cons, All-append}
 use Rattle.std.specs.List.{list_any, flat_map}
 use Rattle.lexer_core.specs.Lexing.{Lexeme, heard}
 use Rattle.lexer_core.specs.declared.token.Kind.{Kind}
@@ -93,11 +94,12 @@ each_listed separator says [] x = refl
 each_listed separator says (y ∷ ys) x = refl
 
 -- A list in the midst, before an item.
-pub record SoFar {A : Type 0} (r : Rule) (separator : Lexeme) (i : Grammar) (first : A → Kind) (says : A → List Lexeme) (xs : List A) (old here : Cursor) : Type 0 where
+pub record SoFar {A : Type 0} (r : Rule) (separator : Lexeme) (i : Grammar) (first : A → Kind) (says : A → List Lexeme) (IsItem : A → Type 0) (xs : List A) (old here : Cursor) : Type 0 where
   pub line : here.line ≡ old.line
   pub judges : (k : Grammar) → judged (Items r [] i k) old ≡ judged (Items r (map first xs) i k) here
   pub said : separator ∷ left_says old ≡ behind_each separator says xs ++ separator ∷ left_says here
   pub fine : AreFine r [] (map first xs)
+  pub lawful : All IsItem xs
 
 -- fine items, with one more
 fine_push : (r : Rule) (seen ks : List Kind) (k : Kind) → AreFine r seen ks → mark_of r (seen ++ ks) k ≡ None → AreFine r seen (ks ++ k ∷ [])
@@ -112,15 +114,18 @@ pub firsts_length : {A : Type 0} (first : A → Kind) (xs : List A) → length (
 firsts_length first [] = refl
 firsts_length first (x ∷ xs) = ap suc (firsts_length first xs)
 
-pub nothing_yet : {A : Type 0} (r : Rule) (separator : Lexeme) (i : Grammar) (first : A → Kind) (says : A → List Lexeme) (xs : List A) (here : Cursor) → xs ≡ [] → SoFar r separator i first says xs here here
-nothing_yet {A} r separator i first says xs here e = subst (λ (ys : List A). SoFar r separator i first says ys here here) (sym e) (record { line = refl; judges = λ k. refl; said = refl; fine = tt })
+pub nothing_yet : {A : Type 0} (r : Rule) (separator : Lexeme) (i : Grammar) (first : A → Kind) (says : A → List Lexeme) (IsItem : A → Type 0) (xs : List A) (here : Cursor) → xs ≡ [] → SoFar r separator i first says IsItem xs here here
+nothing_yet {A} r separator i first says IsItem xs here e = subst (λ (ys : List A). SoFar r separator i first says IsItem ys here here) (sym e) (record { line = refl; judges = λ k. refl; said = refl; fine = tt; lawful = All-nil IsItem })
 
-module _ {A : Type 0} {r : Rule} {separator : Lexeme} {i : Grammar} {first : A → Kind} {says : A → List Lexeme} {xs : List A} {old here mid : Cursor} (x : A)
-    (so_far : SoFar r separator i first says xs old here) (t : Takes (λ k. Items r (map first xs) i k) (λ k. More r (map first (xs ++ x ∷ [])) i k) (says x) here mid) (m : mark_of r (map first xs) (first x) ≡ None) where
+module _ {A : Type 0} {r : Rule} {separator : Lexeme} {i : Grammar} {first : A → Kind} {says : A → List Lexeme} {IsItem : A → Type 0} {xs : List A} {old here mid : Cursor} (x : A)
+    (so_far : SoFar r separator i first says IsItem xs old here) (t : Takes (λ k. Items r (map first xs) i k) (λ k. More r (map first (xs ++ x ∷ [])) i k) (says x) here mid) (m : mark_of r (map first xs) (first x) ≡ None) (is_item : IsItem x) where
+  pub lawful_on : All IsItem (xs ++ x ∷ [])
+  lawful_on = All-append IsItem xs (x ∷ []) so_far.lawful (All-cons IsItem x [] is_item (All-nil IsItem))
+
   pub fine_on : AreFine r [] (map first (xs ++ x ∷ []))
   fine_on = subst (AreFine r []) (sym (firsts_push first xs x)) (fine_push r [] (map first xs) (first x) so_far.fine m)
 
-  pub list_on : (new : Cursor) → next_is r.separator mid ≡ true → next_lexeme mid ≡ Some separator → new.rest ≡ drop 1 mid.rest → new.line ≡ mid.line → SoFar r separator i first says (xs ++ x ∷ []) old new
+  pub list_on : (new : Cursor) → next_is r.separator mid ≡ true → next_lexeme mid ≡ Some separator → new.rest ≡ drop 1 mid.rest → new.line ≡ mid.line → SoFar r separator i first says IsItem (xs ++ x ∷ []) old new
   list_on new is heard rest line =
       let said = says_taken mid new separator heard rest line in
       record {
@@ -130,6 +135,7 @@ module _ {A : Type 0} {r : Rule} {separator : Lexeme} {i : Grammar} {first : A �
             ∙ ap (λ (b : List ℕ). judge (length b) (Items r (map first (xs ++ x ∷ [])) i k) new.rest) (sym line);
         said = so_far.said ∙ ap (λ z. behind_each separator says xs ++ separator ∷ z) (t.says ∙ ap (λ z. says x ++ z) said) ∙ sym (each_push separator says xs x (separator ∷ left_says new));
         fine = fine_on;
+        lawful = lawful_on;
       }
 
   pub list_done : next_is r.separator mid ≡ false → Takes (λ k. Items r [] i k) (λ k. k) (listed separator says (xs ++ x ∷ [])) old mid

@@ -8,6 +8,8 @@ use Rattle.base_core.specs.declared.value.Value.{Value}
 use Rattle.base_core.specs.declared.value.Value.TheVariants as values
 use Rattle.base_core.specs.declared.value.ColType.{ColType}
 use Rattle.base_core.specs.declared.value.ColType.TheVariants as types
+use Rattle.base_core.specs.declared.condition.Comparison.{Comparison}
+use Rattle.base_core.specs.declared.condition.Comparison.TheVariants as comparisons
 use Rattle.lexer_core.specs.Lexing.{Lexeme, AreHeard, heard, lexeme_of, kind_of}
 use Rattle.lexer_core.specs.Lexing as lexemes
 use Rattle.lexer_core.specs.declared.token.Kind.{Kind}
@@ -18,9 +20,9 @@ use Rattle.lexer_core.specs.declared.token.Token as tokens
 use Rattle.lexer_core.specs.declared.fault.Code.TheVariants as codes
 use Rattle.lexer_core.specs.declared.fault.ReadFault.{ReadFault}
 use Rattle.lexer_core.specs.declared.fault.ReadFault.TheVariants as faults
-use Rattle.reader_core.specs.Grammar.{Grammar, Class, End, One, Key, Sign, AnyType, AnyLiteral, fits, judge, keyword_number, mark_number}
+use Rattle.reader_core.specs.Grammar.{Grammar, Class, End, One, Key, Sign, AnyType, AnyLiteral, AnyTest, fits, judge, keyword_number, mark_number}
 use Rattle.reader_core.specs.Cursor.{Cursor, Takes, Faults, judged, left_says, next_kind, next_lexeme, next_is, offset_at, fault_of}
-use Rattle.reader_core.specs.Language.{type_lexeme, value_lexeme}
+use Rattle.reader_core.specs.Language.{type_lexeme, value_lexeme, comparison_mark}
 use Rattle.reader_core.proofs.Theory.{judge_nil, judge_none, judge_some}
 
 -- what is left is heard too
@@ -176,6 +178,14 @@ type_said types.Text bytes = refl
 pub value_fits : (v : Value) → fits AnyLiteral (kind_of (value_lexeme v)) ≡ true
 value_fits (values.Int n) = refl
 value_fits (values.Text t) = refl
+
+pub comparison_fits : (c : Comparison) → fits AnyTest (kinds.Mark (comparison_mark c)) ≡ true
+comparison_fits comparisons.Equal = refl
+comparison_fits comparisons.NotEqual = refl
+comparison_fits comparisons.Less = refl
+comparison_fits comparisons.LessEqual = refl
+comparison_fits comparisons.Greater = refl
+comparison_fits comparisons.GreaterEqual = refl
 
 -- a look at the next token that found none of the class
 pub missing_so : {V : Type 0} (old : Cursor) (c : Class) (e : ReadFault) → ◌≡◌ {A = Result V ReadFault} (Err e) (Err (faults.At codes.Expected (offset_at old))) × (next_is c old ≡ false) → Faults (λ k. One c k) e old

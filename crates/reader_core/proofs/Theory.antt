@@ -254,11 +254,11 @@ wrong_none : {all g : Grammar} (before : List Kind) (end : ℕ) (t : tokens.Toke
 wrong_none {all} {g} before end t ts f r h e q = go (can_end g) refl q
   where
     no : (wrong : Option Code) → GoesOn all before t.kind wrong → ⊥
-    no wrong o = let n = step_of g h (r.back _ o.1) in let z : None ≡ Some (wrong, n.0) = sym e ∙ n.1 in cc
+    no wrong o = let n = step_of g h (r.back _ o.1) in let z : ◌≡◌ {A = Option (Option Code × Grammar)} None (Some (wrong, n.0)) = sym e ∙ n.1 in cc
 
     go : (b : Bool) → can_end g ≡ b → Some ((if b then codes.Trailing else codes.Expected), t.start) ≡ Some f → IsWrongHere all before end (t ∷ ts) f
     go true e q = let p : (codes.Trailing, t.start) ≡ f = cc in subst (IsWrongHere all before end (t ∷ ts)) p ((whole_at before r (can_end_yes g e), no), refl)
-    go false e q = let p : (codes.Expected, t.start) ≡ f = cc in subst (IsWrongHere all before end (t ∷ ts)) p (((λ w. let z = can_end_no (at_whole before r w) in cc), no), refl)
+    go false e q = let p : (codes.Expected, t.start) ≡ f = cc in subst (IsWrongHere all before end (t ∷ ts)) p (((λ w. let z : can_end g ≡ true = can_end_no (at_whole before r w) in cc), no), refl)
 
 wrong_mark : (b c : Bool) (code : Code) → (if b then Some codes.Duplicate else if c then Some codes.TooMany else None) ≡ Some code → (code ≡ codes.Duplicate) ⊎ (code ≡ codes.TooMany)
 wrong_mark true c code e = inl (cc)

@@ -6,7 +6,7 @@ use Rattle.lexer_core.specs.declared.token.Token as tokens
 use Rattle.lexer_core.specs.declared.fault.Code.{Code}
 use Rattle.lexer_core.specs.declared.fault.ReadFault.{ReadFault}
 use Rattle.lexer_core.specs.declared.fault.ReadFault.TheVariants as faults
-use Rattle.reader_core.specs.Grammar.{Grammar, Class, Fault, fits, judge}
+use Rattle.reader_core.specs.Grammar.{Grammar, Class, Fault, fits, is_privilege, judge}
 
 -- a line, and those of its tokens that are left
 pub record Cursor : Type 0 where
@@ -26,6 +26,9 @@ next_lexeme c = elim c.rest [ [] ↦ None | t ∷ ts ↦ Some (heard c.line t).l
 
 abbrev pub next_is : Class → Cursor → Bool
 next_is c cursor = elim cursor.rest [ [] ↦ false | t ∷ ts ↦ fits c t.kind ]
+
+abbrev pub next_is_privilege : Cursor → Bool
+next_is_privilege cursor = elim cursor.rest [ [] ↦ false | t ∷ ts ↦ is_privilege t.kind ]
 
 -- what the tokens that are left say
 abbrev pub left_says : Cursor → List Lexeme

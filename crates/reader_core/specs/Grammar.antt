@@ -82,6 +82,10 @@ is_literal _ = false
 abbrev pub is_test : Kind → Bool
 is_test t = is_mark marks.Equal t || is_mark marks.NotEqual t || is_mark marks.Less t || is_mark marks.LessEqual t || is_mark marks.Greater t || is_mark marks.GreaterEqual t
 
+-- a word that names a privilege
+abbrev pub is_privilege : Kind → Bool
+is_privilege t = is_keyword keywords.Select t || is_keyword keywords.Insert t || is_keyword keywords.Delete t || is_keyword keywords.Update t
+
 abbrev pub is_at_least_one : Kind → Bool
 is_at_least_one (kinds.Number (pos n)) = nat_le 1 n
 is_at_least_one _ = false
@@ -116,7 +120,7 @@ pub data Grammar : Type 0 where
   One : Class → Grammar → Grammar
   -- where the next token is of the class, that token and then the first grammar; otherwise the second
   Case : Class → Grammar → Grammar → Grammar
-  -- an item, after those that began with the tokens seen; then "," and a further item, as often as one comes; then the rest
+  -- an item, after those that began with the tokens seen; then a separator and a further item, as often as one comes; then the rest
   Items : Rule → List Kind → Grammar → Grammar → Grammar
   -- the same behind an item
   More : Rule → List Kind → Grammar → Grammar → Grammar

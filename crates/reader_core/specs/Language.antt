@@ -1,5 +1,5 @@
 -- The language: its grammar, and what a line of it says.
-use Rattle.std.specs.Prelude.{◌≡◌, ◌<◌, ◌≤◌, ℕ, Bool, true, false, List, [], ◌∷◌, ◌++◌, ◌⊎◌, length, map, Result, Err}
+use Rattle.std.specs.Prelude.{◌≡◌, ◌<◌, ◌≤◌, ◌^◌, ℕ, pos, Bool, true, false, List, [], ◌∷◌, ◌++◌, ◌⊎◌, length, map, All, Option, Some, None, Result, Err}
 use Rattle.std.specs.List.{flat_map}
 use Rattle.base_core.specs.Distinct.{are_distinct}
 use Rattle.base_core.specs.declared.keyword.Keyword.TheVariants as keywords
@@ -9,18 +9,29 @@ use Rattle.base_core.specs.declared.value.Value.TheVariants as values
 use Rattle.base_core.specs.declared.value.Column.{Column}
 use Rattle.base_core.specs.declared.value.ColType.{ColType}
 use Rattle.base_core.specs.declared.value.ColType.TheVariants as types
+use Rattle.base_core.specs.declared.name.User.{User}
+use Rattle.base_core.specs.declared.condition.Condition.{Condition}
+use Rattle.base_core.specs.declared.condition.Assignment.{Assignment}
+use Rattle.base_core.specs.declared.condition.Comparison.{Comparison}
+use Rattle.base_core.specs.declared.condition.Comparison.TheVariants as comparisons
 use Rattle.lexer_core.specs.Lexing.{Lexeme, Says, AreTokens, IsLineFault}
 use Rattle.lexer_core.specs.Lexing as lexemes
 use Rattle.lexer_core.specs.declared.token.Token as tokens
+use Rattle.lexer_core.specs.declared.token.Mark.{Mark}
 use Rattle.lexer_core.specs.declared.token.Mark.TheVariants as marks
 use Rattle.lexer_core.specs.declared.fault.Code.{Code}
 use Rattle.lexer_core.specs.declared.fault.Code.TheVariants as codes
 use Rattle.lexer_core.specs.declared.fault.ReadFault.{ReadFault}
 use Rattle.lexer_core.specs.declared.fault.ReadFault.TheVariants as faults
+use Rattle.reader_core.specs.declared.privilege.Privilege.{Privilege}
+use Rattle.reader_core.specs.declared.privilege.Privilege.TheVariants as privileges_of
+use Rattle.reader_core.specs.declared.privilege.Word.{Word}
+use Rattle.reader_core.specs.declared.privilege.Word.TheVariants as words
 use Rattle.reader_core.specs.declared.statement.Statement.{Statement}
 use Rattle.reader_core.specs.declared.statement.Statement.TheVariants as statements
-use Rattle.reader_core.specs.Grammar.{Grammar, End, One, Case, Items, Rule, Key, Sign, AnyName, AnyLiteral, AnyType}
+use Rattle.reader_core.specs.Grammar.{Grammar, End, One, Case, Items, Rule, Key, Sign, AnyName, AnyLiteral, AnyType, AnyTest, AtLeastOne}
 use Rattle.reader_core.specs.Matches.{IsFault}
+use Rattle.reader_core.specs.Privileges.{word_of, word_keyword, are_different}
 
 -- ---- the grammar
 -- items with commas between them: how many at most, and whether their first tokens differ
@@ -36,6 +47,17 @@ abbrev pub either : Grammar → Grammar → Grammar
 either (One c a) b = Case c a b
 either _ b = b
 
+-- where the next token begins the first, that, and then what follows in any case
+abbrev pub optional : (Grammar → Grammar) → Grammar → Grammar
+optional g k = either (g k) k
+
+abbrev pub name_item : Grammar
+name_item = One AnyName End
+
+-- name { "," name }, with different names
+abbrev pub name_list : ℕ → Grammar → Grammar
+name_list limit k = Items (names_rule limit) [] name_item k
+
 -- column = name ( INTEGER | TEXT )
 abbrev pub column_item : Grammar
 column_item = One AnyName (One AnyType End)
@@ -46,19 +68,99 @@ literal_item = One AnyLiteral End
 
 -- create = CREATE TABLE name "(" column { "," column } ")"
 abbrev pub create : Grammar → Grammar
-create k = One (Key keywords.Create) (One (Key keywords.Table) (One AnyName (One (Sign marks.Open) (Items (commas 32 true) [] column_item (One (Sign marks.Close) k)))))
+create k = One (Key keywords.Create) (One (Key keywords.Table) (One AnyName (One (Sign marks.Open) (Items (names_rule 32) [] column_item (One (Sign marks.Close) k)))))
 
 -- insert = INSERT INTO name VALUES "(" literal { "," literal } ")"
 abbrev pub insert : Grammar → Grammar
 insert k = One (Key keywords.Insert) (One (Key keywords.Into) (One AnyName (One (Key keywords.Values) (One (Sign marks.Open) (Items (commas 32 false) [] literal_item (One (Sign marks.Close) k))))))
 
--- select = SELECT "*" FROM name
-abbrev pub select : Grammar → Grammar
-select k = One (Key keywords.Select) (One (Sign marks.Star) (One (Key keywords.From) (One AnyName k)))
+-- cond = name ( "=" | "<>" | "<" | "<=" | ">" | ">=" ) literal
+abbrev pub condition_item : Grammar
+condition_item = One AnyName (One AnyTest (One AnyLiteral End))
 
--- body = create | insert | select
+abbrev pub conditions_rule : Rule
+conditions_rule = record { limit = 32; distinct = false; separator = Key keywords.And }
+
+-- filter = WHERE cond { AND cond }
+abbrev pub filter : Grammar → Grammar
+filter k = One (Key keywords.Where) (Items conditions_rule [] condition_item k)
+
+-- "*" | name { "," name }
+abbrev pub selected : Grammar → Grammar
+selected k = either (One (Sign marks.Star) k) (name_list 32 k)
+
+-- FROM name [ filter ]
+abbrev pub from_table : Grammar → Grammar
+from_table k = One (Key keywords.From) (One AnyName (optional filter k))
+
+-- select = SELECT ( "*" | name { "," name } ) FROM name [ filter ]
+abbrev pub select : Grammar → Grammar
+select k = One (Key keywords.Select) (selected (from_table k))
+
+-- delete = DELETE FROM name [ filter ]
+abbrev pub delete : Grammar → Grammar
+delete k = One (Key keywords.Delete) (from_table k)
+
+-- set = name "=" literal
+abbrev pub set_item : Grammar
+set_item = One AnyName (One (Sign marks.Equal) (One AnyLiteral End))
+
+-- update = UPDATE name SET set { "," set } [ filter ]
+abbrev pub update : Grammar → Grammar
+update k = One (Key keywords.Update) (One AnyName (One (Key keywords.Set) (Items (names_rule 32) [] set_item (optional filter k))))
+
+-- "(" name { "," name } ")"
+abbrev pub in_brackets : Grammar → Grammar
+in_brackets k = One (Sign marks.Open) (name_list 32 (One (Sign marks.Close) k))
+
+-- priv = SELECT | INSERT | DELETE | UPDATE [ "(" name { "," name } ")" ]
+abbrev pub privilege_item : Grammar
+privilege_item = either (One (Key keywords.Select) End) (either (One (Key keywords.Insert) End) (either (One (Key keywords.Delete) End) (One (Key keywords.Update) (optional in_brackets End))))
+
+-- what may stand behind a privilege's word
+abbrev pub behind_word : Word → Grammar → Grammar
+behind_word words.Update k = optional in_brackets k
+behind_word _ k = k
+
+-- no word twice, so that a fifth privilege is never just one too many
+abbrev pub privileges_rule : Rule
+privileges_rule = commas 4 true
+
+-- privs = priv { "," priv }, and then ON name
+abbrev pub privileges_on : Grammar → Grammar
+privileges_on k = Items privileges_rule [] privilege_item (One (Key keywords.On) (One AnyName k))
+
+-- WITH GRANT OPTION
+abbrev pub grant_option : Grammar → Grammar
+grant_option k = One (Key keywords.With) (One (Key keywords.Grant) (One (Key keywords.Option) k))
+
+-- grant = GRANT privs ON name TO users [ WITH GRANT OPTION ], users = name { "," name }
+abbrev pub grant : Grammar → Grammar
+grant k = One (Key keywords.Grant) (privileges_on (One (Key keywords.To) (name_list 16 (optional grant_option k))))
+
+-- revoke = REVOKE privs ON name FROM users
+abbrev pub revoke : Grammar → Grammar
+revoke k = One (Key keywords.Revoke) (privileges_on (One (Key keywords.From) (name_list 16 k)))
+
+-- checkpoint = CHECKPOINT
+abbrev pub checkpoint : Grammar → Grammar
+checkpoint k = One (Key keywords.Checkpoint) k
+
+-- list = CHECKPOINTS
+abbrev pub checkpoints : Grammar → Grammar
+checkpoints k = One (Key keywords.Checkpoints) k
+
+-- ONLY name
+abbrev pub only_table : Grammar → Grammar
+only_table k = One (Key keywords.Only) (One AnyName k)
+
+-- export = EXPORT number [ ONLY name ], the number being at least 1
+abbrev pub export : Grammar → Grammar
+export k = One (Key keywords.Export) (One AtLeastOne (optional only_table k))
+
+-- body = create | insert | select | delete | update | grant | revoke | checkpoint | list | export
 abbrev pub body : Grammar → Grammar
-body k = either (create k) (either (insert k) (select k))
+body k = either (create k) (either (insert k) (either (select k) (either (delete k) (either (update k) (either (grant k) (either (revoke k) (either (checkpoint k) (either (checkpoints k) (export k)))))))))
 
 -- [ ";" ]
 abbrev pub finish : Grammar
@@ -97,10 +199,76 @@ value_lexeme (values.Text t) = lexemes.Text t
 abbrev pub value_says : Value → List Lexeme
 value_says v = value_lexeme v ∷ []
 
+abbrev pub names_say : List Name → List Lexeme
+names_say names = listed comma name_says names
+
+abbrev pub user_says : User → List Lexeme
+user_says u = lexemes.Named u.0 ∷ []
+
+abbrev pub comparison_mark : Comparison → Mark
+comparison_mark comparisons.Equal = marks.Equal
+comparison_mark comparisons.NotEqual = marks.NotEqual
+comparison_mark comparisons.Less = marks.Less
+comparison_mark comparisons.LessEqual = marks.LessEqual
+comparison_mark comparisons.Greater = marks.Greater
+comparison_mark comparisons.GreaterEqual = marks.GreaterEqual
+
+abbrev pub comparison_says : Comparison → List Lexeme
+comparison_says c = lexemes.Sign (comparison_mark c) ∷ []
+
+abbrev pub condition_says : Condition → List Lexeme
+condition_says c = lexemes.Named c.column ∷ lexemes.Sign (comparison_mark c.comparison) ∷ value_says c.literal
+
+-- an empty filter is no WHERE
+abbrev pub filter_says : List Condition → List Lexeme
+filter_says [] = []
+filter_says (c ∷ cs) = lexemes.Key keywords.Where ∷ listed (lexemes.Key keywords.And) condition_says (c ∷ cs)
+
+abbrev pub set_says : Assignment → List Lexeme
+set_says a = lexemes.Named a.column ∷ lexemes.Sign marks.Equal ∷ value_says a.value
+
+-- no list is "*"
+abbrev pub selection_says : Option (List Name) → List Lexeme
+selection_says None = lexemes.Sign marks.Star ∷ []
+selection_says (Some names) = names_say names
+
+-- no list is nothing
+abbrev pub columns_say : Option (List Name) → List Lexeme
+columns_say None = []
+columns_say (Some names) = lexemes.Sign marks.Open ∷ (names_say names ++ lexemes.Sign marks.Close ∷ [])
+
+abbrev pub word_says : Word → List Lexeme
+word_says w = lexemes.Key (word_keyword w) ∷ []
+
+abbrev pub privilege_columns : Privilege → Option (List Name)
+privilege_columns (privileges_of.Update columns) = columns
+privilege_columns _ = None
+
+abbrev pub privilege_says : Privilege → List Lexeme
+privilege_says p = lexemes.Key (word_keyword (word_of p)) ∷ columns_say (privilege_columns p)
+
+abbrev pub option_says : Bool → List Lexeme
+option_says true = lexemes.Key keywords.With ∷ lexemes.Key keywords.Grant ∷ lexemes.Key keywords.Option ∷ []
+option_says false = []
+
+abbrev pub number_says : ℕ → List Lexeme
+number_says n = lexemes.Number (pos n) ∷ []
+
+abbrev pub only_says : Option Name → List Lexeme
+only_says None = []
+only_says (Some table) = lexemes.Key keywords.Only ∷ lexemes.Named table ∷ []
+
 abbrev pub statement_says : Statement → List Lexeme
 statement_says (statements.CreateTable table columns) = lexemes.Key keywords.Create ∷ lexemes.Key keywords.Table ∷ lexemes.Named table ∷ lexemes.Sign marks.Open ∷ (listed comma column_says columns ++ lexemes.Sign marks.Close ∷ [])
 statement_says (statements.Insert table values) = lexemes.Key keywords.Insert ∷ lexemes.Key keywords.Into ∷ lexemes.Named table ∷ lexemes.Key keywords.Values ∷ lexemes.Sign marks.Open ∷ (listed comma value_says values ++ lexemes.Sign marks.Close ∷ [])
-statement_says (statements.Select table) = lexemes.Key keywords.Select ∷ lexemes.Sign marks.Star ∷ lexemes.Key keywords.From ∷ lexemes.Named table ∷ []
+statement_says (statements.Select list table filter) = lexemes.Key keywords.Select ∷ (selection_says list ++ lexemes.Key keywords.From ∷ lexemes.Named table ∷ filter_says filter)
+statement_says (statements.Delete table filter) = lexemes.Key keywords.Delete ∷ lexemes.Key keywords.From ∷ lexemes.Named table ∷ filter_says filter
+statement_says (statements.Update table sets filter) = lexemes.Key keywords.Update ∷ lexemes.Named table ∷ lexemes.Key keywords.Set ∷ (listed comma set_says sets ++ filter_says filter)
+statement_says (statements.Grant privileges table users option) = lexemes.Key keywords.Grant ∷ (listed comma privilege_says privileges ++ lexemes.Key keywords.On ∷ lexemes.Named table ∷ lexemes.Key keywords.To ∷ (listed comma user_says users ++ option_says option))
+statement_says (statements.Revoke privileges table users) = lexemes.Key keywords.Revoke ∷ (listed comma privilege_says privileges ++ lexemes.Key keywords.On ∷ lexemes.Named table ∷ lexemes.Key keywords.From ∷ listed comma user_says users)
+statement_says statements.Checkpoint = lexemes.Key keywords.Checkpoint ∷ []
+statement_says statements.Checkpoints = lexemes.Key keywords.Checkpoints ∷ []
+statement_says (statements.Export number only) = lexemes.Key keywords.Export ∷ lexemes.Number (pos number) ∷ only_says only
 
 -- nothing, or a ";"
 abbrev pub IsFinished : List Lexeme → Type 0
@@ -110,14 +278,36 @@ IsFinished said = (said ≡ []) ⊎ (said ≡ lexemes.Sign marks.Semicolon ∷ [
 abbrev pub IsShort : {A : Type 0} → ℕ → List A → Type 0
 IsShort limit xs = (0 < length xs) × (length xs ≤ limit)
 
-abbrev pub column_names : List Column → List (List ℕ)
-column_names columns = map (λ c. c.name) columns
+-- so many, and with different names
+abbrev pub AreNamed : {A : Type 0} → ℕ → (A → List ℕ) → List A → Type 0
+AreNamed limit name_of xs = IsShort limit xs × (are_distinct (map name_of xs) ≡ true)
+
+abbrev pub IsSelection : Option (List Name) → Type 0
+IsSelection None = Unit {0}
+IsSelection (Some names) = AreNamed 32 (λ n. n) names
+
+abbrev pub IsLawfulPrivilege : Privilege → Type 0
+IsLawfulPrivilege p = IsSelection (privilege_columns p)
+
+-- with different words, and each with columns as they may be
+abbrev pub ArePrivileges : List Privilege → Type 0
+ArePrivileges ps = IsShort 4 ps × (are_different ps ≡ true) × All IsLawfulPrivilege ps
+
+abbrev pub AreUsers : List User → Type 0
+AreUsers users = AreNamed 16 (λ u. u.0) users
 
 -- what a statement may be
 abbrev pub IsLawful : Statement → Type 0
-IsLawful (statements.CreateTable table columns) = IsShort 32 columns × (are_distinct (column_names columns) ≡ true)
+IsLawful (statements.CreateTable table columns) = AreNamed 32 (λ c. c.name) columns
 IsLawful (statements.Insert table values) = IsShort 32 values
-IsLawful (statements.Select table) = Unit {0}
+IsLawful (statements.Select list table filter) = IsSelection list × (length filter ≤ 32)
+IsLawful (statements.Delete table filter) = length filter ≤ 32
+IsLawful (statements.Update table sets filter) = AreNamed 32 (λ a. a.column) sets × (length filter ≤ 32)
+IsLawful (statements.Grant privileges table users option) = ArePrivileges privileges × AreUsers users
+IsLawful (statements.Revoke privileges table users) = ArePrivileges privileges × AreUsers users
+IsLawful statements.Checkpoint = Unit {0}
+IsLawful statements.Checkpoints = Unit {0}
+IsLawful (statements.Export number only) = (1 ≤ number) × (number < 2 ^ 63)
 
 -- ---- lines
 -- the tokens say the statement, with or without a ";" behind it

@@ -1,7 +1,9 @@
 pub mod Grammar
 pub mod Matches
+pub mod Privileges
 pub mod Cursor
 pub mod Language
+pub mod Printing
 pub use Rattle.base_core.specs.Words
 pub use Rattle.base_core.specs.Distinct
 pub use Rattle.base_core.specs.Texts

@@ -57,3 +57,13 @@ pub record IsFault (g : Grammar) (end : ℕ) (ts : List tokens.Token) (fault : F
   pub split : ts ≡ before ++ rest
   pub begins : Begins g (map (λ t. t.kind) before)
   pub wrong : IsWrongHere g (map (λ t. t.kind) before) end rest fault
+
+-- The tokens are a sentence by any choice: the same rules, but a part may be left out, or the next one taken, whatever comes next.
+pub data Derives : Grammar → List Spot → Type 0 where
+  stop : Derives End []
+  token : {c : Class} {g : Grammar} {t : Kind} {ss : List Spot} → fits c t ≡ true → Derives g ss → Derives (One c g) (fine t ∷ ss)
+  left : {c : Class} {a b : Grammar} {t : Kind} {ss : List Spot} → fits c t ≡ true → Derives a ss → Derives (Case c a b) (fine t ∷ ss)
+  right : {c : Class} {a b : Grammar} {ss : List Spot} → Derives b ss → Derives (Case c a b) ss
+  first : {r : Rule} {s : List Kind} {i g : Grammar} {t : Kind} {ss : List Spot} → Derives (followed_by i (More r (s ++ t ∷ []) i g)) (fine t ∷ ss) → Derives (Items r s i g) (record { kind = t; wrong = mark_of r s t } ∷ ss)
+  further : {r : Rule} {s : List Kind} {i g : Grammar} {t : Kind} {ss : List Spot} → fits r.separator t ≡ true → Derives (Items r s i g) ss → Derives (More r s i g) (fine t ∷ ss)
+  behind : {r : Rule} {s : List Kind} {i g : Grammar} {ss : List Spot} → Derives g ss → Derives (More r s i g) ss

@@ -1,48 +1,59 @@
-//! Lines read as statements.
+//! Statements read from lines, and printed.
 //!
-//! The language has three statements as yet, with an optional `;` behind each:
+//! A [`Statement`] is one of ten: CREATE TABLE, INSERT, SELECT, DELETE, UPDATE, GRANT, REVOKE,
+//! CHECKPOINT, CHECKPOINTS and EXPORT. Its lists keep the limits of the language by their types: 1 to
+//! 32 columns, names, values or assignments, at most 32 conditions, 1 to 16 users, and where the
+//! language asks for different names (or, of privileges, for different words) they differ. Contracts
+//! see a statement as plain data: names and texts as their bytes, lists as lists, the number of a
+//! checkpoint as a number.
+//!
+//! [`read`] is the one contract of reading. A line is cut into tokens by `lexer_core`, and the grammar
+//! stands in `specs/Language.antt` as data, which reads like the rules that it is written from. Ok is
+//! the one statement that the line spells. Otherwise the answer is the line's one fault with its byte:
+//! its leftmost lexical fault; else `Empty`; else the leftmost token at which one of these holds, the
+//! first in this order: `Trailing` (the tokens before it are a whole statement, and with it they begin
+//! none), `Expected` (with it they begin none), `Duplicate` (a name or the word of a privilege that
+//! stands earlier in its list, where they have to differ), `TooMany` (the first token of an item past
+//! its list's limit). Where no token has a fault but the statement is not whole, it is `Expected` at
+//! the end of the line. That no line spells two statements, has two faults, or both, are laws, each on
+//! an empty function of [`laws`], and so is that the grammar's choices are never between parts that
+//! begin with the same token.
+//!
+//! [`print`] gives a statement's canonical text (`specs/Printing.antt`), unless it has more than 4,096
+//! bytes, which is more than a line may have. What is printed is read back as the statement.
 //!
 //! ```text
-//! CREATE TABLE name ( column { , column } )    a column is a name and INTEGER or TEXT
-//! INSERT INTO name VALUES ( literal { , literal } )
-//! SELECT * FROM name
+//! read(alloc, b"select NAME from PAY where WAGE<0;")  // Ok: a Select
+//! print(alloc, &statement)                            // Ok: SELECT name FROM pay WHERE wage < 0
+//! read(alloc, b"SELECT a, a FROM t")                  // Err: Duplicate at 10
 //! ```
 //!
-//! A list has 1 to 32 items, and the columns of a table differ. A [`Statement`] keeps both: its lists
-//! are types that hold no other.
-//!
-//! [`read`] is the one contract. It answers the statement that the line spells, and otherwise the
-//! line's one fault. What a line spells is a relation between the whole line and a statement, over
-//! what its tokens say. A fault stands at the leftmost token with which the line begins no sentence
-//! of the grammar, or which is an item that stands in its list already, or one past the list's limit;
-//! where no token is wrong but the line is no whole sentence, it stands at the line's end. What
-//! begins a sentence is a property of the grammar: that some tokens behind it make a whole one. The
-//! code looks for none: it reads each token once.
-//!
-//! ```text
-//! read(alloc, b"SELECT * FROM pay")              // Ok
-//! read(alloc, b"CREATE TABLE t (a TEXT, A TEXT)") // Err: Duplicate at 24
-//! read(alloc, b"SELECT * FROM")                  // Err: Expected at 13
-//! ```
-//!
-//! That a line spells one statement, has one fault, and never both, are laws, each on an empty
-//! function.
-//!
-//! Reading goes over a line's bytes and its tokens once; a name of a list is compared with those
-//! before it, of which there are at most 31. It takes memory for the tokens and for the statement.
+//! Reading goes over the tokens of a line once, with no look back and one token ahead. An item of a
+//! list is compared with those before it, of which there are at most 32. [`read`] takes memory for the
+//! tokens, the lists and the texts, [`print`] for the text; either answers `NoMemory` where it is
+//! refused.
 #![tactic(auto)]
 
+mod checkpoint;
+mod heads;
 mod items;
-mod laws;
+pub mod laws;
 mod list;
+mod page;
+mod parts;
+mod printed;
+mod printing;
+mod privilege;
 mod reader;
 mod reading;
 mod sentence;
 mod statement;
 
-pub use laws::{one_fault, one_statement, spelled_or_faulty};
+pub use checkpoint::CheckpointNumber;
+pub use printing::{PrintFault, print};
+pub use privilege::{MAX_PRIVILEGES, Privilege, Privileges};
 pub use reading::read;
-pub use statement::{MAX_ITEMS, Statement};
+pub use statement::{MAX_ITEMS, MAX_USERS, Statement};
 
 #[cfg(test)]
 mod tests;

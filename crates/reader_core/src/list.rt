@@ -1,16 +1,12 @@
 //! Lists of items with a separator between each two.
-ghost use Rattle.std.specs.Prelude.{◌≡◌, ◌<◌, ◌∷◌, ◌++◌, [], List, ℕ, None, Some, true, IfOk, length, map};
-ghost use Rattle.std.specs.List.{list_any};
-ghost use Rattle.base_core.specs.Words.{same_name};
+ghost use Rattle.std.specs.Prelude.{◌≡◌, ◌<◌, ◌∷◌, ◌++◌, [], List, None, Some, true, All, IfOk, length, map};
 ghost use Rattle.lexer_core.specs.Lexing.{Lexeme};
 ghost use Rattle.lexer_core.specs.declared.token.Kind.{Kind};
-ghost use Rattle.lexer_core.specs.declared.token.Kind.TheVariants as kinds;
-ghost use Rattle.reader_core.specs.Grammar.{Grammar, Rule, Items, More, One, AnyName, followed_by, mark_of, AreFine, same};
+ghost use Rattle.reader_core.specs.Grammar.{Grammar, Rule, Items, More, mark_of, AreFine};
 ghost use Rattle.reader_core.specs.Cursor.{Reads, Leads, next_is, next_lexeme};
-ghost use Rattle.reader_core.specs.Language.{listed, name_says, names_rule};
+ghost use Rattle.reader_core.specs.Language.{listed};
 
 use crate::reader::Reader;
-use base_core::{Name, Named};
 use lexer_core::ReadFault;
 use std::alloc::Global;
 
@@ -26,11 +22,14 @@ pub trait Item: Drop + Sized {
     ghost first: { Self → Kind };
     // What it says, token by token.
     ghost says: { Self → List Lexeme };
+    // What the language asks of an item by itself.
+    ghost lawful: { Self → Type 0 } = { λ _. Unit {0} };
 
     /// Reads the item that comes after these.
     fn read(reader: &mut Reader<'_>, alloc: Global, before: &[Self]) -> Result<Self, ReadFault>
         ensures leads { Leads (λ k. Items rule (map first before.now) grammar k) (λ x k. More rule (map first (before.now ++ x ∷ [])) grammar k) says result reader.old reader.new }
-        ensures fine { IfOk result (λ x. mark_of rule (map first before.now) (first x) ≡ None) };
+        ensures fine { IfOk result (λ x. mark_of rule (map first before.now) (first x) ≡ None) }
+        ensures lawful { IfOk result (λ x. lawful x) };
 
     /// Whether a separator comes next.
     fn at_separator(reader: &Reader<'_>) -> bool
@@ -43,6 +42,7 @@ pub fn list<T: Item>(reader: &mut Reader<'_>, alloc: Global) -> Result<Vec<T>, R
     ensures reads { Reads (λ k. Items T.rule [] T.grammar k) (λ v. listed T.separator T.says v.items) result reader.old reader.new }
     ensures some { IfOk result (λ v. 0 < length v.items) }
     ensures fine { IfOk result (λ v. AreFine T.rule [] (map T.first v.items)) }
+    ensures lawful { IfOk result (λ v. All T.lawful v.items) }
 {
     let mut items = Vec::new(alloc);
     loop {
@@ -52,24 +52,5 @@ pub fn list<T: Item>(reader: &mut Reader<'_>, alloc: Global) -> Result<Vec<T>, R
             return Ok(items);
         }
         reader.advance();
-    }
-}
-
-fn has_name<T: Named>(items: &[T], name: Name) -> bool
-    ensures { result ≡ list_any (λ x. same x (kinds.Name name)) (map (λ x. kinds.Name (T.name_of x)) items.now) }
-{
-    items.iter().any(|item| item.name() == name)
-}
-
-impl Reader<'_> {
-    /// The name that begins an item of a list of at most so many, after these.
-    pub fn item_name<T: Named>(&mut self, items: &[T], limit: usize) -> Result<Name, ReadFault>
-        ensures leads { (i : Grammar) → Leads (λ k. Items (names_rule limit) (map (λ x. kinds.Name (T.name_of x)) items.now) (One AnyName i) k) (λ n k. followed_by i (More (names_rule limit) (map (λ x. kinds.Name (T.name_of x)) items.now ++ kinds.Name n ∷ []) (One AnyName i) k)) name_says result self.old self.new }
-        ensures fine { IfOk result (λ n. mark_of (names_rule limit) (map (λ x. kinds.Name (T.name_of x)) items.now) (kinds.Name n) ≡ None) }
-    {
-        let name = self.peek_name()?;
-        self.check_item(has_name(items, name), items.len(), limit)?;
-        self.advance();
-        Ok(name)
     }
 }

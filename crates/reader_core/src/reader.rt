@@ -1,16 +1,46 @@
 //! A reader over the tokens of a line: single tokens.
-ghost use Rattle.std.specs.Prelude.{◌≡◌, ◌≢◌, ◌≤◌, ◌∷◌, [], false, true, length, drop, None, Some, IfOk, IfErr, OnOk, OnErr, option_map};
+ghost use Rattle.std.specs.Prelude.{◌≡◌, ◌≢◌, ◌≤◌, ◌∷◌, [], pos, nat_le, false, true, length, drop, None, Some, IfOk, IfErr, OnOk, OnErr, MatchOption};
 ghost use Rattle.base_core.specs.declared.keyword.Keyword.TheVariants as keywords;
 ghost use Rattle.lexer_core.specs.Lexing as lexemes;
 ghost use Rattle.lexer_core.specs.Lexing.{AreHeard};
-ghost use Rattle.reader_core.specs.Grammar.{One, Key, Sign, AnyName, AnyLiteral, AnyType, mark_from};
-ghost use Rattle.reader_core.specs.Cursor.{Cursor, Reads, Faults, Checks, offset_at, next_kind, next_lexeme, next_is};
-ghost use Rattle.reader_core.specs.Language.{name_says, type_lexeme, type_says, value_lexeme};
+ghost use Rattle.lexer_core.specs.declared.token.Kind.TheVariants as kinds;
+ghost use Rattle.reader_core.specs.Grammar.{One, Key, Sign, AnyName, AnyLiteral, AnyType, AnyTest, AtLeastOne, is_test, is_privilege, mark_from};
+ghost use Rattle.reader_core.specs.Cursor.{Cursor, Reads, Faults, Checks, offset_at, next_kind, next_lexeme, next_is, next_is_privilege};
+ghost use Rattle.reader_core.specs.Privileges.{word_keyword};
+ghost use Rattle.reader_core.specs.Language.{name_says, type_lexeme, type_says, value_lexeme, value_says, comparison_mark, comparison_says, number_says};
 
-use base_core::{ColType, Keyword, Name, Value};
+use crate::checkpoint::CheckpointNumber;
+use crate::privilege::Word;
+use base_core::{ColType, Comparison, Keyword, Name, Value};
 use lexer_core::{Code, Kind, Mark, ReadFault, Token, unquoted};
 use std::alloc::Global;
 use std::marker::Model;
+
+fn comparison_of(mark: Mark) -> Option<Comparison>
+    ensures { MatchOption result (is_test (kinds.Mark mark) ≡ false) (λ c. mark ≡ comparison_mark c) }
+{
+    match mark {
+        Mark::Equal => Some(Comparison::Equal),
+        Mark::NotEqual => Some(Comparison::NotEqual),
+        Mark::Less => Some(Comparison::Less),
+        Mark::LessEqual => Some(Comparison::LessEqual),
+        Mark::Greater => Some(Comparison::Greater),
+        Mark::GreaterEqual => Some(Comparison::GreaterEqual),
+        _ => None,
+    }
+}
+
+fn word_of(keyword: Keyword) -> Option<Word>
+    ensures { MatchOption result (is_privilege (kinds.Keyword keyword) ≡ false) (λ w. keyword ≡ word_keyword w) }
+{
+    match keyword {
+        Keyword::Select => Some(Word::Select),
+        Keyword::Insert => Some(Word::Insert),
+        Keyword::Delete => Some(Word::Delete),
+        Keyword::Update => Some(Word::Update),
+        _ => None,
+    }
+}
 
 /// The tokens of a line that are left to read.
 #[derive(Drop)]
@@ -205,6 +235,93 @@ impl Reader<'_> {
                 Err(_) => Err(ReadFault::NoMemory),
             },
             [] => unreachable!(),
+        }
+    }
+
+    /// A literal.
+    pub fn literal(&mut self, alloc: Global) -> Result<Value, ReadFault>
+        ensures { Reads (λ k. One AnyLiteral k) value_says result self.old self.new }
+    {
+        if !self.at_literal() {
+            return Err(self.fault(Code::Expected));
+        }
+        let value = self.value(alloc)?;
+        self.advance();
+        Ok(value)
+    }
+
+    fn peek_comparison(&self) -> Result<Comparison, ReadFault>
+        ensures kind { IfOk result (λ c. next_kind self.now ≡ Some (kinds.Mark (comparison_mark c))) }
+        ensures err { OnErr result ((result ≡ Err (ReadFault.At Code.Expected (offset_at self.now))) × (next_is AnyTest self.now ≡ false)) }
+    {
+        let [
+            Token {
+                kind: Kind::Mark(mark),
+                ..
+            },
+            ..
+        ] = self.rest
+        else {
+            return Err(self.fault(Code::Expected));
+        };
+        match comparison_of(*mark) {
+            Some(comparison) => Ok(comparison),
+            None => Err(self.fault(Code::Expected)),
+        }
+    }
+
+    pub fn comparison(&mut self) -> Result<Comparison, ReadFault>
+        ensures { Reads (λ k. One AnyTest k) comparison_says result self.old self.new }
+    {
+        let comparison = self.peek_comparison()?;
+        self.advance();
+        Ok(comparison)
+    }
+
+    fn peek_number(&self) -> Result<CheckpointNumber, ReadFault>
+        ensures kind { IfOk result (λ n. next_kind self.now ≡ Some (kinds.Number (pos n))) }
+        ensures some { IfOk result (λ n. nat_le 1 n ≡ true) }
+        ensures err { OnErr result ((result ≡ Err (ReadFault.At Code.Expected (offset_at self.now))) × (next_is AtLeastOne self.now ≡ false)) }
+    {
+        match self.rest {
+            [
+                Token {
+                    kind: Kind::Number(number),
+                    ..
+                },
+                ..
+            ] if *number >= 1 => { Ok(CheckpointNumber::new(*number as u64)) }
+            _ => Err(self.fault(Code::Expected)),
+        }
+    }
+
+    /// The number of a checkpoint.
+    pub fn number(&mut self) -> Result<CheckpointNumber, ReadFault>
+        ensures { Reads (λ k. One AtLeastOne k) number_says result self.old self.new }
+    {
+        let number = self.peek_number()?;
+        self.advance();
+        Ok(number)
+    }
+
+    /// The word of a privilege that comes next, which stays where it is.
+    pub fn peek_word(&self) -> Result<Word, ReadFault>
+        ensures kind { IfOk result (λ w. next_kind self.now ≡ Some (kinds.Keyword (word_keyword w))) }
+        ensures err { OnErr result ((result ≡ Err (ReadFault.At Code.Expected (offset_at self.now))) × (next_is_privilege self.now ≡ false)) }
+    {
+        let [
+            Token {
+                kind: Kind::Keyword(keyword),
+                ..
+            },
+            ..
+        ] = self.rest
+        else {
+            return Err(self.fault(Code::Expected));
+        };
+        match word_of(*keyword) {
+            Some(word) => Ok(word),
+            None => Err(self.fault(Code::Expected)),
         }
     }
 

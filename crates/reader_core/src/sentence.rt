@@ -2,12 +2,12 @@
 ghost use Rattle.std.specs.Prelude.{◌≡◌, ◌∷◌, [], None, IfOk, OnOk, IfErr};
 ghost use Rattle.reader_core.specs.Grammar.{End};
 ghost use Rattle.reader_core.specs.Cursor.{Reads, judged, fault_of, left_says};
-ghost use Rattle.reader_core.specs.Language.{create, insert, select, body, finish, statement_says, IsFinished, IsLawful};
+ghost use Rattle.reader_core.specs.Language.{create, insert, select, delete, update, grant, revoke, checkpoint, checkpoints, export, body, finish, statement_says, IsFinished, IsLawful};
 
 use crate::list::list;
 use crate::reader::Reader;
 use crate::statement::Statement;
-use base_core::{Column, Distinct, Keyword, Several, Value};
+use base_core::{Assignment, Column, Distinct, Keyword, Several, Value};
 use lexer_core::{Code, Mark, ReadFault};
 use std::alloc::Global;
 
@@ -42,15 +42,116 @@ impl Reader<'_> {
     }
 
     #[tactic(auto, using(crate::proofs::Exits::exit_is))]
-    fn select(&mut self) -> Result<Statement, ReadFault>
+    fn select(&mut self, alloc: Global) -> Result<Statement, ReadFault>
         ensures reads { Reads select statement_says result self.old self.new }
         ensures lawful { IfOk result IsLawful }
     {
         self.keyword(Keyword::Select)?;
-        self.mark(Mark::Star)?;
+        let list = self.selection(alloc)?;
         self.keyword(Keyword::From)?;
         let table = self.name()?;
-        Ok(Statement::Select { table })
+        let filter = self.filter(alloc)?;
+        Ok(Statement::Select {
+            list,
+            table,
+            filter,
+        })
+    }
+
+    #[tactic(auto, using(crate::proofs::Exits::exit_is))]
+    fn delete(&mut self, alloc: Global) -> Result<Statement, ReadFault>
+        ensures reads { Reads delete statement_says result self.old self.new }
+        ensures lawful { IfOk result IsLawful }
+    {
+        self.keyword(Keyword::Delete)?;
+        self.keyword(Keyword::From)?;
+        let table = self.name()?;
+        let filter = self.filter(alloc)?;
+        Ok(Statement::Delete { table, filter })
+    }
+
+    #[tactic(auto, using(crate::proofs::Exits::exit_is))]
+    fn update(&mut self, alloc: Global) -> Result<Statement, ReadFault>
+        ensures reads { Reads update statement_says result self.old self.new }
+        ensures lawful { IfOk result IsLawful }
+    {
+        self.keyword(Keyword::Update)?;
+        let table = self.name()?;
+        self.keyword(Keyword::Set)?;
+        let sets = Distinct::from_vec(list::<Assignment>(self, alloc)?);
+        let filter = self.filter(alloc)?;
+        Ok(Statement::Update {
+            table,
+            sets,
+            filter,
+        })
+    }
+
+    #[tactic(auto, using(crate::proofs::Exits::exit_is))]
+    fn grant(&mut self, alloc: Global) -> Result<Statement, ReadFault>
+        ensures reads { Reads grant statement_says result self.old self.new }
+        ensures lawful { IfOk result IsLawful }
+    {
+        self.keyword(Keyword::Grant)?;
+        let privileges = self.privileges(alloc)?;
+        self.keyword(Keyword::On)?;
+        let table = self.name()?;
+        self.keyword(Keyword::To)?;
+        let users = self.users(alloc)?;
+        let option = self.option()?;
+        Ok(Statement::Grant {
+            privileges,
+            table,
+            users,
+            option,
+        })
+    }
+
+    #[tactic(auto, using(crate::proofs::Exits::exit_is))]
+    fn revoke(&mut self, alloc: Global) -> Result<Statement, ReadFault>
+        ensures reads { Reads revoke statement_says result self.old self.new }
+        ensures lawful { IfOk result IsLawful }
+    {
+        self.keyword(Keyword::Revoke)?;
+        let privileges = self.privileges(alloc)?;
+        self.keyword(Keyword::On)?;
+        let table = self.name()?;
+        self.keyword(Keyword::From)?;
+        let users = self.users(alloc)?;
+        Ok(Statement::Revoke {
+            privileges,
+            table,
+            users,
+        })
+    }
+
+    #[tactic(auto, using(crate::proofs::Exits::exit_is))]
+    fn checkpoint(&mut self) -> Result<Statement, ReadFault>
+        ensures reads { Reads checkpoint statement_says result self.old self.new }
+        ensures lawful { IfOk result IsLawful }
+    {
+        self.keyword(Keyword::Checkpoint)?;
+        Ok(Statement::Checkpoint)
+    }
+
+    #[tactic(auto, using(crate::proofs::Exits::exit_is))]
+    fn checkpoints(&mut self) -> Result<Statement, ReadFault>
+        ensures reads { Reads checkpoints statement_says result self.old self.new }
+        ensures lawful { IfOk result IsLawful }
+    {
+        self.keyword(Keyword::Checkpoints)?;
+        Ok(Statement::Checkpoints)
+    }
+
+    #[tactic(auto, using(crate::proofs::Exits::exit_is))]
+    fn export(&mut self) -> Result<Statement, ReadFault>
+        ensures reads { Reads export statement_says result self.old self.new }
+        ensures lawful { IfOk result IsLawful }
+    {
+        self.keyword(Keyword::Export)?;
+        let number = self.number()?;
+        let only = self.only()?;
+        Ok(Statement::Export { number, only })
     }
 
     /// A statement without its ";".
@@ -63,8 +164,22 @@ impl Reader<'_> {
             self.create(alloc)
         } else if self.at_keyword(Keyword::Insert) {
             self.insert(alloc)
+        } else if self.at_keyword(Keyword::Select) {
+            self.select(alloc)
+        } else if self.at_keyword(Keyword::Delete) {
+            self.delete(alloc)
+        } else if self.at_keyword(Keyword::Update) {
+            self.update(alloc)
+        } else if self.at_keyword(Keyword::Grant) {
+            self.grant(alloc)
+        } else if self.at_keyword(Keyword::Revoke) {
+            self.revoke(alloc)
+        } else if self.at_keyword(Keyword::Checkpoint) {
+            self.checkpoint()
+        } else if self.at_keyword(Keyword::Checkpoints) {
+            self.checkpoints()
         } else {
-            self.select()
+            self.export()
         }
     }
 

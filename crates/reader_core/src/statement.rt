@@ -1,11 +1,17 @@
 //! What a user may ask.
 
-use base_core::{Column, Distinct, Name, Several, Value};
+use crate::checkpoint::CheckpointNumber;
+use crate::privilege::Privileges;
+use base_core::{Assignment, Column, Condition, Distinct, Limited, Name, Several, User, Value};
 
-/// The most columns, names, values or conditions in one list.
+/// The most columns, names, values, assignments or conditions in one list.
 pub const MAX_ITEMS: usize = 32;
 
-/// A statement. Its lists keep the limits and the distinctness of the language.
+/// The most users that one statement names.
+pub const MAX_USERS: usize = 16;
+
+/// A statement. Its lists keep the limits and the distinctness of the language, and come in the order
+/// written. A filter without conditions is no WHERE: every row is chosen.
 #[derive(Debug, Drop)]
 pub enum Statement {
     CreateTable {
@@ -16,8 +22,40 @@ pub enum Statement {
         table: Name,
         values: Several<Value, MAX_ITEMS>,
     },
-    /// All columns of all rows.
+    /// These columns, or with no list all of them, in the order of the table.
     Select {
+        list: Option<Distinct<Name, MAX_ITEMS>>,
         table: Name,
+        filter: Limited<Condition, MAX_ITEMS>,
+    },
+    Delete {
+        table: Name,
+        filter: Limited<Condition, MAX_ITEMS>,
+    },
+    Update {
+        table: Name,
+        sets: Distinct<Assignment, MAX_ITEMS>,
+        filter: Limited<Condition, MAX_ITEMS>,
+    },
+    Grant {
+        privileges: Privileges,
+        table: Name,
+        users: Distinct<User, MAX_USERS>,
+        /// Whether the users may grant it on.
+        option: bool,
+    },
+    Revoke {
+        privileges: Privileges,
+        table: Name,
+        users: Distinct<User, MAX_USERS>,
+    },
+    /// Begins a checkpoint.
+    Checkpoint,
+    /// Lists the checkpoints.
+    Checkpoints,
+    /// The tables of a checkpoint, or only the one named.
+    Export {
+        number: CheckpointNumber,
+        only: Option<Name>,
     },
 }

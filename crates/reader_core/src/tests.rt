@@ -1,45 +1,140 @@
-use crate::{Statement, read};
-use lexer_core::{Code, ReadFault};
+//! Lines from outside: statements at the limits, and printed text.
+use crate::printing::{PrintFault, print};
+use crate::reading::read;
+use crate::statement::Statement;
+use base_core::{Name, Several, Twin, Value};
+use std::alloc::Global;
 use std::test::Fail;
 
+mod faults;
+
+/// The front, the part so often, and the back.
+fn repeated(
+    alloc: Global,
+    front: &str,
+    part: &str,
+    count: usize,
+    back: &str,
+) -> Result<String, Fail> {
+    let mut line = String::from_str(alloc, front)?;
+    for _ in 0..count {
+        line.push_str(part)?;
+    }
+    line.push_str(back)?;
+    Ok(line)
+}
+
+/// The canonical text of the statement that a line spells.
+fn reprinted(alloc: Global, line: &str) -> Result<String, Fail> {
+    let statement = read(alloc, line.as_bytes())?;
+    let text = print(alloc, &statement)?;
+    Ok(text)
+}
+
+// Each list, name, text and line as long as it may be.
 #[test]
-fn three_statements(rt: HostRuntime) -> Result<(), Fail> {
+fn at_the_limits(rt: HostRuntime) -> Result<(), Fail> {
     let alloc = rt.alloc();
-    match read(alloc, b"create table PAY (name TEXT, wage INTEGER);")? {
-        Statement::CreateTable { table, columns } => {
-            assert_eq!(rt; table.as_bytes(), b"pay".as_slice());
-            assert_eq!(rt; columns.as_slice().len(), 2);
-        }
-        _ => return Err(Fail::from("another statement")),
+    let lines = [
+        ("CHECKPOINTS", " ", 4085, ""),
+        ("SELECT * FROM a", "_", 29, ""),
+        ("INSERT INTO t VALUES ('", "''", 1024, "')"),
+        ("INSERT INTO t VALUES ('", "\u{e9}", 512, "')"),
+        ("INSERT INTO t VALUES (", "1,", 31, "-9223372036854775808)"),
+        ("DELETE FROM t WHERE ", "x=1 AND ", 31, "x=1"),
+        ("EXPORT ", "0", 40, "9223372036854775807"),
+        (
+            "REVOKE SELECT ON t FROM a,b,c,d,e,f,g,h,i,j,k,l,m,n,o,p",
+            " ",
+            1,
+            "",
+        ),
+        (
+            "SELECT a,b,c,d,e,f,g,h,i,j,k,l,m,n,o,p,q,r,s,t,u,v,w,x,y,z,aa,ab,ac,ad,ae,af FROM t",
+            " ",
+            1,
+            "",
+        ),
+    ];
+    for (front, part, count, back) in lines {
+        let line = repeated(alloc, front, part, count, back)?;
+        assert!(rt; read(alloc, line.as_bytes()).is_ok(), "{line}");
     }
-    match read(alloc, b"INSERT INTO pay VALUES ('Bo, jr', -5)")? {
-        Statement::Insert { table: _, values } => {
-            assert_eq!(rt; values.as_slice().len(), 2);
-        }
-        _ => return Err(Fail::from("another statement")),
-    }
-    assert!(rt; matches!(read(alloc, b"SELECT * FROM pay")?, Statement::Select { .. }));
     Ok(())
 }
 
+/// Lines, and the canonical text of each one's statement.
+const PRINTED: [(&str, &str); 13] = [
+    (
+        "select NAME from PAY where WAGE<0;",
+        "SELECT name FROM pay WHERE wage < 0",
+    ),
+    (
+        "create table T(A integer,B text)",
+        "CREATE TABLE t (a INTEGER, b TEXT)",
+    ),
+    (
+        "INSERT INTO t VALUES(-0,'it''s', 007 ) ;",
+        "INSERT INTO t VALUES (0, 'it''s', 7)",
+    ),
+    ("Select * From t", "SELECT * FROM t"),
+    (
+        "SELECT a,b FROM t WHERE a<>1 AND a>='x'",
+        "SELECT a, b FROM t WHERE a <> 1 AND a >= 'x'",
+    ),
+    ("delete\tfrom t", "DELETE FROM t"),
+    (
+        "UPDATE t SET a=1 , b='' WHERE a<=-5",
+        "UPDATE t SET a = 1, b = '' WHERE a <= -5",
+    ),
+    (
+        "grant SELECT,update(a,b)on t to u,v with grant option",
+        "GRANT SELECT, UPDATE (a, b) ON t TO u, v WITH GRANT OPTION",
+    ),
+    (
+        "revoke insert , delete,update on T from U",
+        "REVOKE INSERT, DELETE, UPDATE ON t FROM u",
+    ),
+    ("CHECKPOINT ;", "CHECKPOINT"),
+    ("checkpoints", "CHECKPOINTS"),
+    ("EXPORT 012", "EXPORT 12"),
+    (
+        "Export 9223372036854775807 only T",
+        "EXPORT 9223372036854775807 ONLY t",
+    ),
+];
+
 #[test]
-fn faults(rt: HostRuntime) -> Result<(), Fail> {
-    for (line, code, offset) in [
-        (b"".as_slice(), Code::Empty, 0),
-        (b"SELECT * FROM", Code::Expected, 13),
-        (b"SELECT * FROM t t", Code::Trailing, 16),
-        (b"CREATE TABLE t (a TEXT, A TEXT)", Code::Duplicate, 24),
-        (b"INSERT INTO t VALUES ('abc", Code::OpenText, 22),
-        (
-            b"INSERT INTO t VALUES (9223372036854775808)",
-            Code::BadNumber,
-            22,
-        ),
-    ] {
-        match read(rt.alloc(), line) {
-            Ok(_) => return Err(Fail::from("it was read")),
-            Err(fault) => assert_eq!(rt; fault, ReadFault::At { code, offset }),
-        }
+fn printed(rt: HostRuntime) -> Result<(), Fail> {
+    for (line, text) in PRINTED {
+        let printed = reprinted(rt.alloc(), line)?;
+        assert_eq!(rt; printed.as_str(), text);
+        let again = reprinted(rt.alloc(), printed.as_str())?;
+        assert_eq!(rt; again.as_str(), text);
     }
+    Ok(())
+}
+
+/// The one value of an INSERT.
+fn only_value(statement: &Statement) -> Result<Value, Fail> {
+    match statement {
+        Statement::Insert { values, .. } => Ok(values.as_slice()[0].try_twin()?),
+        _ => Err(Fail::from("no INSERT")),
+    }
+}
+
+#[test]
+fn too_long_to_print(rt: HostRuntime) -> Result<(), Fail> {
+    let alloc = rt.alloc();
+    let line = repeated(alloc, "INSERT INTO t VALUES ('", "a", 1024, "')")?;
+    let text = only_value(&read(alloc, line.as_bytes())?)?;
+    let mut values = vec![in alloc; text.try_twin()?, text.try_twin()?, text.try_twin()?]?;
+    values.push(text.try_twin()?)?;
+    values.push(text)?;
+    let insert = Statement::Insert {
+        table: Name::read(b"t").ok_or("no name")?,
+        values: Several::from_vec(values),
+    };
+    assert_eq!(rt; print(alloc, &insert).err(), Some(PrintFault::TooLong));
     Ok(())
 }

@@ -10,7 +10,8 @@ use Rattle.std.proofs.lemmas.Bool.Decides.{nat_tests}
 use Rattle.std.proofs.KnownBytes.{Appends-trans, Appends-nil}
 use Rattle.memchr.specs.Find.{IsFirstByte, is_byte}
 use Rattle.base_core.specs.Streams.{WritesFront}
-use Rattle.system_core.specs.declared.lines.line.TheConstants.{LONGEST_LINE, KEPT_BYTES}
+use Rattle.lexer_core.specs.declared.lexer.TheConstants.{MAX_LINE}
+use Rattle.system_core.specs.declared.lines.line.TheConstants.{KEPT_BYTES}
 use Rattle.system_core.specs.Lines.{Cut, NoFeed}
 use Rattle.system_core.specs.Serving.{AnswersAll, AnswersLine, BreaksLine, Feeds, Breaks}
 use Rattle.system_core.proofs.LineLemmas.{Cut-append, Cut-feed, Cut-open, ByRecursion-append}
@@ -83,7 +84,7 @@ behind_feed done left behind piece end found b e =
     ap (λ x. (done ++ (take end left ++ 10 ∷ [])) ++ x) (take_rest behind 1 ∙ ap (drop 1) b ∙ drop-drop 1 end left) ∙ split_feed done left piece end found e
 
 module _ {X : Type 0} (R : X → List ℕ → List ℕ → X → Type 0)
-    (too_long : (old new : X) (line other text : List ℕ) → LONGEST_LINE < length line → LONGEST_LINE < length other → R old line text new → R old other text new) where
+    (too_long : (old new : X) (line other text : List ℕ) → MAX_LINE < length line → MAX_LINE < length other → R old line text new → R old other text new) where
   -- and its answer
   answer_line : (old mid new : X) (now part line text more : List ℕ) (parts : List (List ℕ)) → line ≡ take KEPT_BYTES (now ++ part)
       → AnswersAll R old (map strip_carriage_return parts) text mid → R mid (strip_carriage_return line) more new

@@ -1,5 +1,6 @@
 pub mod Misfits
 pub mod Passing
+pub mod Checking
 pub mod Keeping
 pub mod LineLemmas
 pub mod AnswerLemmas

@@ -1,6 +1,7 @@
 -- What a passed check says.
-use Rattle.std.proofs.Common.{◌≡◌, Bool, true, false, not, List, ◌∷◌, refl, Ok, Err, Option, Some, None}
+use Rattle.std.proofs.Common.{◌≡◌, Bool, true, false, not, List, [], ◌∷◌, refl, Ok, Err, Option, Some, None}
 use Rattle.std.specs.Option.{is_some}
+use Rattle.std.specs.List.{AllByRecursion}
 use Rattle.base_core.specs.declared.lack.Lack.{Lack}
 use Rattle.system_core.specs.Verdict.{Check, require, first_lack}
 
@@ -8,9 +9,11 @@ pub require-Ok : (b : Bool) (lack : Lack) → require b lack ≡ Ok tt → b ≡
 require-Ok true lack h = refl
 require-Ok false lack h = cc
 
-pub first_lack-Ok : (check : Check) (more : List Check) → first_lack (check ∷ more) ≡ Ok tt → (check ≡ Ok tt) × (first_lack more ≡ Ok tt)
-first_lack-Ok (Ok u) more h = (refl, h)
-first_lack-Ok (Err l) more h = cc
+-- where no check fails, each has passed
+pub passed : (checks : List Check) → first_lack checks ≡ Ok tt → AllByRecursion (λ check. check ≡ Ok tt) checks
+passed [] h = tt
+passed (Ok u ∷ more) h = (refl, passed more h)
+passed (Err lack ∷ more) h = cc
 
 pub not-some : {A : Type 0} (o : Option A) → not (is_some o) ≡ true → o ≡ None
 not-some None h = refl

@@ -4,7 +4,8 @@ use Rattle.std.specs.Str.Lines.{lines, strip_carriage_return}
 use Rattle.std.specs.Io.KnownBytes.{Consumes, Keeps}
 use Rattle.std.proofs.lemmas.List.{map-append, length-append, length-take}
 use Rattle.std.proofs.KnownBytes.{Appends-trans, Appends-kept, Consumes-trans, Consumes-kept, Consumes-nil}
-use Rattle.system_core.specs.declared.lines.line.TheConstants.{LONGEST_LINE, KEPT_BYTES}
+use Rattle.lexer_core.specs.declared.lexer.TheConstants.{MAX_LINE}
+use Rattle.system_core.specs.declared.lines.line.TheConstants.{KEPT_BYTES}
 use Rattle.system_core.specs.Lines.{Cut, NoFeed, whole_lines}
 use Rattle.system_core.specs.Serving.{AnswersAll, AnswersLine, BreaksLine, Feeds, Breaks, Run, BrokenRun, Serving}
 use Rattle.system_core.proofs.LineLemmas.{Cut-append, lines-Cut, whole_lines-Cut, last_line}
@@ -19,7 +20,7 @@ no_rest [] kept e none = refl
 no_rest (b ∷ bs) kept e none = absurd (omega (arith, ap length e, length-take KEPT_BYTES (b ∷ bs)))
 
 module _ {X : Type 0} (R : X → List ℕ → List ℕ → X → Type 0)
-    (too_long : (old new : X) (line other text : List ℕ) → LONGEST_LINE < length line → LONGEST_LINE < length other → R old line text new → R old other text new) where
+    (too_long : (old new : X) (line other text : List ℕ) → MAX_LINE < length line → MAX_LINE < length other → R old line text new → R old other text new) where
   pub Serving-none : (start : X) (left taken : Option (List ℕ)) → Serving R [] start start (2 ^ 32) left left taken taken
   Serving-none start left taken = record { bytes = []; count = refl; read = Consumes-nil left; fed = Feeds-none R too_long [] [] start taken tt refl }
 

@@ -6,7 +6,7 @@ use Rattle.base_core.specs.declared.name.User.{User}
 use Rattle.base_core.specs.declared.limits.Limits.{Limits}
 use Rattle.reader_core.specs.declared.statement.Statement.{Statement}
 use Rattle.reader_core.specs.declared.statement.Statement.TheVariants as statements
-use Rattle.tables_core.specs.Contents.{Contents, opened, with_row, with_change}
+use Rattle.tables_core.specs.Contents.{Contents, opened, with_row, deleted, updated, with_change}
 use Rattle.system_core.specs.declared.event.Entry.{Entry}
 use Rattle.system_core.specs.Verdict.{State, Check, verdict}
 
@@ -14,13 +14,22 @@ use Rattle.system_core.specs.Verdict.{State, Check, verdict}
 abbrev pub is_change : Statement → Bool
 is_change (statements.CreateTable table columns) = true
 is_change (statements.Insert table values) = true
-is_change (statements.Select table) = false
+is_change (statements.Delete table filter) = true
+is_change (statements.Update table sets filter) = true
+is_change _ = false
+
+-- whether a statement is carried out by now: no grant and no checkpoint is yet
+abbrev pub is_served : Statement → Bool
+is_served (statements.Select list table filter) = true
+is_served asked = is_change asked
 
 -- the tables after a change
 abbrev pub tables_after : List (Name × Contents) → User → Statement → List (Name × Contents)
 tables_after tables user (statements.CreateTable table columns) = tables ++ (table, opened user columns) ∷ []
 tables_after tables user (statements.Insert table values) = with_change table (with_row (record { values = values })) tables
-tables_after tables user (statements.Select table) = tables
+tables_after tables user (statements.Delete table filter) = with_change table (deleted filter) tables
+tables_after tables user (statements.Update table sets filter) = with_change table (updated sets filter) tables
+tables_after tables user _ = tables
 
 abbrev pub tables_with : List (Name × Contents) → Entry → List (Name × Contents)
 tables_with tables e = tables_after tables e.user e.statement

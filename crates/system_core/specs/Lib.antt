@@ -7,6 +7,7 @@ pub mod Record
 pub mod Lines
 pub mod Serving
 pub use Rattle.base_core.specs.Words
+pub use Rattle.base_core.specs.Full
 pub use Rattle.base_core.specs.Users
 pub use Rattle.base_core.specs.Values
 pub use Rattle.base_core.specs.Lacks

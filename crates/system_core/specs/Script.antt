@@ -1,9 +1,10 @@
 -- What a script's line says, and what may be written for it.
-use Rattle.std.specs.Prelude.{◌≡◌, ◌⊎◌, ◌+◌, ◌<◌, ℕ, Bool, false, not, ◌==◌, nat_lt, List, length, take, drop, slice_index, if◌then◌else◌, Option, None, Some, Result, Ok, Err}
+use Rattle.std.specs.Prelude.{◌≡◌, ◌⊎◌, ◌+◌, ◌<◌, ℕ, Bool, true, false, not, ◌==◌, nat_lt, List, length, take, drop, slice_index, if◌then◌else◌, Option, None, Some, Result, Ok, Err}
 use Rattle.std.specs.List.{list_all, prefix_len}
 use Rattle.std.specs.Char.{is_ascii_alphabetic}
 use Rattle.std.proofs.Common.{arith, sym, ◌∙◌}
 use Rattle.std.proofs.lemmas.Bool.Decides.{nat_tests}
+use Rattle.base_core.specs.Full.{IsFull}
 use Rattle.base_core.specs.Words.{is_word_byte, name_of}
 use Rattle.base_core.specs.declared.name.Name.{Name}
 use Rattle.base_core.specs.declared.name.User.{User}
@@ -12,12 +13,13 @@ use Rattle.lexer_core.specs.Lexing.{is_blank}
 use Rattle.lexer_core.specs.declared.fault.Code.{Code}
 use Rattle.lexer_core.specs.declared.fault.Code.TheVariants as codes
 use Rattle.lexer_core.specs.declared.lexer.TheConstants.{MAX_LINE}
-use Rattle.lexer_core.specs.declared.word.TheConstants.{MAX_NAME}
+use Rattle.base_core.specs.declared.word.TheConstants.{MAX_NAME}
 use Rattle.reader_core.specs.Language.{Spells, IsReadFault}
 use Rattle.reader_core.specs.declared.statement.Statement.{Statement}
+use Rattle.system_core.specs.Journal.{is_served}
 use Rattle.system_core.specs.Serving.{Ends}
 use Rattle.system_core.specs.Texts.{reply_text, fault_text, unread_text, lost_text}
-use Rattle.system_core.specs.World.{World, Step, opening, IsFull}
+use Rattle.system_core.specs.World.{World, Step, opening}
 use Rattle.system_core.specs.declared.event.Event.TheVariants as events
 use Rattle.system_core.specs.declared.event.Reply.{Reply}
 use Rattle.system_core.specs.declared.lines.serve.SessionFault.{SessionFault}
@@ -49,16 +51,26 @@ addressed line =
     else if list_all is_blank line then Err (codes.Empty, 0)
     else addressed_by (prefix_len is_word_byte line) line
 
--- the user asks this
-pub record Asks (line : List ℕ) (user : User) (asked : Statement) : Type 0 where
-  pub start : ℕ
+-- the user asks this, from that byte on
+pub record AsksFrom (start : ℕ) (line : List ℕ) (user : User) (asked : Statement) : Type 0 where
   pub speaker : addressed line ≡ Ok (user, start)
   pub spelled : Spells (drop start line) asked
 
--- the line's one fault, at this byte of it
+-- the user asks this, which is carried out by now
+pub record Asks (line : List ℕ) (user : User) (asked : Statement) : Type 0 where
+  pub start : ℕ
+  pub asks : AsksFrom start line user asked
+  pub served : is_served asked ≡ true
+
+-- the byte of a line at which its first word stands, after blanks
+abbrev pub first_word : List ℕ → ℕ
+first_word line = prefix_len is_blank line
+
+-- the line's one fault, at this byte of it; the last is a statement that is not carried out by now, at its first word
 pub data IsFaulty (line : List ℕ) : Code → ℕ → Type 0 where
   address : {code : Code} {offset : ℕ} → addressed line ≡ Err (code, offset) → IsFaulty line code offset
   statement : {code : Code} (user : User) (start offset : ℕ) → addressed line ≡ Ok (user, start) → IsReadFault (drop start line) code offset → IsFaulty line code (start + offset)
+  unserved : (user : User) (start : ℕ) (asked : Statement) → AsksFrom start line user asked → is_served asked ≡ false → IsFaulty line codes.Expected (start + first_word (drop start line))
 
 -- From old, this text may be written for the line, and new is the next world. The last two are for want of memory.
 pub data Answers (old : World) (line : List ℕ) : List ℕ → World → Type 0 where
@@ -82,9 +94,10 @@ too_long line h = grind (arith, nat_tests)
 pub Answers-too_long : (old new : World) (line other text : List ℕ) → MAX_LINE < length line → MAX_LINE < length other → Answers old line text new → Answers old other text new
 Answers-too_long old _ line other _ h k (faulty (address e)) = faulty (address (too_long other k ∙ sym (too_long line h) ∙ e))
 Answers-too_long old _ line other _ h k (faulty (statement user start offset e f)) = let l = too_long line h in cc
-Answers-too_long old new line other _ h k (said user asked reply a step) = let l = too_long line h in let s = a.speaker in cc
+Answers-too_long old _ line other _ h k (faulty (unserved user start asked a n)) = let l = too_long line h in let s = a.speaker in cc
+Answers-too_long old new line other _ h k (said user asked reply a step) = let l = too_long line h in let s = a.asks.speaker in cc
 Answers-too_long old _ line other _ h k unread = unread
-Answers-too_long old new line other _ h k (lost user asked reply a step) = let l = too_long line h in let s = a.speaker in cc
+Answers-too_long old new line other _ h k (lost user asked reply a step) = let l = too_long line h in let s = a.asks.speaker in cc
 
 abbrev pub never : World → Bool
 never w = false

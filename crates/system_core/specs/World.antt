@@ -1,7 +1,9 @@
 -- Worlds, and the steps from one to the next.
-use Rattle.std.specs.Prelude.{ℕ, ◌≡◌, ◌+◌, true, List, [], ◌∷◌, ◌++◌, length, map, if◌then◌else◌, Ok, Err, Some, option_map}
+use Rattle.std.specs.Prelude.{ℕ, ◌≡◌, ◌+◌, true, List, [], ◌∷◌, ◌++◌, length, map, if◌then◌else◌, Ok, Err, Option, None, Some, option_map}
 use Rattle.base_core.specs.Lacks.{is_denial}
 use Rattle.base_core.specs.declared.name.User.{User}
+use Rattle.base_core.specs.declared.name.Name.{Name}
+use Rattle.base_core.specs.declared.value.Column.{Column}
 use Rattle.base_core.specs.declared.value.Row.{Row}
 use Rattle.base_core.specs.declared.value.Moment.{Moment}
 use Rattle.base_core.specs.declared.lack.Lack.{Lack}
@@ -16,7 +18,7 @@ use Rattle.system_core.specs.declared.event.Event.TheVariants as events
 use Rattle.system_core.specs.declared.event.Reply.{Reply}
 use Rattle.system_core.specs.declared.event.Reply.TheVariants as replies
 use Rattle.system_core.specs.Verdict.{Check, columns_of}
-use Rattle.system_core.specs.Journal.{contents, is_change, verdict_at}
+use Rattle.system_core.specs.Journal.{contents, is_served, is_change, verdict_at}
 
 -- what a system stands for: its journal of accepted changes, its chunk, and its limits
 pub record World : Type 0 where
@@ -26,13 +28,6 @@ pub record World : Type 0 where
 
 abbrev pub opening : ℕ → Limits → World
 opening chunk limits = record { journal = []; chunk = chunk; limits = limits }
-
--- as much as there may be at all
-pub record IsFull (limits : Limits) : Type 0 where
-  pub changes : limits.changes ≡ 1000000
-  pub tables : limits.tables ≡ 1024
-  pub grants : limits.grants ≡ 1024
-  pub checkpoints : limits.checkpoints ≡ 1000000
 
 abbrev pub entry : ℕ → User → Statement → Entry
 entry pass user asked = record { pass = pass; user = user; statement = asked }
@@ -52,9 +47,16 @@ entered w e = record w { journal = w.journal ++ e ∷ [] }
 abbrev pub turned_away : Moment → Lack → Reply
 turned_away at lack = if is_denial lack then replies.Denied at lack else replies.Refused at lack
 
--- the rows that answer a query: all of the table's, with all columns in table order
+-- the columns that a query gives: those listed, or with no list all, in table order
+abbrev pub columns_given : List Column → Option (List Name) → List Name
+columns_given columns None = map (λ c. c.name) columns
+columns_given columns (Some names) = names
+
+-- the rows that answer a query: those of the table that the filter chooses, cut to the columns given
 abbrev pub IsAnswer : List Entry → Statement → List Row → Type 0
-IsAnswer journal (statements.Select table) rows = option_map (selected (map (λ c. c.name) (columns_of (contents journal) table)) []) (table_of (contents journal) table) ≡ Some rows
+IsAnswer journal (statements.Select list table filter) rows =
+    let tables = contents journal in
+    option_map (selected (columns_given (columns_of tables table) list) filter) (table_of tables table) ≡ Some rows
 IsAnswer journal _ rows = ⊥
 
 -- what may come of an allowed statement
@@ -75,6 +77,12 @@ abbrev pub Step : World → Event → Reply → World → Type 0
 Step old (events.Say pass user asked) reply new = Answers old (entry pass user asked) (verdict_at old.limits old.journal user asked) reply new
 Step old events.Step reply new = (reply ≡ replies.Idle) × (new ≡ old)
 Step old events.Abandon reply new = (reply ≡ replies.Idle) × (new ≡ old)
+
+-- what may be asked by now
+abbrev pub IsServed : Event → Type 0
+IsServed (events.Say pass user asked) = is_served asked ≡ true
+IsServed events.Step = Unit {0}
+IsServed events.Abandon = Unit {0}
 
 -- one step after another
 abbrev pub Run : World → List Event → List Reply → World → Type 0

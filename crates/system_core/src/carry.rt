@@ -1,6 +1,6 @@
 //! What a change does to the tables.
-ghost use Rattle.std.specs.Prelude.{◌≡◌, ◌<◌, ◌^◌, None, IsSomeAnd, OnOk, OnErr};
-ghost use Rattle.tables_core.specs.Contents.{opened, with_row, with_change, table_of};
+ghost use Rattle.std.specs.Prelude.{◌≡◌, ◌<◌, ◌^◌, None, IsSome, IsSomeAnd, OnOk, OnErr};
+ghost use Rattle.tables_core.specs.Contents.{opened, with_row, deleted, updated, with_change, table_of};
 ghost use Rattle.system_core.specs.Journal.{tables_after};
 ghost use Rattle.system_core.specs.Carrying.{CanCarry};
 
@@ -30,6 +30,15 @@ pub fn carry_out(
             let values = Sequence::from_vec(twins_of(alloc, values.as_slice())?);
             tables.insert(table, Row { values })
         }
-        Statement::Select { table: _ } => Ok(()),
+        Statement::Delete { table, filter } => {
+            tables.delete(table, filter.as_slice());
+            Ok(())
+        }
+        Statement::Update {
+            table,
+            sets,
+            filter,
+        } => { tables.update(table, sets.as_slice(), filter.as_slice()) }
+        _ => unreachable!(),
     }
 }

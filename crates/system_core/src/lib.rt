@@ -9,7 +9,8 @@
 //! stands for to the one after. A user's statement has a verdict at the journal: a list of checks, of
 //! which the first that fails is the lack. What passes is carried out, and a change is entered; what
 //! does not is answered by its lack, as a denial or a refusal, and the world stays. Want of memory is
-//! a refusal too, and changes nothing.
+//! a refusal too, and changes nothing. Of the language's ten statements five are carried out by now
+//! ([`is_served`]): CREATE TABLE, INSERT, SELECT, DELETE and UPDATE. A step must not be asked another.
 //!
 //! ```text
 //! let mut system = System::new(alloc, 16)?;
@@ -19,7 +20,8 @@
 //!
 //! [`script`] reads lines `user: statement` and writes the text of each reply before it looks at the
 //! next line. Its contract is over bytes: what was written is answers to the lines of what was read,
-//! one after another, by the machine above.
+//! one after another, by the machine above. A statement that is read and not carried out by now is
+//! answered as not expected at its first word, and is no event.
 //!
 //! # Mechanism
 //!
@@ -32,16 +34,18 @@
 //!
 //! # Cost
 //!
-//! A CREATE TABLE or an INSERT is constant, amortised; a SELECT costs the rows that it gives. A line
-//! costs its bytes once. The journal keeps each change, and the tables each row.
+//! A CREATE TABLE or an INSERT is constant, amortised; a SELECT, DELETE or UPDATE goes over the rows of
+//! its table once. A line costs its bytes once. The journal keeps each change, and the tables each row.
 #![tactic(auto)]
 
 mod carry;
+mod checks;
 mod event;
 mod judging;
 mod lines;
 mod record;
 mod rows;
+mod served;
 mod system;
 mod texts;
 mod wording;
@@ -49,6 +53,7 @@ mod wording;
 pub use event::{Entry, Event, Reply};
 pub use lines::serve::SessionFault;
 pub use lines::server::script;
+pub use served::is_served;
 pub use system::System;
 pub use wording::reply_text;
 

@@ -1,16 +1,21 @@
 //! The core: the journal of accepted changes, and the tables that it makes.
-ghost use Rattle.std.specs.Prelude.{◌≡◌, ◌+◌, ◌<◌, ◌≤◌, ◌++◌, ◌∷◌, [], true, false, length, map, Ok, Some, option_map, IsSome, IfOk, OnOk, OnErr, MatchResult, vec_len};
+ghost use Rattle.std.specs.Prelude.{◌≡◌, ◌+◌, ◌<◌, ◌≤◌, ◌++◌, ◌∷◌, [], true, false, All, length, map, Ok, Some, option_map, IsSome, IfOk, OnOk, OnErr, MatchResult, vec_len};
 ghost use Rattle.std.specs.Vec.{vec_capacity};
+ghost use Rattle.base_core.specs.Full.{IsFull};
 ghost use Rattle.tables_core.specs.Contents.{selected, table_of};
 ghost use Rattle.system_core.specs.Verdict.{columns_of};
-ghost use Rattle.system_core.specs.Journal.{IsLawful, is_change, verdict_at, contents};
-ghost use Rattle.system_core.specs.World.{opening, entry, moment_of, next_moment, entered, turned_away, IsFull, CarriesOut, Answers, Step, Run, IsRunOfSome};
+ghost use Rattle.system_core.specs.Journal.{IsLawful, is_served, is_change, verdict_at, contents};
+ghost use Rattle.system_core.specs.World.{opening, entry, moment_of, next_moment, entered, turned_away, columns_given, CarriesOut, Answers, IsServed, Step, Run, IsRunOfSome};
 
 use crate::carry::carry_out;
+use crate::checks::columns_of;
 use crate::event::{Entry, Event, Reply};
-use crate::judging::{columns_of, judge};
-use base_core::{Column, Lack, Limits, Moment, Name, NoMemory, Row, Sequence, User};
-use reader_core::Statement;
+use crate::judging::Judge;
+use crate::served::is_change;
+use base_core::{
+    Column, Condition, Distinct, Lack, Limits, Moment, Name, NoMemory, Row, Sequence, User,
+};
+use reader_core::{MAX_ITEMS, Statement};
 use std::alloc::{AllocError, Global};
 use std::marker::Model;
 use tables_core::Tables;
@@ -37,12 +42,6 @@ impl Model for System {
     ghost invariant = { λ s. Stands s.chunk s.limits s.journal.items s.tables };
 }
 
-fn is_change(statement: &Statement) -> bool
-    ensures { result ≡ is_change statement.now }
-{
-    !matches!(statement, Statement::Select { .. })
-}
-
 fn turn_away(at: Moment, lack: Lack) -> Reply
     ensures { result ≡ turned_away at lack }
 {
@@ -59,13 +58,24 @@ fn names_of(alloc: Global, columns: &[Column]) -> Result<Vec<Name>, AllocError>
     columns.iter().map(|column| column.name).collect(alloc)
 }
 
-/// All rows of a table, with all columns in table order.
-fn rows_of(alloc: Global, tables: &Tables, table: Name) -> Result<Vec<Row>, NoMemory>
-    requires { IsSome (table_of tables.now table) }
-    ensures { IfOk result (λ rows. option_map (selected (map (λ c. c.name) (columns_of tables.now table)) []) (table_of tables.now table) ≡ Some rows.items) }
+/// The rows of a table that the filter chooses, cut to the columns listed, or with no list to all.
+fn rows_of(
+    alloc: Global,
+    tables: &Tables,
+    list: &Option<Distinct<Name, MAX_ITEMS>>,
+    table: &Name,
+    filter: &[Condition],
+) -> Result<Vec<Row>, NoMemory>
+    requires { IsSome (table_of tables.now table.now) }
+    ensures { IfOk result (λ rows. option_map (selected (columns_given (columns_of tables.now table.now) list.now) filter.now) (table_of tables.now table.now) ≡ Some rows.items) }
 {
-    let names = names_of(alloc, columns_of(tables, table))?;
-    tables.select(&table, &names, &[])
+    match list {
+        Some(names) => tables.select(table, names.as_slice(), filter),
+        None => {
+            let names = names_of(alloc, columns_of(tables, *table))?;
+            tables.select(table, &names, filter)
+        }
+    }
 }
 
 /// Notes a reply where there is room.
@@ -138,14 +148,18 @@ impl System {
         ensures journal { result.now ≡ self.now.journal }
         ensures lawful { IsLawful self.now.limits self.now.journal }
     {
-        &self.journal
+        self.journal.as_slice()
     }
 
-    fn judged(&self, user: User, statement: &Statement) -> Result<(), Lack>
-        ensures { result ≡ verdict_at self.now.limits self.now.journal user statement.now }
+    fn judged(&self, user: &User, statement: &Statement) -> Result<(), Lack>
+        ensures { result ≡ verdict_at self.now.limits self.now.journal user.now statement.now }
     {
-        let moment = Moment(count(&self.journal));
-        judge(&self.tables, &self.limits, user, statement, moment)
+        let judge = Judge {
+            tables: &self.tables,
+            limits: &self.limits,
+            moment: Moment(count(&self.journal)),
+        };
+        judge.judge(user, statement)
     }
 
     /// Carries out an allowed change, and enters it.
@@ -165,27 +179,35 @@ impl System {
     fn query(&self, entry: &Entry) -> Reply
         requires allowed { verdict_at self.now.limits self.now.journal entry.now.user entry.now.statement ≡ Ok tt }
         requires query { is_change entry.now.statement ≡ false }
+        requires served { is_served entry.now.statement ≡ true }
         ensures { CarriesOut self.now entry.now result self.now }
     {
         let at = self.moment();
         match &entry.statement {
-            Statement::Select { table } => match rows_of(self.alloc, &self.tables, *table) {
-                Ok(rows) => Reply::Rows {
-                    at,
-                    rows: Sequence::from_vec(rows),
-                },
-                Err(NoMemory) => Reply::Refused {
-                    at,
-                    lack: Lack::NoMemory,
-                },
-            },
-            Statement::CreateTable { .. } | Statement::Insert { .. } => unreachable!(),
+            Statement::Select {
+                list,
+                table,
+                filter,
+            } => {
+                match rows_of(self.alloc, &self.tables, list, table, filter.as_slice()) {
+                    Ok(rows) => Reply::Rows {
+                        at,
+                        rows: Sequence::from_vec(rows),
+                    },
+                    Err(NoMemory) => Reply::Refused {
+                        at,
+                        lack: Lack::NoMemory,
+                    },
+                }
+            }
+            _ => unreachable!(),
         }
     }
 
     /// Carries out what is allowed.
     fn carry_out(&mut self, entry: Entry) -> Reply
-        requires { verdict_at self.old.limits self.old.journal entry.user entry.statement ≡ Ok tt }
+        requires allowed { verdict_at self.old.limits self.old.journal entry.user entry.statement ≡ Ok tt }
+        requires served { is_served entry.statement ≡ true }
         ensures { CarriesOut self.old entry result self.new }
     {
         if !is_change(&entry.statement) {
@@ -204,9 +226,10 @@ impl System {
     }
 
     fn say(&mut self, entry: Entry) -> Reply
+        requires { is_served entry.statement ≡ true }
         ensures { Answers self.old entry (verdict_at self.old.limits self.old.journal entry.user entry.statement) result self.new }
     {
-        match self.judged(entry.user, &entry.statement) {
+        match self.judged(&entry.user, &entry.statement) {
             Err(lack) => turn_away(self.moment(), lack),
             Ok(()) => self.carry_out(entry),
         }
@@ -214,8 +237,10 @@ impl System {
 
     /// One event: a step of the machine. What the verdict allows is carried out, and a change is
     /// entered; else the reply names the first lack, and nothing changes. Want of memory is Refused
-    /// with NoMemory, and changes nothing.
+    /// with NoMemory, and changes nothing. The statement must be one that is carried out by now:
+    /// CREATE TABLE, INSERT, SELECT, DELETE or UPDATE.
     pub fn step(&mut self, event: Event) -> Reply
+        requires { IsServed event }
         ensures { Step self.old event result self.new }
     {
         match event {
@@ -233,8 +258,10 @@ impl System {
     }
 
     /// One step after another. Where there is no memory to note a reply, the events before it were
-    /// done, with these replies, and no later one.
+    /// done, with these replies, and no later one. Each statement must be one that is carried out
+    /// by now.
     pub fn run(&mut self, events: Vec<Event>) -> Result<Vec<Reply>, (NoMemory, Vec<Reply>)>
+        requires { All IsServed events.items }
         ensures { MatchResult result (λ replies. Run self.old events.items replies.items self.new) (λ e. IsRunOfSome self.old events.items e.1.items self.new) }
     {
         let mut replies = Vec::new(self.alloc);

@@ -3,13 +3,13 @@
 ghost use Rattle.std.specs.Prelude.{◌≡◌, false};
 ghost use Rattle.base_core.specs.Texts.{IsText};
 
-use crate::lines::line::LONGEST_LINE;
 use crate::lines::serve::{LineServer, SessionFault, serve};
 use crate::record::write_record;
 use crate::rows::write_rows;
 use base_core::{
     Broken, NoMemory, Row, Sequence, Sink, Source, StdSink, StdSource, Text, Value, write_all,
 };
+use lexer_core::MAX_LINE;
 use std::alloc::Global;
 use std::test::Fail;
 
@@ -35,7 +35,7 @@ impl LineServer for Echo {
             return Ok(());
         }
         self.over = line == b"bye".as_slice();
-        let said = if line.len() > LONGEST_LINE {
+        let said = if line.len() > MAX_LINE {
             b"too long".as_slice()
         } else {
             line

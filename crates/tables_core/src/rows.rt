@@ -4,7 +4,7 @@ ghost use Rattle.tables_core.specs.Contents.{chooses, cut_values, assigned_value
 
 use base_core::{
     Assignment, Column, Condition, Name, NoMemory, Row, Sequence, Twin, Value, cell, is_chosen,
-    place_of,
+    place_of, twins_of,
 };
 use std::alloc::Global;
 
@@ -47,17 +47,6 @@ pub fn cut(
     })
 }
 
-/// Copies of the assignments.
-fn copy_of(alloc: Global, sets: &[Assignment]) -> Result<Vec<Assignment>, NoMemory>
-    ensures { IfOk result (λ copy. copy.items ≡ sets.now) }
-{
-    let mut copy = Vec::with_capacity(alloc, sets.len())?;
-    for set in sets {
-        copy.push(set.try_twin()?)?;
-    }
-    Ok(copy)
-}
-
 /// So many copies of the assignments.
 fn copies_of(
     alloc: Global,
@@ -66,9 +55,9 @@ fn copies_of(
 ) -> Result<Vec<Vec<Assignment>>, NoMemory>
     ensures { IfOk result (λ copies. map (λ c. c.items) copies.items ≡ replicate count sets.now) }
 {
-    let mut copies = Vec::new(alloc);
+    let mut copies = Vec::with_capacity(alloc, count)?;
     for _made in 0..count {
-        copies.push(copy_of(alloc, sets)?)?;
+        copies.push(twins_of(alloc, sets)?)?;
     }
     Ok(copies)
 }

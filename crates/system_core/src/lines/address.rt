@@ -2,15 +2,23 @@
 ghost use Rattle.std.specs.Prelude.{◌≡◌, ◌≤◌, IfOk, length};
 ghost use Rattle.std.specs.List.{list_all};
 ghost use Rattle.lexer_core.specs.Lexing.{is_blank};
-ghost use Rattle.system_core.specs.Script.{addressed, addressed_by};
+ghost use Rattle.system_core.specs.Script.{addressed, addressed_by, first_word};
 
 use base_core::{Name, User};
-use lexer_core::{Code, MAX_LINE, MAX_NAME, byte_at, word_len};
+use lexer_core::{Code, MAX_LINE, MAX_NAME, byte_at, is_blank, word_len};
 
-fn is_blank(line: &[u8]) -> bool
+fn is_blank_line(line: &[u8]) -> bool
     ensures { result ≡ list_all is_blank line.now }
 {
-    line.iter().all(|byte| *byte == b' ' || *byte == b'\t')
+    line.iter().all(|byte| is_blank(*byte))
+}
+
+/// The byte at which the first word stands, after blanks.
+pub fn first_word(line: &[u8]) -> usize
+    ensures byte { result ≡ first_word line.now }
+    ensures within { result ≤ length line.now }
+{
+    line.iter().take_while(|byte| is_blank(**byte)).count()
 }
 
 /// The user whose word of so many bytes stands at the front, and the place behind its colon.
@@ -20,10 +28,7 @@ fn addressed_by(line: &[u8], n: usize) -> Result<(User, usize), (Code, usize)>
     ensures within { IfOk result (λ found. (found.1 ≤ length line.now) × (found.1 ≤ 31)) }
 {
     let expected = Err((Code::Expected, 0));
-    if !line
-        .first()
-        .is_some_and(|first| first.is_ascii_alphabetic())
-    {
+    if !byte_at(line, 0).is_ascii_alphabetic() {
         return expected;
     }
     if n > MAX_NAME {
@@ -48,7 +53,7 @@ pub fn addressed(line: &[u8]) -> Result<(User, usize), (Code, usize)>
     if line.len() > MAX_LINE {
         return Err((Code::TooLong, MAX_LINE));
     }
-    if is_blank(line) {
+    if is_blank_line(line) {
         return Err((Code::Empty, 0));
     }
     addressed_by(line, word_len(line))

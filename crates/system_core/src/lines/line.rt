@@ -3,15 +3,13 @@ ghost use Rattle.std.specs.Prelude.{◌≡◌, ◌++◌, [], take, length, IfOk}
 ghost use Rattle.std.specs.Str.Lines.{strip_carriage_return};
 ghost use Rattle.system_core.specs.declared.lines.line.TheConstants.{KEPT_BYTES};
 
+use lexer_core::MAX_LINE;
 use std::alloc::{AllocError, Global};
 use std::marker::Model;
 
-/// The most bytes that a line has, without its line feed and one carriage return before that.
-pub const LONGEST_LINE: usize = 4096;
-
 /// The most bytes of a line that are kept: those of the longest, a carriage return, and one that
 /// makes the line too long.
-pub const KEPT_BYTES: usize = LONGEST_LINE + 2;
+pub const KEPT_BYTES: usize = MAX_LINE + 2;
 
 const CARRIAGE_RETURN: u8 = b'\r';
 

@@ -1,7 +1,8 @@
 //! Lines from a reader, and answers to a writer.
 ghost use Rattle.std.specs.Prelude.{◌≡◌, ◌≤◌, ◌<◌, ◌↔◌, ◌^◌, ℕ, List, [], Bool, true, false, take, length, IfOk, OnOk, OnErr, MatchResult, IsErrOf, IsOk};
 ghost use Rattle.std.specs.Io.KnownBytes.{Consumes, Keeps, IsAtEnd};
-ghost use Rattle.system_core.specs.declared.lines.line.TheConstants.{LONGEST_LINE, KEPT_BYTES};
+ghost use Rattle.lexer_core.specs.declared.lexer.TheConstants.{MAX_LINE};
+ghost use Rattle.system_core.specs.declared.lines.line.TheConstants.{KEPT_BYTES};
 ghost use Rattle.system_core.specs.Lines.{NoFeed};
 ghost use Rattle.system_core.specs.Serving.{AnswersLine, BreaksLine, Feeds, Breaks, Ends};
 
@@ -52,7 +53,7 @@ pub trait LineServer {
         ensures err { OnErr result (BreaksLine answers line.now self.old self.new (W.taken writer.old) (W.taken writer.new)) };
 
     // Lines that are too long are answered alike.
-    ghost too_long: { (old new : Self) (line other text : List ℕ) → LONGEST_LINE < length line → LONGEST_LINE < length other →
+    ghost too_long: { (old new : Self) (line other text : List ℕ) → MAX_LINE < length line → MAX_LINE < length other →
         answers old line text new → answers old other text new };
 }
 

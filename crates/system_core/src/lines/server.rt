@@ -4,8 +4,9 @@ ghost use Rattle.base_core.specs.Streams.{Writes, WritesFrontOf};
 ghost use Rattle.system_core.specs.Script.{Answers, Tells, IsFaultTold, EndsScript};
 
 use crate::event::{Event, Reply};
-use crate::lines::address::addressed;
+use crate::lines::address::{addressed, first_word};
 use crate::lines::serve::{LineServer, SessionFault, serve};
+use crate::served::is_served;
 use crate::system::System;
 use crate::wording::{fault_text, reply_text};
 use base_core::{Broken, Limits, NoMemory, Sink, Source, write_all};
@@ -67,6 +68,10 @@ fn answer<W: Sink>(
     };
     match read(alloc, &line[start..]) {
         Ok(statement) => {
+            if !is_served(&statement) {
+                let offset = start + first_word(&line[start..]);
+                return write_fault(alloc, Code::Expected, offset, writer);
+            }
             let reply = system.step(Event::Say {
                 pass: 0,
                 user,

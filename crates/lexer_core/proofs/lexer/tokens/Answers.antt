@@ -10,15 +10,15 @@ pub returns-then-line-gt-MAX_LINE-clause-outcome : goal.returns-then-line-gt-MAX
 returns-then-line-gt-MAX_LINE-clause-outcome c = long_line (omega arith)
 
 pub loop-at-init : goal.loop-at-init
-loop-at-init c = subst (λ (ts : List tokens.Token). Reached c.args.line.now 0 ts) (sym c.new-tokens.ensures.items) (nothing c.args.line.now (omega arith))
+loop-at-init c = subst (λ (ts : List tokens.Token). Reached c.args.line.now 0 ts) (sym c.in-Ok.ensures.items) (nothing c.args.line.now (omega arith))
 
 pub loop-at-preserved-then-is_blank : goal.loop-at-preserved-then-is_blank
 loop-at-preserved-then-is_blank c = one_blank c.args.line.now c.loop-at.at c.loop-at.tokens.items c.loop-at.invariant c.loop-at-test.true (cc)
 
 pub loop-at-preserved : goal.loop-at-preserved
 loop-at-preserved c =
-    subst (λ (ts : List tokens.Token). Reached c.args.line.now (c.loop-at.at + c.in-Ok.len) ts) (sym c.in_ok-push-in-Ok.ensures.items)
-    (one_token c.args.line.now c.loop-at.at c.loop-at.tokens.items c.loop-at.invariant c.in-Ok.kind c.in-Ok.len c.in-Ok.ensures.first)
+    subst (λ (ts : List tokens.Token). Reached c.args.line.now (c.loop-at.at + c.in-Ok-first_token.len) ts) (sym c.in_ok-push-in-Ok-first_token.ensures.items)
+    (one_token c.args.line.now c.loop-at.at c.loop-at.tokens.items c.loop-at.invariant c.in-Ok-first_token.kind c.in-Ok-first_token.len c.in-Ok-first_token.ensures.first)
 
 pub overflow_add-result : goal.overflow_add-result
 overflow_add-result c =

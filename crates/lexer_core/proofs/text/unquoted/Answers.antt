@@ -1,22 +1,17 @@
-use Rattle.std.proofs.Common.{List, ℕ, ◌+◌, subst, sym, ◌∙◌}
-use Rattle.std.specs.String.{string_bytes}
-use Rattle.lexer_core.proofs.Halfway.{IsHalfway, halfway_start, some_char, next_char, all_said}
-use Rattle.lexer_core.proofs.Undoubled.{says_unquoted, quoted_text}
+use Rattle.std.proofs.Common.{subst, sym, ◌∙◌}
+use Rattle.base_core.specs.Texts.{IsText}
+use Rattle.lexer_core.proofs.Undoubled.{inside_is_text, inside_is_utf8, inside_said}
 use Rattle.lexer_core.proofs.text.unquoted.Goals as goal
 
-pub loop-at-init : goal.loop-at-init
-loop-at-init c = subst (λ (said : List ℕ). IsHalfway c.args.quoted.now 1 said) (sym c.new-text.ensures.bytes) (halfway_start c.args.quoted.now c.requires.text)
-
-pub loop-at-preserved : goal.loop-at-preserved
-loop-at-preserved c =
-    subst (λ (k : ℕ). IsHalfway c.args.quoted.now (c.loop-at.at + k) (string_bytes c.push.new.self)) (sym c.written_len-at.ensures)
-    (next_char c.args.quoted.now c.loop-at.at _ c.loop-at.invariant c.loop-at-test.true c.in-Some.char c.in-Some.ensures.0 c.in-Some.ensures.1 _ c.in_ok-push-in-Some.ensures.bytes)
-
 pub unreachable-requires : goal.unreachable-requires
-unreachable-requires c = some_char c.args.quoted.now c.loop-at.at _ c.loop-at.invariant c.loop-at-test.true c.in-None.ensures
+unreachable-requires c = c.in-Err.ensures.cases.0 (inside_is_utf8 _ _ c.requires.text.1 (sym c.contains.ensures.value ∙ c.if-contains.false))
 
 pub from_string-requires : goal.from_string-requires
-from_string-requires c = quoted_text _ c.args.quoted.now (all_said c.args.quoted.now c.loop-at.at _ c.loop-at.invariant c.loop-at-test.false)
+from_string-requires c = subst IsText (sym (c.in_ok-from_str-in-Ok.ensures.ok ∙ c.in-Ok.ensures.cases.0)) (inside_is_text _ _ c.requires.text.1 (sym c.contains.ensures.value ∙ c.if-contains.false))
 
 pub returns : goal.returns
-returns c = c.from_string.ensures ∙ says_unquoted _ c.args.quoted.now (all_said c.args.quoted.now c.loop-at.at _ c.loop-at.invariant c.loop-at-test.false)
+returns c =
+    c.from_string.ensures
+    ∙ (c.in_ok-from_str-in-Ok.ensures.ok
+    ∙ (c.in-Ok.ensures.cases.0
+    ∙ inside_said _ _ c.requires.text.1 (sym c.contains.ensures.value ∙ c.if-contains.false)))

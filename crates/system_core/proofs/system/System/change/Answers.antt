@@ -6,7 +6,7 @@ use Rattle.system_core.proofs.system.System.change.Goals as goal
 pub carry_out-requires : goal.carry_out-requires
 carry_out-requires c =
     let ok : verdict_at c.self.inside.limits c.self.inside.journal.items c.args.entry.user c.args.entry.statement ≡ Ok tt = rw (← c.self.view_is) at c.requires.allowed in
-    CanCarry-stands c.self.inside.chunk c.self.inside.limits c.self.inside.journal.items c.self.inside.tables c.args.entry.user c.args.entry.statement c.self.invariant ok
+    CanCarry-stands c.self.inside.chunk c.self.inside.limits c.self.inside.journal.items c.self.inside.tables c.args.entry.user c.args.entry.statement c.self.invariant c.requires.change ok
 
 pub invariant_of-self-2 : goal.invariant_of-self-2
 invariant_of-self-2 c =

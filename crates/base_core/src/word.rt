@@ -1,0 +1,54 @@
+//! Words: keywords and names.
+ghost use Rattle.std.specs.Prelude.{◌≡◌, ◌≤◌, true, length, slice_index};
+ghost use Rattle.std.specs.Char.{is_ascii_alphabetic};
+ghost use Rattle.base_core.specs.Words.{is_word, is_word_byte};
+ghost use Rattle.base_core.specs.Spelled.{IsWordOf};
+
+use crate::keyword::Keyword;
+use crate::name::Name;
+
+/// The most bytes that a name has.
+pub const MAX_NAME: usize = 30;
+
+/// What a word is: reserved, or else a name.
+#[derive(Clone, Copy, Debug, PartialEq, Eq)]
+pub enum Word {
+    Keyword(Keyword),
+    Name(Name),
+}
+
+/// Whether a word may go on with this byte: an ASCII letter, a digit or `_`.
+pub fn is_word_byte(byte: u8) -> bool
+    ensures { result ≡ is_word_byte byte }
+{
+    byte.is_ascii_alphanumeric() || byte == b'_'
+}
+
+fn starts_with_letter(bytes: &[u8]) -> bool
+    ensures { result ≡ is_ascii_alphabetic (slice_index bytes.now 0) }
+{
+    bytes
+        .first()
+        .is_some_and(|first| first.is_ascii_alphabetic())
+}
+
+pub fn is_word(word: &[u8]) -> bool
+    ensures { result ≡ is_word word.now }
+{
+    starts_with_letter(word) && word.iter().all(|byte| is_word_byte(*byte))
+}
+
+impl Word {
+    /// The keyword or the name that a word of at most 30 bytes spells, in any case. It takes no
+    /// memory, and the word is compared with no keyword twice.
+    pub fn read(word: &[u8]) -> Word
+        requires word { is_word word.now ≡ true }
+        requires short { length word.now ≤ 30 }
+        ensures { IsWordOf word.now result }
+    {
+        match Keyword::read(word) {
+            Some(keyword) => Word::Keyword(keyword),
+            None => Word::Name(Name::of_word(word)),
+        }
+    }
+}
