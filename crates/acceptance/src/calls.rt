@@ -80,6 +80,26 @@ fn full_of_tables(rt: HostRuntime) -> Result<(), Fail> {
 }
 
 #[test]
+fn full_of_grants(rt: HostRuntime) -> Result<(), Fail> {
+    let mut limits = Limits::full();
+    limits.grants = 1;
+    let text = answered(
+        rt.alloc(),
+        limits,
+        &[
+            b"CREATE TABLE t (x INTEGER)",
+            b"GRANT SELECT ON t TO a, b",
+            b"GRANT SELECT ON t TO a",
+        ],
+    )?;
+    assert_eq!(rt;
+        text.as_slice(),
+        b"done @1\nrefused @1: full: grants\ndone @2\n".as_slice()
+    );
+    Ok(())
+}
+
+#[test]
 fn run_of_three_statements(rt: HostRuntime) -> Result<(), Fail> {
     let text = answered(
         rt.alloc(),

@@ -149,14 +149,11 @@ refused @1: column x takes INTEGER\n"
 fn not_carried_out_yet(rt: HostRuntime) -> Result<(), Fail> {
     let text = written(
         rt.alloc(),
-        b"o: GRANT SELECT ON t TO a\no:REVOKE SELECT ON t FROM a\n\
-ann: \t CHECKPOINT;\nann: CHECKPOINTS\nann: EXPORT 1 ONLY t\n",
+        b"ann: \t CHECKPOINT;\nann: CHECKPOINTS\no:EXPORT 1 ONLY t\n",
     )?;
     assert_eq!(rt;
         text.as_slice(),
-        b"error 4 at 3: not expected\nerror 4 at 2: not expected\n\
-error 4 at 7: not expected\nerror 4 at 5: not expected\nerror 4 at 5: not expected\n"
-            .as_slice()
+        b"error 4 at 7: not expected\nerror 4 at 5: not expected\nerror 4 at 2: not expected\n".as_slice()
     );
     Ok(())
 }

@@ -30,6 +30,8 @@ pub trait Sink {
     ghost failed: { Self → Bool };
     // The bytes that were taken, where they are known.
     ghost taken: { Self → Option (List ℕ) };
+    // Nothing was taken since the last flush.
+    ghost settled: { Self → Bool };
 
     /// Takes some of the bytes, at least one where there is one.
     fn write(&mut self, bytes: &[u8]) -> Result<usize, Broken>
@@ -38,6 +40,13 @@ pub trait Sink {
         ensures some { 0 < length bytes.now → IfOk result (λ n. 0 < n) }
         ensures failed { MatchResult result (λ _. failed self.new ≡ false) (λ _. failed self.new ≡ true) }
         ensures bytes { WriteAppends (taken self.old) (taken self.new) result bytes.now };
+
+    /// Hands on what was taken and waits in a buffer.
+    fn flush(&mut self) -> Result<(), Broken>
+        requires { failed self.old ≡ false }
+        ensures failed { MatchResult result (λ _. failed self.new ≡ false) (λ _. failed self.new ≡ true) }
+        ensures settled { OnOk result (settled self.new ≡ true) }
+        ensures bytes { Keeps (taken self.old) (taken self.new) };
 }
 
 /// A reader of `std`.
@@ -75,21 +84,24 @@ impl<R: Read> Source for StdSource<R> {
     }
 }
 
-/// A writer of `std`. To take none of some bytes is an error.
+/// A writer of `std`, which may have a buffer. To take none of some bytes is an error.
 #[derive(Drop)]
 pub struct StdSink<W> {
     writer: W,
     failed: bool,
+    settled: bool,
 }
 
 impl<W: Write> StdSink<W> {
     pub fn new(writer: W) -> Self
         ensures writer { result.writer ≡ writer }
         ensures failed { result.failed ≡ false }
+        ensures settled { result.settled ≡ true }
     {
         StdSink {
             writer,
             failed: false,
+            settled: true,
         }
     }
 }
@@ -98,7 +110,7 @@ impl<W: Write + Drop> StdSink<W> {
     pub fn into_inner(self) -> W
         ensures { result ≡ self.writer }
     {
-        let StdSink { writer, failed: _ } = self;
+        let StdSink { writer, .. } = self;
         writer
     }
 }
@@ -108,10 +120,26 @@ impl<W: Write> Sink for StdSink<W> {
 
     ghost taken = { λ s. W.contents s.writer };
 
+    ghost settled = { λ s. s.settled };
+
     fn write(&mut self, bytes: &[u8]) -> Result<usize, Broken> {
+        self.settled = false;
         match self.writer.write(bytes) {
             Ok(n) if n > 0 || bytes.is_empty() => Ok(n),
             _ => {
+                self.failed = true;
+                Err(Broken)
+            }
+        }
+    }
+
+    fn flush(&mut self) -> Result<(), Broken> {
+        match self.writer.flush() {
+            Ok(()) => {
+                self.settled = true;
+                Ok(())
+            }
+            Err(_) => {
                 self.failed = true;
                 Err(Broken)
             }

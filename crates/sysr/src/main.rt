@@ -1,6 +1,6 @@
 //! `sysr run` answers the lines of standard input on standard output.
 //!
-//! Each line is `user: statement`, and each is answered before the next is read. The exit status is
+//! Each line is `user: statement`, and what was read is answered before more is read. The exit status is
 //! 0 where the input was read to its end, whatever the replies; 1 where the program itself could not
 //! go on, with the reason on standard error; 2 where the command line was refused. Help goes to
 //! standard output, with status 0.
@@ -17,9 +17,13 @@ mod tests;
 
 use base_core::{StdSink, StdSource};
 use command_line::{CommandLine, options};
+use std::io::BufWriter;
 use std::process::ExitCode;
 use std::{env, io};
 use system_core::{SessionFault, script};
+
+// What is gathered of the output before it is written.
+const OUTPUT_BYTES: usize = 65536;
 
 const NO_MEMORY: &str = "sysr: no memory";
 
@@ -51,8 +55,11 @@ fn run(rt: &HostRuntime, chunk: usize) -> ExitCode
     requires some { 0 < chunk }
     requires small { chunk ≤ 64 }
 {
+    let Ok(buffered) = BufWriter::with_capacity(rt.alloc(), OUTPUT_BYTES, rt.stdout()) else {
+        return give_up(rt, NO_MEMORY);
+    };
     let mut reader = StdSource::new(rt.stdin());
-    let mut writer = StdSink::new(rt.stdout());
+    let mut writer = StdSink::new(buffered);
     match script(rt.alloc(), &mut reader, &mut writer, chunk) {
         Ok(_) => ExitCode::SUCCESS,
         Err(fault) => give_up(rt, fault_text(fault)),

@@ -2,12 +2,12 @@
 use Rattle.std.proofs.Common.{◌≡◌, ◌≢◌, ◌<◌, ◌+◌, ◌-◌, ℕ, List, [], ◌∷◌, ◌++◌, refl, sym, ap, ◌∙◌, append_assoc, append-nil, eqb, true, map, length, take, drop, arith, ⊎_elim, subst, get_or, Option, Some, None, Result, Ok, Err, eq-eqb}
 use Rattle.std.specs.Result.{OnErr}
 use Rattle.std.specs.Str.Lines.{strip_carriage_return}
-use Rattle.std.specs.Io.KnownBytes.{Appends}
+use Rattle.std.specs.Io.KnownBytes.{Appends, Keeps}
 use Rattle.std.proofs.lemmas.List.{take_all, length-take, take-take, take-append-le, take-append-drop, drop_more, get_or-take, map-append, take_rest, drop-drop}
 use Rattle.std.proofs.lemmas.List.Elements.{All-from_get_or, recursion_from_All}
 use Rattle.std.proofs.lemmas.Bool.{cases_lt}
 use Rattle.std.proofs.lemmas.Bool.Decides.{nat_tests}
-use Rattle.std.proofs.KnownBytes.{Appends-trans, Appends-nil}
+use Rattle.std.proofs.KnownBytes.{Appends-trans, Appends-nil, Appends-kept}
 use Rattle.memchr.specs.Find.{IsFirstByte, is_byte}
 use Rattle.base_core.specs.Streams.{WritesFront}
 use Rattle.lexer_core.specs.declared.lexer.TheConstants.{MAX_LINE}
@@ -83,6 +83,14 @@ pub behind_feed : (done left behind piece : List ℕ) (end : ℕ) → IsFirstByt
 behind_feed done left behind piece end found b e =
     ap (λ x. (done ++ (take end left ++ 10 ∷ [])) ++ x) (take_rest behind 1 ∙ ap (drop 1) b ∙ drop-drop 1 end left) ∙ split_feed done left piece end found e
 
+pub no_rest : (now kept : List ℕ) → kept ≡ take KEPT_BYTES now → length kept ≡ 0 → now ≡ []
+no_rest [] kept e none = refl
+no_rest (b ∷ bs) kept e none = absurd (omega (arith, ap length e, length-take KEPT_BYTES (b ∷ bs)))
+
+-- all was taken, and the writer failed to hand it on
+pub WritesFront-whole : (before between after : Option (List ℕ)) (text : List ℕ) → Appends before between text → Keeps between after → WritesFront before after text
+WritesFront-whole before between after text wrote keeps = record { part = text; unwritten = []; front = sym (append-nil text); wrote = Appends-kept before between after text wrote keeps }
+
 module _ {X : Type 0} (R : X → List ℕ → List ℕ → X → Type 0)
     (too_long : (old new : X) (line other text : List ℕ) → MAX_LINE < length line → MAX_LINE < length other → R old line text new → R old other text new) where
   -- and its answer
@@ -150,4 +158,30 @@ module _ {X : Type 0} (R : X → List ℕ → List ℕ → X → Type 0)
     kept_is = e;
     answered = (refl, refl);
     wrote = Appends-nil taken;
+  }
+
+  -- what is kept, handed on
+  pub Feeds-kept : (rest done kept : List ℕ) (old new : X) (before between after : Option (List ℕ)) → Feeds R rest done kept old new before between → Keeps between after → Feeds R rest done kept old new before after
+  Feeds-kept rest done kept old new before between after fed keeps = record {
+    parts = fed.parts;
+    now = fed.now;
+    text = fed.text;
+    cut = fed.cut;
+    kept_is = fed.kept_is;
+    answered = fed.answered;
+    wrote = Appends-kept before between after fed.text fed.wrote keeps;
+  }
+
+  -- The writer failed to hand on the answers to lines, of which the last has ended.
+  pub Breaks-flush : (rest done left piece kept : List ℕ) (old new : X) (before between after : Option (List ℕ))
+      → Feeds R rest done kept old new before between → kept ≡ [] → Keeps between after → done ++ left ≡ piece → Breaks R rest piece old new before after
+  Breaks-flush rest done left piece kept old new before between after fed none keeps e = record {
+    parts = fed.parts;
+    done = done;
+    undone = left;
+    front = sym e;
+    text = fed.text;
+    cut = subst (λ now. Cut (rest ++ done) fed.parts now) (no_rest fed.now kept fed.kept_is (ap length none)) fed.cut;
+    answered = fed.answered;
+    wrote = WritesFront-whole before between after fed.text fed.wrote keeps;
   }

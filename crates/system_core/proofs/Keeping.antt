@@ -1,24 +1,41 @@
 -- An allowed change may be carried out, and the system stands as before after it.
-use Rattle.std.proofs.Common.{◌≡◌, ℕ, ◌+◌, ◌<◌, ◌≤◌, ◌^◌, Bool, true, false, cond, subst, List, [], ◌∷◌, ◌++◌, Ok, Option, Some, None, IsSome, IsSomeAnd, length, option_map, refl, sym, ap, ◌∙◌, arith, append_assoc}
-use Rattle.std.specs.Option.{option_map_or}
-use Rattle.std.proofs.lemmas.Bool.{ltb-true}
+use Rattle.std.proofs.Common.{◌≡◌, ℕ, ◌+◌, ◌*◌, ◌<◌, ◌≤◌, ◌^◌, Bool, true, false, subst, List, [], ◌∷◌, ◌++◌, Ok, Option, Some, None, IsSome, IsSomeAnd, length, refl, sym, ap, ◌∙◌, arith, append_assoc, ⊎_elim}
+use Rattle.std.specs.List.{All}
+use Rattle.std.specs.Option.{option_map_or, is_some}
+use Rattle.std.proofs.lemmas.Bool.{ltb-true, false_from_ne_true, both_ways}
 use Rattle.std.proofs.lemmas.List.{append-nil, length-append}
 use Rattle.std.proofs.lemmas.List.Sums.{fold-append}
+use Rattle.std.proofs.lemmas.List.Elements.{All-from_recursion}
 use Rattle.base_core.specs.Words.{same_name}
 use Rattle.base_core.specs.declared.name.Name.{Name}
 use Rattle.base_core.specs.declared.name.User.{User}
 use Rattle.base_core.specs.declared.condition.Condition.{Condition}
 use Rattle.base_core.specs.declared.limits.Limits.{Limits}
+use Rattle.base_core.specs.declared.privilege.Atom.{Atom}
+use Rattle.base_core.specs.declared.value.Column.{Column}
+use Rattle.reader_core.specs.declared.privilege.Privilege.{Privilege}
 use Rattle.reader_core.specs.declared.statement.Statement.{Statement}
 use Rattle.reader_core.specs.declared.statement.Statement.TheVariants as statements
-use Rattle.tables_core.specs.Contents.{Contents, opened, with_row, deleted, updated, with_change, table_of}
-use Rattle.tables_core.proofs.ContentsLemmas.{table_of-with_change, table_of-append}
+use Rattle.tables_core.specs.Contents.{Contents, table_of}
+use Rattle.grants_core.specs.declared.grant.Grant.{Grant}
+use Rattle.grants_core.specs.declared.grant.Change.{Change}
+use Rattle.grants_core.specs.Owners.{with_owner}
+use Rattle.grants_core.specs.Content as rights_of
+use Rattle.grants_core.specs.Content.{Content, after_grant}
+use Rattle.grants_core.specs.History.{content_after, owners_after, in_force_after, unstruck_after, granted}
+use Rattle.grants_core.proofs.SameLemmas.{same_name-true}
+use Rattle.grants_core.proofs.OwnersLemmas.{was_granted-with_owner, owner_of-with_owner}
+use Rattle.grants_core.proofs.GrantLemmas.{All-filtered, All-implied, All-valid}
+use Rattle.grants_core.proofs.HistoryLemmas.{content-create, content-grant, content-revoke, content-other, unstruck-early}
 use Rattle.system_core.specs.declared.event.Entry.{Entry}
-use Rattle.system_core.specs.Verdict.{State, checks, verdict, table_stands, room_for_change}
-use Rattle.system_core.specs.Journal.{contents, tables_with, tables_after, state_of, verdict_at, is_change, IsLawfulFrom}
-use Rattle.system_core.specs.Carrying.{CanCarry}
-use Rattle.system_core.specs.Standing.{Stands, inserted_of}
-use Rattle.system_core.proofs.Passing.{require-Ok, passed, not-some, some_is}
+use Rattle.system_core.specs.Verdict.{State, checks, verdict, table_stands, room_for_change, may_grant, is_table, columns_of, atoms_at}
+use Rattle.system_core.specs.Journal.{contents, tables_with, tables_after, change_of, changes, rights_at, state_of, verdict_at, is_change, IsLawfulFrom}
+use Rattle.system_core.specs.Carrying.{CanCarry, IsNarrow, Leaves, rights_after, most_grants}
+use Rattle.system_core.specs.Standing.{Stands, AgreeOn, inserted_of}
+use Rattle.system_core.proofs.Passing.{require-Ok, passed, not-some, some_is, each-Ok}
+use Rattle.system_core.proofs.TableLemmas.{IsNew, is_table-after, is_table-old, narrow-after, inserted-after}
+use Rattle.system_core.proofs.Agreeing.{atoms-table, All-atoms, verdict-agree}
+use Rattle.system_core.proofs.Growing.{On, OnTables, Grows, creates, changes-more, length-changes, never_granted, agree-after, granted_on}
 
 -- ---- what an allowed change needs is there
 stands : (at : State) (table : Name) → table_stands at table ≡ Ok tt → (t : Contents) × (table_of at.tables table ≡ Some t)
@@ -29,39 +46,100 @@ there at table h =
     let P : Option Contents → Type 0 = λ o. IsSome o in
     subst P (sym (stands at table h).1) refl
 
-can : (at : State) (user : User) (s : Statement) → ((name : Name) → inserted_of at.tables name ≤ at.moment) → at.moment ≤ 1000000
-    → is_change s ≡ true → verdict at user s ≡ Ok tt → CanCarry at.tables s
-can at user (statements.CreateTable table columns) h few change ok =
-    not-some (table_of at.tables table) (require-Ok _ _ (passed (checks at user (statements.CreateTable table columns)) ok).0)
-can at user (statements.Insert table values) h few change ok =
-    let here = stands at table (passed (checks at user (statements.Insert table values)) ok).0 in
-    let bound : here.0.inserted ≤ at.moment = subst (λ (o : Option Contents). option_map_or (λ t. t.inserted) o 0 ≤ at.moment) here.1 (h table) in
-    let P : Option Contents → Type 0 = λ o. IsSomeAnd o (λ t. t.inserted < 2 ^ 63) in
-    let small : here.0.inserted < 2 ^ 63 = omega arith in
-    subst P (sym here.1) small
-can at user (statements.Delete table filter) h few change ok = there at table (passed (checks at user (statements.Delete table filter)) ok).0
-can at user (statements.Update table sets filter) h few change ok = there at table (passed (checks at user (statements.Update table sets filter)) ok).0
-can at user (statements.Select list table filter) h few change ok = cc
-can at user (statements.Grant privileges table users option) h few change ok = cc
-can at user (statements.Revoke privileges table users) h few change ok = cc
-can at user statements.Checkpoint h few change ok = cc
-can at user statements.Checkpoints h few change ok = cc
-can at user (statements.Export number only) h few change ok = cc
+-- an allowed creation is of a new table
+pub new : (at : State) (user : User) (s : Statement) → verdict at user s ≡ Ok tt → IsNew at.tables s
+new at user (statements.CreateTable table columns) ok = not-some (table_of at.tables table) (require-Ok _ _ (passed (checks at user (statements.CreateTable table columns)) ok).0)
+new at user (statements.Insert table values) ok = tt
+new at user (statements.Select list table filter) ok = tt
+new at user (statements.Delete table filter) ok = tt
+new at user (statements.Update table sets filter) ok = tt
+new at user (statements.Grant privileges table users option) ok = tt
+new at user (statements.Revoke privileges table users) ok = tt
+new at user statements.Checkpoint ok = tt
+new at user statements.Checkpoints ok = tt
+new at user (statements.Export number only) ok = tt
 
-pub CanCarry-stands : (chunk : ℕ) (limits : Limits) (journal : List Entry) (tables : List (Name × Contents)) (user : User) (s : Statement) → Stands chunk limits journal tables → is_change s ≡ true → verdict_at limits journal user s ≡ Ok tt → CanCarry tables s
-CanCarry-stands chunk limits journal tables user s h change ok =
-    let P : List (Name × Contents) → Type 0 = λ ts. CanCarry ts s in
-    subst P (sym h.tables_of) (can (state_of limits journal) user s h.inserted (omega (arith, h.few, limits.changes_within)) change ok)
+-- an allowed grant is of atoms of a table
+on_tables : (at : State) (user : User) (s : Statement) → verdict at user s ≡ Ok tt → OnTables at.tables (change_of at.tables user s)
+on_tables at user (statements.Grant privileges table users option) ok =
+    let here : is_table at.tables table ≡ true = require-Ok _ _ (passed (checks at user (statements.Grant privileges table users option)) ok).0 in
+    All-atoms (λ a. a.table ≡ table) (λ a. is_table at.tables a.table ≡ true) (atoms_at at.tables table privileges) (λ a of_this. ap (is_table at.tables) of_this ∙ here) (atoms-table table (columns_of at.tables table) privileges)
+on_tables at user (statements.CreateTable table columns) ok = tt
+on_tables at user (statements.Insert table values) ok = tt
+on_tables at user (statements.Select list table filter) ok = tt
+on_tables at user (statements.Delete table filter) ok = tt
+on_tables at user (statements.Update table sets filter) ok = tt
+on_tables at user (statements.Revoke privileges table users) ok = tt
+on_tables at user statements.Checkpoint ok = tt
+on_tables at user statements.Checkpoints ok = tt
+on_tables at user (statements.Export number only) ok = tt
 
--- the table of an allowed query is there
-pub CanSelect-stands : (chunk : ℕ) (limits : Limits) (journal : List Entry) (tables : List (Name × Contents)) (user : User) (list : Option (List Name)) (table : Name) (filter : List Condition) → Stands chunk limits journal tables → verdict_at limits journal user (statements.Select list table filter) ≡ Ok tt → IsSome (table_of tables table)
-CanSelect-stands chunk limits journal tables user list table filter h ok =
-    let P : List (Name × Contents) → Type 0 = λ ts. IsSome (table_of ts table) in
-    subst P (sym h.tables_of) (there (state_of limits journal) table (passed (checks (state_of limits journal) user (statements.Select list table filter)) ok).0)
+-- whoever grants may grant each of the atoms
+may : (at : State) (user : User) (privileges : List Privilege) (table : Name) (users : List User) (option : Bool) → verdict at user (statements.Grant privileges table users option) ≡ Ok tt
+    → All (λ atom. rights_of.may_grant at.rights.owners at.rights.in_force user atom ≡ true) (atoms_at at.tables table privileges)
+may at user privileges table users option ok =
+    let May : Atom → Type 0 = λ atom. rights_of.may_grant at.rights.owners at.rights.in_force user atom ≡ true in
+    let each_passed = each-Ok (may_grant at user) (atoms_at at.tables table privileges) (passed (checks at user (statements.Grant privileges table users option)) ok).1.1.0 in
+    All-from_recursion May (atoms_at at.tables table privileges) (All-atoms (λ atom. may_grant at user atom ≡ Ok tt) May (atoms_at at.tables table privileges) (λ a h. require-Ok _ _ h) each_passed)
 
--- ---- the verdict by the tables is that of the journal
-pub verdict-stands : (chunk : ℕ) (limits : Limits) (journal : List Entry) (tables : List (Name × Contents)) (user : User) (s : Statement) → Stands chunk limits journal tables → verdict (record { tables = tables; limits = limits; moment = length journal }) user s ≡ verdict_at limits journal user s
-verdict-stands chunk limits journal tables user s h = ap (λ ts. verdict (record { tables = ts; limits = limits; moment = length journal }) user s) h.tables_of
+-- what is in force was granted, and earlier than now
+in_force_on : (tables : List (Name × Contents)) (cs : List Change) → On tables (granted cs) → On tables (in_force_after cs)
+in_force_on tables cs h =
+    All-valid (λ g. is_table tables g.atom.table ≡ true) (owners_after cs) (unstruck_after cs) (All-filtered (λ g. is_table tables g.atom.table ≡ true) _ (granted cs) h)
+
+early : (journal : List Entry) → All (λ g. g.moment.0 < length journal + 1) (in_force_after (changes journal))
+early journal =
+    let cs : List Change = changes journal in
+    All-from_recursion (λ g. g.moment.0 < length journal + 1) (in_force_after cs)
+    (All-implied (λ g. g.moment.0 < 1 + length cs) (λ g. g.moment.0 < length journal + 1) (in_force_after cs) (λ g lt. omega (arith, lt, length-changes journal))
+    (All-valid (λ g. g.moment.0 < 1 + length cs) (owners_after cs) (unstruck_after cs) (unstruck-early cs)))
+
+module _ (chunk : ℕ) (limits : Limits) (journal : List Entry) (tables : List (Name × Contents)) (rights : Content) (h : Stands chunk limits journal tables rights) where
+  can : (user : User) (s : Statement) → is_change s ≡ true → verdict_at limits journal user s ≡ Ok tt → CanCarry (contents journal) rights (length journal) user s
+  can user (statements.CreateTable table columns) change ok =
+      let none : table_of (contents journal) table ≡ None = new (state_of limits journal) user (statements.CreateTable table columns) ok in
+      (none, h.agree.fresh table (ap is_some none))
+  can user (statements.Insert table values) change ok =
+      let here = stands (state_of limits journal) table (passed (checks (state_of limits journal) user (statements.Insert table values)) ok).0 in
+      let bound : here.0.inserted ≤ length journal = subst (λ (o : Option Contents). option_map_or (λ t. t.inserted) o 0 ≤ length journal) here.1 (h.sound.inserted table) in
+      let P : Option Contents → Type 0 = λ o. IsSomeAnd o (λ t. t.inserted < 2 ^ 63) in
+      let small : here.0.inserted < 2 ^ 63 = omega (arith, bound, h.sound.few, limits.changes_within) in
+      subst P (sym here.1) small
+  can user (statements.Delete table filter) change ok = there (state_of limits journal) table (passed (checks (state_of limits journal) user (statements.Delete table filter)) ok).0
+  can user (statements.Update table sets filter) change ok = there (state_of limits journal) table (passed (checks (state_of limits journal) user (statements.Update table sets filter)) ok).0
+  can user (statements.Grant privileges table users option) change ok =
+      let at : State = record { tables = contents journal; rights = rights; limits = limits; moment = length journal } in
+      let here : verdict at user (statements.Grant privileges table users option) ≡ Ok tt = verdict-agree (contents journal) limits (length journal) rights (rights_at journal) user (statements.Grant privileges table users option) h.agree ∙ ok in
+      let Later : List Grant → Type 0 = λ gs. All (λ g. g.moment.0 < length journal + 1) gs in (
+        record {
+          may = may at user privileges table users option here;
+          later = subst Later (sym h.agree.in_force) (early journal);
+          numbers = omega (arith, h.agree.made, h.sound.made_few, h.sound.few, limits.changes_within);
+        },
+        h.sound.narrow table,
+      )
+  can user (statements.Revoke privileges table users) change ok = h.sound.narrow table
+  can user (statements.Select list table filter) change ok = cc
+  can user statements.Checkpoint change ok = cc
+  can user statements.Checkpoints change ok = cc
+  can user (statements.Export number only) change ok = cc
+
+  pub CanCarry-stands : (user : User) (s : Statement) → is_change s ≡ true → verdict_at limits journal user s ≡ Ok tt → CanCarry tables rights (length journal) user s
+  CanCarry-stands user s change ok =
+      let P : List (Name × Contents) → Type 0 = λ ts. CanCarry ts rights (length journal) user s in
+      subst P (sym h.tables_of) (can user s change ok)
+
+  -- the table of an allowed query is there
+  pub CanSelect-stands : (user : User) (list : Option (List Name)) (table : Name) (filter : List Condition) → verdict_at limits journal user (statements.Select list table filter) ≡ Ok tt → IsSome (table_of tables table)
+  CanSelect-stands user list table filter ok =
+      let P : List (Name × Contents) → Type 0 = λ ts. IsSome (table_of ts table) in
+      subst P (sym h.tables_of) (there (state_of limits journal) table (passed (checks (state_of limits journal) user (statements.Select list table filter)) ok).0)
+
+-- a table has another name than what is no table
+other_name : (tables : List (Name × Contents)) (name other : Name) → is_table tables name ≡ true → is_table tables other ≡ false → same_name other name ≡ false
+other_name tables name other here none = false_from_ne_true _ (λ same.
+    let P : Name → Type 0 = λ n. is_table tables n ≡ true in
+    both_ways _ none (subst P (sym (same_name-true other name same)) here))
 
 -- ---- one more entry
 pub contents-more : (journal : List Entry) (e : Entry) → contents (journal ++ e ∷ []) ≡ tables_with (contents journal) e
@@ -75,36 +153,6 @@ lawful-more l before (x ∷ es) e h ok change =
     let P : List Entry → Type 0 = λ k. verdict_at l k e.user e.statement ≡ Ok tt in
     (h.0, h.1, lawful-more l (before ++ x ∷ []) es e h.2 (subst P (sym (append_assoc before (x ∷ []) es)) ok) change)
 
--- the greatest of two counts
-one_of : (b : Bool) (x y : Option Contents) (m : ℕ) → option_map_or (λ t. t.inserted) x 0 ≤ m → option_map_or (λ t. t.inserted) y 0 ≤ m → option_map_or (λ t. t.inserted) (cond b x y) 0 ≤ m
-one_of true x y m h k = h
-one_of false x y m h k = k
-
-change_more : (change : Contents → Contents) (o : Option Contents) (m : ℕ) → ((t : Contents) → (change t).inserted ≤ t.inserted + 1) → option_map_or (λ t. t.inserted) o 0 ≤ m → option_map_or (λ t. t.inserted) (option_map change o) 0 ≤ m + 1
-change_more change None m step h = omega arith
-change_more change (Some t) m step h = omega (arith, step t)
-
--- a change to one table that inserts at most one row
-changed : (tables : List (Name × Contents)) (table : Name) (change : Contents → Contents) (m : ℕ) → ((t : Contents) → (change t).inserted ≤ t.inserted + 1)
-    → ((name : Name) → inserted_of tables name ≤ m) → (name : Name) → inserted_of (with_change table change tables) name ≤ m + 1
-changed tables table change m step h name =
-    let P : Option Contents → Type 0 = λ o. option_map_or (λ t. t.inserted) o 0 ≤ m + 1 in
-    subst P (sym (table_of-with_change tables table name change)) (one_of (same_name table name) (option_map change (table_of tables name)) (table_of tables name) (m + 1) (change_more change (table_of tables name) m step (h name)) (omega (arith, h name)))
-
-inserted-after : (tables : List (Name × Contents)) (user : User) (s : Statement) (m : ℕ) → CanCarry tables s → ((name : Name) → inserted_of tables name ≤ m) → (name : Name) → inserted_of (tables_after tables user s) name ≤ m + 1
-inserted-after tables user (statements.CreateTable table columns) m carries h name =
-    let P : Option Contents → Type 0 = λ o. option_map_or (λ t. t.inserted) o 0 ≤ m + 1 in
-    subst P (sym (table_of-append tables table name (opened user columns) carries)) (one_of (same_name table name) (Some (opened user columns)) (table_of tables name) (m + 1) (omega arith) (omega (arith, h name)))
-inserted-after tables user (statements.Insert table values) m carries h name = changed tables table (with_row (record { values = values })) m (λ t. omega arith) h name
-inserted-after tables user (statements.Delete table filter) m carries h name = changed tables table (deleted filter) m (λ t. omega arith) h name
-inserted-after tables user (statements.Update table sets filter) m carries h name = changed tables table (updated sets filter) m (λ t. omega arith) h name
-inserted-after tables user (statements.Select list table filter) m carries h name = absurd carries
-inserted-after tables user (statements.Grant privileges table users option) m carries h name = absurd carries
-inserted-after tables user (statements.Revoke privileges table users) m carries h name = absurd carries
-inserted-after tables user statements.Checkpoint m carries h name = absurd carries
-inserted-after tables user statements.Checkpoints m carries h name = absurd carries
-inserted-after tables user (statements.Export number only) m carries h name = absurd carries
-
 -- where a change is allowed, there is room for it
 in_room : (at : State) → room_for_change at ≡ Ok tt → at.moment < at.limits.changes
 in_room at h = ltb-true at.moment at.limits.changes (require-Ok _ _ h)
@@ -114,26 +162,120 @@ room at user (statements.CreateTable table columns) c ok = in_room at (passed (c
 room at user (statements.Insert table values) c ok = in_room at (passed (checks at user (statements.Insert table values)) ok).1.1.1.1.0
 room at user (statements.Delete table filter) c ok = in_room at (passed (checks at user (statements.Delete table filter)) ok).1.1.1.1.1.0
 room at user (statements.Update table sets filter) c ok = in_room at (passed (checks at user (statements.Update table sets filter)) ok).1.1.1.1.1.1.1.0
+room at user (statements.Grant privileges table users option) c ok = in_room at (passed (checks at user (statements.Grant privileges table users option)) ok).1.1.1.0
+room at user (statements.Revoke privileges table users) c ok = in_room at (passed (checks at user (statements.Revoke privileges table users)) ok).1.1.1.0
 room at user (statements.Select list table filter) c ok = cc
-room at user (statements.Grant privileges table users option) c ok = cc
-room at user (statements.Revoke privileges table users) c ok = cc
 room at user statements.Checkpoint c ok = cc
 room at user statements.Checkpoints c ok = cc
 room at user (statements.Export number only) c ok = cc
 
--- the system stands with the change entered
-pub Stands-more : (chunk : ℕ) (limits : Limits) (journal : List Entry) (tables new : List (Name × Contents)) (e : Entry) → Stands chunk limits journal tables → verdict_at limits journal e.user e.statement ≡ Ok tt → is_change e.statement ≡ true → new ≡ tables_after tables e.user e.statement → Stands chunk limits (journal ++ e ∷ []) new
-Stands-more chunk limits journal tables new e h ok change after =
-    let more : new ≡ contents (journal ++ e ∷ []) = after ∙ ap (λ ts. tables_after ts e.user e.statement) h.tables_of ∙ sym (contents-more journal e) in
-    let long : length (journal ++ e ∷ []) ≡ length journal + 1 = length-append journal (e ∷ []) in
-    let fits = room (state_of limits journal) e.user e.statement change ok in
-    let P : List (Name × Contents) → Type 0 = λ ts. CanCarry ts e.statement in
-    let carries : CanCarry (contents journal) e.statement = subst P h.tables_of (CanCarry-stands chunk limits journal tables e.user e.statement h change ok) in
-    record {
-      some = h.some;
-      small = h.small;
-      lawful = lawful-more limits [] journal e h.lawful ok change;
-      tables_of = more;
-      inserted = λ name. subst (λ (ts : List (Name × Contents)). inserted_of ts name ≤ length (journal ++ e ∷ [])) (sym (contents-more journal e)) (omega (arith, long, inserted-after (contents journal) e.user e.statement (length journal) carries h.inserted name));
-      few = omega (arith, long, fits);
-    }
+-- what an allowed change makes of the tables' names
+creates-table : (tables : List (Name × Contents)) (user : User) (s : Statement) (name : Name) → creates (change_of tables user s) name ≡ false → (table : Name) (columns : List Column) → s ≡ statements.CreateTable table columns → same_name table name ≡ false
+creates-table tables user s name other table columns is =
+    let P : Statement → Type 0 = λ k. creates (change_of tables user k) name ≡ false in
+    subst P is other
+
+grows : (at : State) (user : User) (s : Statement) → verdict at user s ≡ Ok tt → Grows at.tables (tables_after at.tables user s) (change_of at.tables user s)
+grows at user s ok = record {
+  stays = λ name here. is_table-after at.tables user s name (new at user s ok) here;
+  old = λ name other here. is_table-old at.tables user s name (creates-table at.tables user s name other) (new at user s ok) here;
+}
+
+-- the rights at a journal with one more entry
+rights-more : (limits : Limits) (journal : List Entry) (user : User) (s : Statement) → On (contents journal) (granted (changes journal)) → verdict_at limits journal user s ≡ Ok tt
+    → content_after (changes journal ++ change_of (contents journal) user s ∷ []) ≡ rights_after (rights_at journal) (length journal) (change_of (contents journal) user s)
+rights-more limits journal user (statements.CreateTable table columns) on ok =
+    content-create (changes journal) table user (never_granted (contents journal) table (granted (changes journal)) on (ap is_some (new (state_of limits journal) user (statements.CreateTable table columns) ok)))
+rights-more limits journal user (statements.Grant privileges table users option) on ok =
+    let at : State = state_of limits journal in
+    let count : 1 + length (changes journal) ≡ length journal + 1 = omega (arith, length-changes journal) in
+    content-grant (changes journal) user (atoms_at (contents journal) table privileges) users option (may at user privileges table users option ok)
+    ∙ ap (λ m. after_grant (rights_at journal) user (atoms_at (contents journal) table privileges) users option (record { 0 = m })) count
+rights-more limits journal user (statements.Revoke privileges table users) on ok = content-revoke (changes journal) user (atoms_at (contents journal) table privileges) users
+rights-more limits journal user (statements.Insert table values) on ok = content-other (changes journal)
+rights-more limits journal user (statements.Select list table filter) on ok = content-other (changes journal)
+rights-more limits journal user (statements.Delete table filter) on ok = content-other (changes journal)
+rights-more limits journal user (statements.Update table sets filter) on ok = content-other (changes journal)
+rights-more limits journal user statements.Checkpoint on ok = content-other (changes journal)
+rights-more limits journal user statements.Checkpoints on ok = content-other (changes journal)
+rights-more limits journal user (statements.Export number only) on ok = content-other (changes journal)
+
+module _ (chunk : ℕ) (limits : Limits) (journal : List Entry) (tables : List (Name × Contents)) (rights : Content) (h : Stands chunk limits journal tables rights) where
+  -- the system stands with the change entered
+  pub Stands-more : (new_tables : List (Name × Contents)) (new_rights : Content) (e : Entry) → verdict_at limits journal e.user e.statement ≡ Ok tt → is_change e.statement ≡ true
+      → new_tables ≡ tables_after tables e.user e.statement → new_rights ≡ rights_after rights (length journal) (change_of tables e.user e.statement) → IsNarrow e.statement → new_rights.made ≤ rights.made + most_grants
+      → Stands chunk limits (journal ++ e ∷ []) new_tables new_rights
+  Stands-more new_tables new_rights e ok change tables_is rights_is narrow few =
+      let at : State = state_of limits journal in
+      let ts : List (Name × Contents) = contents journal in
+      let after : List (Name × Contents) = tables_after ts e.user e.statement in
+      let ch : Change = change_of ts e.user e.statement in
+      let is_new = new at e.user e.statement ok in
+      let grown = grows at e.user e.statement ok in
+      let on = on_tables at e.user e.statement ok in
+      let long : length (journal ++ e ∷ []) ≡ length journal + 1 = length-append journal (e ∷ []) in
+      let fits = room at e.user e.statement change ok in
+      let later : contents (journal ++ e ∷ []) ≡ after = contents-more journal e in
+      let rights_later : rights_at (journal ++ e ∷ []) ≡ rights_after (rights_at journal) (length journal) ch = ap content_after (changes-more journal e) ∙ rights-more limits journal e.user e.statement h.sound.on_tables ok in
+      let rights_new : new_rights ≡ rights_after rights (length journal) ch = rights_is ∙ ap (λ k. rights_after rights (length journal) (change_of k e.user e.statement)) h.tables_of in
+      let agree : AgreeOn after (rights_after rights (length journal) ch) (rights_after (rights_at journal) (length journal) ch) =
+      agree-after ts after rights (rights_at journal) (length journal) ch h.agree (in_force_on ts (changes journal) h.sound.on_tables) on grown in
+      let By : List (Name × Contents) → Content → Content → Type 0 = λ k c d. AgreeOn k c d in
+      let agree_later : AgreeOn (contents (journal ++ e ∷ [])) new_rights (rights_at (journal ++ e ∷ [])) =
+      subst (λ k. By k new_rights (rights_at (journal ++ e ∷ []))) (sym later) (subst (λ d. By after new_rights d) (sym rights_later) (subst (λ c. By after c (rights_after (rights_at journal) (length journal) ch)) (sym rights_new) agree)) in
+      let Granted : List Change → Type 0 = λ cs. On (contents (journal ++ e ∷ [])) (granted cs) in
+      let OnAfter : List (Name × Contents) → Type 0 = λ k. On k (granted (changes journal ++ ch ∷ [])) in
+      let on_later : On (contents (journal ++ e ∷ [])) (granted (changes (journal ++ e ∷ []))) =
+      subst Granted (sym (changes-more journal e)) (subst OnAfter (sym later) (granted_on ts after (changes journal) ch h.sound.on_tables on grown.stays)) in
+      let made_few : (rights_at (journal ++ e ∷ [])).made ≤ most_grants * length (journal ++ e ∷ []) = omega (arith, agree_later.made, few, h.agree.made, h.sound.made_few, long) in
+      record {
+        some = h.some;
+        small = h.small;
+        sound = record {
+          lawful = lawful-more limits [] journal e h.sound.lawful ok change;
+          few = omega (arith, long, fits);
+          inserted = λ name. subst (λ (k : List (Name × Contents)). inserted_of k name ≤ length (journal ++ e ∷ [])) (sym later) (omega (arith, long, inserted-after ts e.user e.statement (length journal) name is_new (h.sound.inserted name)));
+          narrow = λ name. subst (λ (k : List (Name × Contents)). length (columns_of k name) ≤ 32) (sym later) (narrow-after ts e.user e.statement name is_new narrow (h.sound.narrow name));
+          on_tables = on_later;
+          made_few = made_few;
+        };
+        tables_of = tables_is ∙ (ap (λ k. tables_after k e.user e.statement) h.tables_of ∙ sym later);
+        agree = agree_later;
+      }
+
+  as_before : (new_rights : Content) → new_rights ≡ rights → AgreeOn (contents journal) new_rights (rights_at journal)
+  as_before new_rights same = let P : Content → Type 0 = λ c. AgreeOn (contents journal) c (rights_at journal) in subst P (sym same) h.agree
+
+  -- the owner of a name that is no table is read by no verdict
+  owner_left : (table : Name) (user : User) → is_table (contents journal) table ≡ false → AgreeOn (contents journal) (record rights { owners = with_owner table user rights.owners }) (rights_at journal)
+  owner_left table user none = record {
+    in_force = h.agree.in_force;
+    made = h.agree.made;
+    owned = λ name here. owner_of-with_owner table user rights.owners name (other_name (contents journal) name table here none) ∙ h.agree.owned name here;
+    fresh = λ name no_name. was_granted-with_owner table user rights.owners name ∙ h.agree.fresh name no_name;
+  }
+
+  -- what a change that found no memory may leave of the rights agrees as before
+  leaves : (user : User) (s : Statement) (new_rights : Content) → verdict_at limits journal user s ≡ Ok tt → Leaves rights (change_of (contents journal) user s) new_rights → AgreeOn (contents journal) new_rights (rights_at journal)
+  leaves user (statements.CreateTable table columns) new_rights ok left =
+      let P : Content → Type 0 = λ c. AgreeOn (contents journal) c (rights_at journal) in
+      let none : is_table (contents journal) table ≡ false = ap is_some (new (state_of limits journal) user (statements.CreateTable table columns) ok) in
+      ⊎_elim
+      (λ (same : new_rights ≡ rights). subst P (sym same) h.agree)
+      (λ (owner : new_rights ≡ record rights { owners = with_owner table user rights.owners }). subst P (sym owner) (owner_left table user none))
+      left
+  leaves user (statements.Insert table values) new_rights ok left = as_before new_rights left
+  leaves user (statements.Select list table filter) new_rights ok left = as_before new_rights left
+  leaves user (statements.Delete table filter) new_rights ok left = as_before new_rights left
+  leaves user (statements.Update table sets filter) new_rights ok left = as_before new_rights left
+  leaves user (statements.Grant privileges table users option) new_rights ok left = as_before new_rights left
+  leaves user (statements.Revoke privileges table users) new_rights ok left = as_before new_rights left
+  leaves user statements.Checkpoint new_rights ok left = as_before new_rights left
+  leaves user statements.Checkpoints new_rights ok left = as_before new_rights left
+  leaves user (statements.Export number only) new_rights ok left = as_before new_rights left
+
+  -- **after want of memory the system stands with the same journal**
+  pub Stands-left : (new_tables : List (Name × Contents)) (new_rights : Content) (e : Entry) → verdict_at limits journal e.user e.statement ≡ Ok tt → new_tables ≡ tables → Leaves rights (change_of tables e.user e.statement) new_rights → Stands chunk limits journal new_tables new_rights
+  Stands-left new_tables new_rights e ok same left =
+      let P : List (Name × Contents) → Type 0 = λ ts. Leaves rights (change_of ts e.user e.statement) new_rights in
+      record { some = h.some; small = h.small; sound = h.sound; tables_of = same ∙ h.tables_of; agree = leaves e.user e.statement new_rights ok (subst P h.tables_of left) }

@@ -1,7 +1,11 @@
 pub mod Misfits
 pub mod Passing
 pub mod Checking
+pub mod TableLemmas
+pub mod Agreeing
+pub mod Growing
 pub mod Keeping
+pub mod Replaying
 pub mod LineLemmas
 pub mod AnswerLemmas
 pub mod FeedLemmas

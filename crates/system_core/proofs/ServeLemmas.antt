@@ -2,7 +2,7 @@
 use Rattle.std.proofs.Common.{◌≡◌, ◌≤◌, ◌<◌, ◌-◌, ◌^◌, ℕ, List, [], ◌∷◌, ◌++◌, refl, sym, ap, ◌∙◌, append_assoc, append-nil, map, length, take, arith, subst, Option}
 use Rattle.std.specs.Str.Lines.{lines, strip_carriage_return}
 use Rattle.std.specs.Io.KnownBytes.{Consumes, Keeps}
-use Rattle.std.proofs.lemmas.List.{map-append, length-append, length-take}
+use Rattle.std.proofs.lemmas.List.{map-append, length-append}
 use Rattle.std.proofs.KnownBytes.{Appends-trans, Appends-kept, Consumes-trans, Consumes-kept, Consumes-nil}
 use Rattle.lexer_core.specs.declared.lexer.TheConstants.{MAX_LINE}
 use Rattle.system_core.specs.declared.lines.line.TheConstants.{KEPT_BYTES}
@@ -10,14 +10,10 @@ use Rattle.system_core.specs.Lines.{Cut, NoFeed, whole_lines}
 use Rattle.system_core.specs.Serving.{AnswersAll, AnswersLine, BreaksLine, Feeds, Breaks, Run, BrokenRun, Serving}
 use Rattle.system_core.proofs.LineLemmas.{Cut-append, lines-Cut, whole_lines-Cut, last_line}
 use Rattle.system_core.proofs.AnswerLemmas.{AnswersAll-append, AnswersAll-one, R-kept}
-use Rattle.system_core.proofs.FeedLemmas.{Feeds-none, WritesFront-after}
+use Rattle.system_core.proofs.FeedLemmas.{Feeds-none, WritesFront-after, no_rest}
 
 at_end : (left0 left1 left2 : Option (List ℕ)) (bytes : List ℕ) → Consumes left0 left1 bytes → Consumes left1 left2 [] → Consumes left0 left2 bytes
 at_end left0 left1 left2 bytes p q = subst (λ b. Consumes left0 left2 b) (append-nil bytes) (Consumes-trans left0 left1 left2 bytes [] p q)
-
-no_rest : (now kept : List ℕ) → kept ≡ take KEPT_BYTES now → length kept ≡ 0 → now ≡ []
-no_rest [] kept e none = refl
-no_rest (b ∷ bs) kept e none = absurd (omega (arith, ap length e, length-take KEPT_BYTES (b ∷ bs)))
 
 module _ {X : Type 0} (R : X → List ℕ → List ℕ → X → Type 0)
     (too_long : (old new : X) (line other text : List ℕ) → MAX_LINE < length line → MAX_LINE < length other → R old line text new → R old other text new) where

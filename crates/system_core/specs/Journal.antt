@@ -1,4 +1,4 @@
--- What a journal says: its tables, and how a statement is judged at it.
+-- What a journal says: its tables, its changes of rights, and how a statement is judged at it.
 use Rattle.std.specs.Prelude.{◌≡◌, Bool, true, false, List, [], ◌∷◌, ◌++◌, length, Ok}
 use Rattle.std.specs.List.{fold}
 use Rattle.base_core.specs.declared.name.Name.{Name}
@@ -7,8 +7,12 @@ use Rattle.base_core.specs.declared.limits.Limits.{Limits}
 use Rattle.reader_core.specs.declared.statement.Statement.{Statement}
 use Rattle.reader_core.specs.declared.statement.Statement.TheVariants as statements
 use Rattle.tables_core.specs.Contents.{Contents, opened, with_row, deleted, updated, with_change}
+use Rattle.grants_core.specs.declared.grant.Change.{Change}
+use Rattle.grants_core.specs.declared.grant.Change.TheVariants as change
+use Rattle.grants_core.specs.Content.{Content}
+use Rattle.grants_core.specs.History.{content_after}
 use Rattle.system_core.specs.declared.event.Entry.{Entry}
-use Rattle.system_core.specs.Verdict.{State, Check, verdict}
+use Rattle.system_core.specs.Verdict.{State, Check, verdict, atoms_at}
 
 -- whether a statement is a change
 abbrev pub is_change : Statement → Bool
@@ -16,9 +20,11 @@ is_change (statements.CreateTable table columns) = true
 is_change (statements.Insert table values) = true
 is_change (statements.Delete table filter) = true
 is_change (statements.Update table sets filter) = true
+is_change (statements.Grant privileges table users option) = true
+is_change (statements.Revoke privileges table users) = true
 is_change _ = false
 
--- whether a statement is carried out by now: no grant and no checkpoint is yet
+-- whether a statement is carried out by now: no checkpoint is yet
 abbrev pub is_served : Statement → Bool
 is_served (statements.Select list table filter) = true
 is_served asked = is_change asked
@@ -38,9 +44,29 @@ tables_with tables e = tables_after tables e.user e.statement
 abbrev pub contents : List Entry → List (Name × Contents)
 contents journal = fold tables_with [] journal
 
+-- what a user's statement changes of rights, at these tables
+abbrev pub change_of : List (Name × Contents) → User → Statement → Change
+change_of tables user (statements.CreateTable table columns) = change.Create table user
+change_of tables user (statements.Grant privileges table users option) = change.Grant user (atoms_at tables table privileges) users option
+change_of tables user (statements.Revoke privileges table users) = change.Revoke user (atoms_at tables table privileges) users
+change_of tables user _ = change.Other
+
+-- the changes of rights by entries, of which the first finds these tables
+abbrev pub changes_from : List (Name × Contents) → List Entry → List Change
+changes_from tables [] = []
+changes_from tables (e ∷ es) = change_of tables e.user e.statement ∷ changes_from (tables_with tables e) es
+
+-- the changes of rights by a journal: each entry as its change, at the tables of the journal before it
+abbrev pub changes : List Entry → List Change
+changes journal = changes_from [] journal
+
+-- the owners, and the grants in force, after a journal
+abbrev pub rights_at : List Entry → Content
+rights_at journal = content_after (changes journal)
+
 -- what is judged by, at a journal
 abbrev pub state_of : Limits → List Entry → State
-state_of limits journal = record { tables = contents journal; limits = limits; moment = length journal }
+state_of limits journal = record { tables = contents journal; rights = rights_at journal; limits = limits; moment = length journal }
 
 -- the verdict on what a user asks, at a journal
 abbrev pub verdict_at : Limits → List Entry → User → Statement → Check

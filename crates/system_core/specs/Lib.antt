@@ -1,3 +1,4 @@
+pub mod Atoms
 pub mod Verdict
 pub mod Journal
 pub mod World
@@ -13,6 +14,8 @@ pub use Rattle.base_core.specs.Values
 pub use Rattle.base_core.specs.Lacks
 pub use Rattle.base_core.specs.Streams
 pub use Rattle.tables_core.specs.Contents
+pub use Rattle.grants_core.specs.Content
+pub use Rattle.grants_core.specs.History
 pub use Rattle.reader_core.specs.Language
 pub mod Texts
 pub mod Script

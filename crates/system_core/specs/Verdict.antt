@@ -1,24 +1,27 @@
 -- Which statements may be carried out: for each a list of checks, of which the first that fails is the lack.
-use Rattle.std.specs.Prelude.{ℕ, Bool, false, not, nat_lt, ◌==◌, slice_get, option_and_then, if◌then◌else◌, List, [], ◌∷◌, length, map, is_some, Option, Some, None, Result, Ok, Err}
+use Rattle.std.specs.Prelude.{ℕ, ◌+◌, Bool, not, nat_lt, nat_le, ◌==◌, slice_get, option_and_then, if◌then◌else◌, List, [], ◌∷◌, length, map, is_some, Option, Some, None, Result, Ok, Err}
 use Rattle.std.specs.Option.{option_map_or}
 use Rattle.base_core.specs.Filter.{place}
-use Rattle.base_core.specs.Users.{same_user}
 use Rattle.base_core.specs.Values.{has_type}
 use Rattle.base_core.specs.declared.name.Name.{Name}
 use Rattle.base_core.specs.declared.name.User.{User}
 use Rattle.base_core.specs.declared.value.Column.{Column}
 use Rattle.base_core.specs.declared.value.Value.{Value}
 use Rattle.base_core.specs.declared.condition.Condition.{Condition}
-use Rattle.base_core.specs.declared.privilege.Kind.{Kind}
 use Rattle.base_core.specs.declared.privilege.Kind.TheVariants as kinds
 use Rattle.base_core.specs.declared.privilege.Atom.{Atom}
 use Rattle.base_core.specs.declared.lack.Lack.{Lack}
-use Rattle.base_core.specs.declared.lack.Lack.TheVariants.{NoTable, TableExists, NoColumn, NoPrivilege, WrongCount, WrongType, Full}
-use Rattle.base_core.specs.declared.lack.What.TheVariants.{Changes, Tables}
+use Rattle.base_core.specs.declared.lack.Lack.TheVariants.{NoTable, TableExists, NoColumn, NoPrivilege, NoGrantOption, NoGrant, WrongCount, WrongType, Full}
+use Rattle.base_core.specs.declared.lack.What.TheVariants.{Changes, Tables, Grants}
 use Rattle.base_core.specs.declared.limits.Limits.{Limits}
+use Rattle.reader_core.specs.declared.privilege.Privilege.{Privilege}
 use Rattle.reader_core.specs.declared.statement.Statement.{Statement}
 use Rattle.reader_core.specs.declared.statement.Statement.TheVariants as statements
 use Rattle.tables_core.specs.Contents.{Contents, table_of}
+use Rattle.grants_core.specs.declared.grant.Grant.{Grant}
+use Rattle.grants_core.specs.Content as rights
+use Rattle.grants_core.specs.Content.{Content, count_of}
+use Rattle.system_core.specs.Atoms.{of_table, to_update, atoms_of, columns_listed}
 
 -- a check: passed, or the lack
 abbrev pub Check : Type 0
@@ -38,9 +41,10 @@ first_lack (Err lack ∷ more) = Err lack
 abbrev pub each : {A : Type 0} → List A → (A → Check) → Check
 each xs check = first_lack (map check xs)
 
--- what is judged by: the tables, the limits, and the moment
+-- what is judged by: the tables, the rights (owners and grants in force), the limits, and the moment
 pub record State : Type 0 where
   pub tables : List (Name × Contents)
+  pub rights : Content
   pub limits : Limits
   pub moment : ℕ
 
@@ -58,12 +62,13 @@ abbrev pub names_listed : Option (List Name) → List Name
 names_listed None = []
 names_listed (Some names) = names
 
--- whether the user owns the table: its creator alone is authorized on it, for everything
-abbrev pub owns : List (Name × Contents) → User → Name → Bool
-owns tables user name = option_map_or (λ t. same_user t.owner user) (table_of tables name) false
+-- whether so many more grants of the atom are within the limit
+unfoldable pub has_room : List Grant → Atom → ℕ → ℕ → Bool
+has_room in_force atom more limit = nat_le (count_of in_force atom + more) limit
 
-abbrev pub of_table : Name → Kind → Atom
-of_table table kind = record { table = table; kind = kind }
+-- the atoms that privileges on the table are
+abbrev pub atoms_at : List (Name × Contents) → Name → List Privilege → List Atom
+atoms_at tables table privileges = atoms_of table (columns_of tables table) privileges
 
 -- ---- the single checks
 abbrev pub table_stands : State → Name → Check
@@ -73,7 +78,14 @@ abbrev pub table_is_new : State → Name → Check
 table_is_new s table = require (not (is_table s.tables table)) (TableExists table)
 
 abbrev pub holds : State → User → Atom → Check
-holds s user atom = require (owns s.tables user atom.table) (NoPrivilege user atom)
+holds s user atom = require (rights.holds s.rights.owners s.rights.in_force user atom) (NoPrivilege user atom)
+
+abbrev pub may_grant : State → User → Atom → Check
+may_grant s user atom = require (rights.may_grant s.rights.owners s.rights.in_force user atom) (NoGrantOption user atom)
+
+-- a grant of the atom by the one to the other is in force
+abbrev pub has_made : State → User → Atom → User → Check
+has_made s by atom to = require (rights.has_made s.rights.in_force by to atom) (NoGrant by to atom)
 
 abbrev pub count_is_right : State → Name → List Value → Check
 count_is_right s table values = require (length values == length (columns_of s.tables table)) (WrongCount (length values) (length (columns_of s.tables table)))
@@ -118,6 +130,13 @@ room_for_change s = require (nat_lt s.moment s.limits.changes) (Full Changes)
 abbrev pub room_for_table : State → Check
 room_for_table s = require (nat_lt (length s.tables) s.limits.tables) (Full Tables)
 
+abbrev pub room_for_grants : State → List User → Atom → Check
+room_for_grants s users atom = require (has_room s.rights.in_force atom (length users) s.limits.grants) (Full Grants)
+
+-- the columns that privileges list are the table's
+abbrev pub listed_columns_stand : State → Name → List Privilege → Check
+listed_columns_stand s table privileges = each privileges (λ p. each (columns_listed p) (column_stands s table))
+
 -- ---- the checks of each statement, in their order
 abbrev pub checks : State → User → Statement → List Check
 checks s user (statements.CreateTable table columns) =
@@ -129,7 +148,11 @@ checks s user (statements.Select list table filter) =
 checks s user (statements.Delete table filter) =
     table_stands s table ∷ each filter (λ c. column_stands s table c.column) ∷ holds s user (of_table table kinds.Delete) ∷ with_filter filter (holds s user (of_table table kinds.Select)) ∷ each filter (λ c. column_takes s table c.column c.literal) ∷ room_for_change s ∷ []
 checks s user (statements.Update table sets filter) =
-    table_stands s table ∷ each sets (λ a. column_stands s table a.column) ∷ each filter (λ c. column_stands s table c.column) ∷ each sets (λ a. holds s user (of_table table (kinds.Update a.column))) ∷ with_filter filter (holds s user (of_table table kinds.Select)) ∷ each sets (λ a. column_takes s table a.column a.value) ∷ each filter (λ c. column_takes s table c.column c.literal) ∷ room_for_change s ∷ []
+    table_stands s table ∷ each sets (λ a. column_stands s table a.column) ∷ each filter (λ c. column_stands s table c.column) ∷ each sets (λ a. holds s user (to_update table a.column)) ∷ with_filter filter (holds s user (of_table table kinds.Select)) ∷ each sets (λ a. column_takes s table a.column a.value) ∷ each filter (λ c. column_takes s table c.column c.literal) ∷ room_for_change s ∷ []
+checks s user (statements.Grant privileges table users option) =
+    table_stands s table ∷ listed_columns_stand s table privileges ∷ each (atoms_at s.tables table privileges) (may_grant s user) ∷ room_for_change s ∷ each (atoms_at s.tables table privileges) (room_for_grants s users) ∷ []
+checks s user (statements.Revoke privileges table users) =
+    table_stands s table ∷ listed_columns_stand s table privileges ∷ each (atoms_at s.tables table privileges) (λ atom. each users (has_made s user atom)) ∷ room_for_change s ∷ []
 checks s user _ = []
 
 -- passed, or the first lack

@@ -2,9 +2,9 @@
 ghost use Rattle.std.specs.Prelude.{◌≡◌, find, is_some, not, option_map};
 ghost use Rattle.base_core.specs.Filter.{place};
 ghost use Rattle.base_core.specs.declared.value.Value as values;
-ghost use Rattle.system_core.specs.Verdict.{require, require_none, each, is_table, columns_of, owns, misfit, types_are_right, is_named, takes};
+ghost use Rattle.system_core.specs.Verdict.{require, require_none, each, is_table, columns_of, misfit, types_are_right, is_named, takes};
 
-use base_core::{Assignment, Atom, Column, Condition, Lack, Name, Named, User, Value, place_of};
+use base_core::{Assignment, Column, Condition, Lack, Name, Named, Value, place_of};
 use tables_core::Tables;
 
 /// What names a column, and a value for it.
@@ -54,18 +54,8 @@ pub fn columns_of(tables: &Tables, name: Name) -> &[Column]
     }
 }
 
-/// Whether the user may do this: the owner may do everything, and no one else anything.
-pub fn holds(tables: &Tables, user: &User, atom: &Atom) -> bool
-    ensures { result ≡ owns tables.now user.now atom.now.table }
-{
-    match tables.owner(&atom.table) {
-        Some(owner) => owner == *user,
-        None => false,
-    }
-}
-
 /// The first name that is no column's.
-fn first_missing<T: Named>(columns: &[Column], items: &[T]) -> Option<Name>
+pub fn first_missing<T: Named>(columns: &[Column], items: &[T]) -> Option<Name>
     ensures { result ≡ option_map T.name_of (find (λ item. not (is_some (place columns.now (T.name_of item)))) items.now) }
 {
     let missing = items

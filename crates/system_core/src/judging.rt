@@ -1,17 +1,20 @@
 //! The judgement of a statement.
-ghost use Rattle.std.specs.Prelude.{◌≡◌, ◌∷◌, [], find, nat_lt, not, option_map};
+ghost use Rattle.std.specs.Prelude.{◌≡◌, ◌∷◌, [], ◌≤◌, nat_lt, length};
 ghost use Rattle.base_core.specs.declared.privilege.Kind.TheVariants as kinds;
 ghost use Rattle.reader_core.specs.declared.statement.Statement.TheVariants as statements;
-ghost use Rattle.system_core.specs.Verdict.{verdict, first_lack, owns, holds, each, of_table, column_stands, column_takes, table_stands, table_is_new, with_filter, names_listed, room_for_change, room_for_table};
+ghost use Rattle.system_core.specs.Verdict.{verdict, first_lack, holds, each, column_stands, column_takes, table_stands, table_is_new, with_filter, names_listed, room_for_change, room_for_table, listed_columns_stand, atoms_at, may_grant, has_made, has_room, room_for_grants};
+ghost use Rattle.system_core.specs.Atoms.{to_update};
 
 use crate::checks::{
-    Literal, columns_of, holds, is_table, require, require_columns, require_literals, require_types,
+    Literal, columns_of, is_table, require, require_columns, require_literals, require_types,
 };
+use crate::each::{AtomCheck, each_atom, each_update, require_listed};
 use base_core::{
     Assignment, Atom, Condition, Distinct, Kind, Lack, Limits, Moment, Name, Named, User, Value,
     What,
 };
-use reader_core::{MAX_ITEMS, Statement};
+use grants_core::{Authority, Replay};
+use reader_core::{MAX_ITEMS, Privilege, Statement};
 use std::marker::Model;
 use tables_core::Tables;
 
@@ -19,6 +22,7 @@ use tables_core::Tables;
 #[derive(Drop)]
 pub struct Judge<'a> {
     pub tables: &'a Tables,
+    pub rights: &'a Replay,
     pub limits: &'a Limits,
     pub moment: Moment,
 }
@@ -28,7 +32,7 @@ impl<'a> Model for Judge<'a> {
 
     ghost Value = { State };
 
-    ghost view = { λ j. record { tables = j.tables.now; limits = j.limits.now; moment = j.moment.0 } };
+    ghost view = { λ j. record { tables = j.tables.now; rights = j.rights.now; limits = j.limits.now; moment = j.moment.0 } };
 }
 
 /// The names of the columns that a query lists, none where it lists none.
@@ -38,6 +42,68 @@ fn names_listed(list: &Option<Distinct<Name, MAX_ITEMS>>) -> &[Name]
     match list {
         Some(names) => names.as_slice(),
         None => &[],
+    }
+}
+
+/// That the user holds an atom.
+#[derive(Drop)]
+struct Held<'a> {
+    judge: &'a Judge<'a>,
+    user: User,
+}
+
+impl<'a> AtomCheck for Held<'a> {
+    ghost check_of = { λ c atom. holds c.judge.now c.user atom };
+
+    fn check(&self, atom: Atom) -> Result<(), Lack> {
+        self.judge.may(&self.user, atom)
+    }
+}
+
+/// That the user may grant an atom.
+#[derive(Drop)]
+struct Grantable<'a> {
+    judge: &'a Judge<'a>,
+    user: User,
+}
+
+impl<'a> AtomCheck for Grantable<'a> {
+    ghost check_of = { λ c atom. may_grant c.judge.now c.user atom };
+
+    fn check(&self, atom: Atom) -> Result<(), Lack> {
+        self.judge.may_grant(&self.user, atom)
+    }
+}
+
+/// That there is room for grants of an atom to each of the users.
+#[derive(Drop)]
+struct Roomy<'a> {
+    judge: &'a Judge<'a>,
+    users: &'a [User],
+}
+
+impl<'a> AtomCheck for Roomy<'a> {
+    ghost check_of = { λ c atom. room_for_grants c.judge.now c.users.now atom };
+
+    fn check(&self, atom: Atom) -> Result<(), Lack> {
+        let room = self.judge.has_room_for(&atom, self.users.len() as u64);
+        require(room, Lack::Full(What::Grants))
+    }
+}
+
+/// That grants of an atom by the one to each of the users are in force.
+#[derive(Drop)]
+struct Granted<'a> {
+    judge: &'a Judge<'a>,
+    by: User,
+    users: &'a [User],
+}
+
+impl<'a> AtomCheck for Granted<'a> {
+    ghost check_of = { λ c atom. each c.users.now (has_made c.judge.now c.by atom) };
+
+    fn check(&self, atom: Atom) -> Result<(), Lack> {
+        self.judge.has_made_each(&self.by, self.users, &atom)
     }
 }
 
@@ -51,7 +117,7 @@ impl Judge<'_> {
     fn may(&self, user: &User, atom: Atom) -> Result<(), Lack>
         ensures { result ≡ holds self.now user.now atom }
     {
-        let may = holds(self.tables, user, &atom);
+        let may = self.rights.holds(*user, &atom);
         require(may, Lack::NoPrivilege { user: *user, atom })
     }
 
@@ -66,30 +132,52 @@ impl Judge<'_> {
         }
     }
 
-    /// The first column of which the user may not set the values.
-    fn first_kept(&self, user: &User, table: Name, sets: &[Assignment]) -> Option<Name>
-        ensures { result ≡ option_map (λ a. a.column) (find (λ a. not (owns self.now.tables user.now table)) sets.now) }
+    fn may_update(&self, user: &User, table: Name, sets: &[Assignment]) -> Result<(), Lack>
+        ensures { result ≡ each sets.now (λ a. holds self.now user.now (to_update table a.column)) }
     {
-        let kept = sets.iter().find(|set| {
-            let kind = Kind::Update(set.column);
-            !holds(self.tables, user, &Atom { table, kind })
-        })?;
-        Some(kept.column)
+        let held = Held {
+            judge: self,
+            user: *user,
+        };
+        each_update(&held, table, sets)
     }
 
-    fn may_update(&self, user: &User, table: Name, sets: &[Assignment]) -> Result<(), Lack>
-        ensures { result ≡ each sets.now (λ a. holds self.now user.now (of_table table (kinds.Update a.column))) }
+    fn may_grant(&self, user: &User, atom: Atom) -> Result<(), Lack>
+        ensures { result ≡ may_grant self.now user.now atom }
     {
-        match self.first_kept(user, table, sets) {
-            None => Ok(()),
-            Some(column) => Err(Lack::NoPrivilege {
-                user: *user,
-                atom: Atom {
-                    table,
-                    kind: Kind::Update(column),
-                },
-            }),
+        let may = self.rights.may_grant(*user, &atom);
+        require(may, Lack::NoGrantOption { user: *user, atom })
+    }
+
+    fn has_made(&self, by: &User, to: &User, atom: &Atom) -> Result<(), Lack>
+        ensures { result ≡ has_made self.now by.now atom.now to.now }
+    {
+        let made = self.rights.has_made(*by, *to, atom);
+        let Atom { table, kind } = *atom;
+        let lack = Lack::NoGrant {
+            by: *by,
+            to: *to,
+            atom: Atom { table, kind },
+        };
+        require(made, lack)
+    }
+
+    fn has_made_each(&self, by: &User, users: &[User], atom: &Atom) -> Result<(), Lack>
+        ensures { result ≡ each users.now (has_made self.now by.now atom.now) }
+    {
+        for to in users {
+            if let Err(lack) = self.has_made(by, to, atom) {
+                return Err(lack);
+            }
         }
+        Ok(())
+    }
+
+    #[tactic(auto, unfolding(crate::specs::Verdict::has_room))]
+    fn has_room_for(&self, atom: &Atom, more: u64) -> bool
+        ensures { result ≡ has_room self.now.rights.in_force atom.now more self.now.limits.grants }
+    {
+        self.rights.room(atom, more, self.limits.grants)
     }
 
     /// Each name is a column's of the table.
@@ -97,6 +185,25 @@ impl Judge<'_> {
         ensures { result ≡ each items.now (λ item. column_stands self.now table (T.name_of item)) }
     {
         require_columns(table, columns_of(self.tables, table), items)
+    }
+
+    /// Each column that the privileges list is the table's.
+    fn listed_stand(&self, table: Name, privileges: &[Privilege]) -> Result<(), Lack>
+        ensures { result ≡ listed_columns_stand self.now table privileges.now }
+    {
+        require_listed(table, columns_of(self.tables, table), privileges)
+    }
+
+    /// Each atom that the privileges are passes.
+    fn each_atom<C: AtomCheck>(
+        &self,
+        check: &C,
+        table: Name,
+        privileges: &[Privilege],
+    ) -> Result<(), Lack>
+        ensures { result ≡ each (atoms_at self.now.tables table privileges.now) (C.check_of check.now) }
+    {
+        each_atom(check, table, columns_of(self.tables, table), privileges)
     }
 
     /// Each column named takes its literal.
@@ -201,6 +308,62 @@ impl Judge<'_> {
         self.room_for_change()
     }
 
+    // No `?` in the next two, nor in a loop that names no atom: the toolchain can't build a proof of it.
+    fn grant(
+        &self,
+        user: &User,
+        privileges: &[Privilege],
+        table: Name,
+        users: &[User],
+        option: bool,
+    ) -> Result<(), Lack>
+        ensures { result ≡ verdict self.now user.now (statements.Grant privileges.now table users.now option) }
+    {
+        let user = *user;
+        let grantable = Grantable { judge: self, user };
+        let roomy = Roomy { judge: self, users };
+        if let Err(lack) = self.table_stands(table) {
+            return Err(lack);
+        }
+        if let Err(lack) = self.listed_stand(table, privileges) {
+            return Err(lack);
+        }
+        if let Err(lack) = self.each_atom(&grantable, table, privileges) {
+            return Err(lack);
+        }
+        if let Err(lack) = self.room_for_change() {
+            return Err(lack);
+        }
+        self.each_atom(&roomy, table, privileges)
+    }
+
+    fn revoke(
+        &self,
+        user: &User,
+        privileges: &[Privilege],
+        table: Name,
+        users: &[User],
+    ) -> Result<(), Lack>
+        ensures { result ≡ verdict self.now user.now (statements.Revoke privileges.now table users.now) }
+    {
+        let by = *user;
+        let granted = Granted {
+            judge: self,
+            by,
+            users,
+        };
+        if let Err(lack) = self.table_stands(table) {
+            return Err(lack);
+        }
+        if let Err(lack) = self.listed_stand(table, privileges) {
+            return Err(lack);
+        }
+        if let Err(lack) = self.each_atom(&granted, table, privileges) {
+            return Err(lack);
+        }
+        self.room_for_change()
+    }
+
     /// Whether the statement may be carried out, or the first lack.
     pub fn judge(&self, user: &User, statement: &Statement) -> Result<(), Lack>
         ensures { result ≡ verdict self.now user.now statement.now }
@@ -219,11 +382,24 @@ impl Judge<'_> {
                 sets,
                 filter,
             } => { self.update(user, *table, sets.as_slice(), filter.as_slice()) }
-            Statement::Grant { .. }
-            | Statement::Revoke { .. }
-            | Statement::Checkpoint
-            | Statement::Checkpoints
-            | Statement::Export { .. } => Ok(()),
+            Statement::Grant {
+                privileges,
+                table,
+                users,
+                option,
+            } => self.grant(
+                user,
+                privileges.as_slice(),
+                *table,
+                users.as_slice(),
+                *option,
+            ),
+            Statement::Revoke {
+                privileges,
+                table,
+                users,
+            } => self.revoke(user, privileges.as_slice(), *table, users.as_slice()),
+            Statement::Checkpoint | Statement::Checkpoints | Statement::Export { .. } => Ok(()),
         }
     }
 }

@@ -4,7 +4,8 @@ ghost use Rattle.system_core.specs.Journal.{is_change, is_served};
 
 use reader_core::Statement;
 
-/// Whether the statement is carried out by now: CREATE TABLE, INSERT, SELECT, DELETE and UPDATE are.
+/// Whether the statement is carried out by now: CREATE TABLE, INSERT, SELECT, DELETE, UPDATE,
+/// GRANT and REVOKE are.
 /// A script answers the others as not expected at their first word, until they are.
 pub fn is_served(statement: &Statement) -> bool
     ensures { result ≡ is_served statement.now }
@@ -23,7 +24,9 @@ pub fn is_change(statement: &Statement) -> bool
         Statement::CreateTable { .. }
         | Statement::Insert { .. }
         | Statement::Delete { .. }
-        | Statement::Update { .. } => true,
+        | Statement::Update { .. }
+        | Statement::Grant { .. }
+        | Statement::Revoke { .. } => true,
         _ => false,
     }
 }

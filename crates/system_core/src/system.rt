@@ -1,13 +1,15 @@
-//! The core: the journal of accepted changes, and the tables that it makes.
+//! The core: the journal of accepted changes, and the tables and rights that it makes.
 ghost use Rattle.std.specs.Prelude.{◌≡◌, ◌+◌, ◌<◌, ◌≤◌, ◌++◌, ◌∷◌, [], true, false, All, length, map, Ok, Some, option_map, IsSome, IfOk, OnOk, OnErr, MatchResult, vec_len};
 ghost use Rattle.std.specs.Vec.{vec_capacity};
 ghost use Rattle.base_core.specs.Full.{IsFull};
 ghost use Rattle.tables_core.specs.Contents.{selected, table_of};
 ghost use Rattle.system_core.specs.Verdict.{columns_of};
-ghost use Rattle.system_core.specs.Journal.{IsLawful, is_served, is_change, verdict_at, contents};
+ghost use Rattle.system_core.specs.Journal.{IsLawful, is_served, is_change, verdict_at, contents, changes};
+ghost use Rattle.grants_core.specs.History.{in_force_after};
 ghost use Rattle.system_core.specs.World.{opening, entry, moment_of, next_moment, entered, turned_away, columns_given, CarriesOut, Answers, IsServed, Step, Run, IsRunOfSome};
 
 use crate::carry::carry_out;
+use crate::change::changes_of;
 use crate::checks::columns_of;
 use crate::event::{Entry, Event, Reply};
 use crate::judging::Judge;
@@ -15,6 +17,7 @@ use crate::served::is_change;
 use base_core::{
     Column, Condition, Distinct, Lack, Limits, Moment, Name, NoMemory, Row, Sequence, User,
 };
+use grants_core::{Authority, Change, Replay, audit};
 use reader_core::{MAX_ITEMS, Statement};
 use std::alloc::{AllocError, Global};
 use std::marker::Model;
@@ -29,6 +32,7 @@ pub struct System {
     limits: Limits,
     journal: Vec<Entry>,
     tables: Tables,
+    rights: Replay,
 }
 
 impl Model for System {
@@ -39,7 +43,7 @@ impl Model for System {
 
     ghost view = { λ s. record { journal = s.journal.items; chunk = s.chunk; limits = s.limits } };
 
-    ghost invariant = { λ s. Stands s.chunk s.limits s.journal.items s.tables };
+    ghost invariant = { λ s. Stands s.chunk s.limits s.journal.items s.tables s.rights };
 }
 
 fn turn_away(at: Moment, lack: Lack) -> Reply
@@ -131,6 +135,7 @@ impl System {
             limits,
             journal: Vec::new(alloc),
             tables: Tables::new(alloc),
+            rights: Replay::new(alloc),
         })
     }
 
@@ -151,11 +156,32 @@ impl System {
         self.journal.as_slice()
     }
 
+    /// The accepted changes, each as what it changes of rights: the privileges of GRANT and REVOKE as
+    /// atoms in the order written, UPDATE without columns as that of every column that the table then
+    /// had. `NoMemory` where a request for memory was refused.
+    pub fn changes(&self) -> Result<Vec<Change>, NoMemory>
+        ensures { IfOk result (λ found. found.items ≡ changes self.now.journal) }
+    {
+        changes_of(self.alloc, &self.tables, self.journal.as_slice())
+    }
+
+    /// How many grants are in force, if they are exactly those that a replay of the journal leaves in
+    /// force, and else None. They always are. `NoMemory` where a request for memory was refused.
+    pub fn audit(&self) -> Result<Option<usize>, NoMemory>
+        ensures { IfOk result (λ found. found ≡ Some (length (in_force_after (changes self.now.journal)))) }
+    {
+        let changes = self.changes()?;
+        let live = self.rights.live()?;
+        let same = audit(self.alloc, &changes, &live)?;
+        Ok(if same { Some(live.len()) } else { None })
+    }
+
     fn judged(&self, user: &User, statement: &Statement) -> Result<(), Lack>
         ensures { result ≡ verdict_at self.now.limits self.now.journal user.now statement.now }
     {
         let judge = Judge {
             tables: &self.tables,
+            rights: &self.rights,
             limits: &self.limits,
             moment: Moment(count(&self.journal)),
         };
@@ -170,7 +196,15 @@ impl System {
         ensures err { OnErr result (self.new ≡ self.old) }
     {
         self.journal.reserve(1)?;
-        carry_out(self.alloc, &mut self.tables, entry.user, &entry.statement)?;
+        let moment = count(&self.journal);
+        carry_out(
+            self.alloc,
+            &mut self.tables,
+            &mut self.rights,
+            moment,
+            entry.user,
+            &entry.statement,
+        )?;
         enter(&mut self.journal, entry);
         Ok(())
     }
@@ -238,7 +272,7 @@ impl System {
     /// One event: a step of the machine. What the verdict allows is carried out, and a change is
     /// entered; else the reply names the first lack, and nothing changes. Want of memory is Refused
     /// with NoMemory, and changes nothing. The statement must be one that is carried out by now:
-    /// CREATE TABLE, INSERT, SELECT, DELETE or UPDATE.
+    /// CREATE TABLE, INSERT, SELECT, DELETE, UPDATE, GRANT or REVOKE.
     pub fn step(&mut self, event: Event) -> Reply
         requires { IsServed event }
         ensures { Step self.old event result self.new }

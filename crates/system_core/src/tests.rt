@@ -103,11 +103,13 @@ struct Slow {
 }
 
 impl Sink for Slow {
-    ghost use Rattle.std.specs.Prelude.{Some};
+    ghost use Rattle.std.specs.Prelude.{Some, true};
 
     ghost failed = { λ s. s.failed };
 
     ghost taken = { λ s. Some s.bytes.items };
+
+    ghost settled = { λ _. true };
 
     fn write(&mut self, bytes: &[u8]) -> Result<usize, Broken> {
         let Some(&first) = bytes.first() else {
@@ -119,6 +121,10 @@ impl Sink for Slow {
         }
         self.good_writes -= 1;
         Ok(1)
+    }
+
+    fn flush(&mut self) -> Result<(), Broken> {
+        Ok(())
     }
 }
 

@@ -1,5 +1,5 @@
 //! Lines from a reader, and answers to a writer.
-ghost use Rattle.std.specs.Prelude.{◌≡◌, ◌≤◌, ◌<◌, ◌↔◌, ◌^◌, ℕ, List, [], Bool, true, false, take, length, IfOk, OnOk, OnErr, MatchResult, IsErrOf, IsOk};
+ghost use Rattle.std.specs.Prelude.{◌≡◌, ◌≤◌, ◌<◌, ◌↔◌, ◌⊎◌, ◌^◌, ℕ, List, [], Bool, true, false, take, length, IfOk, OnOk, OnErr, MatchResult, IsErrOf, IsOk};
 ghost use Rattle.std.specs.Io.KnownBytes.{Consumes, Keeps, IsAtEnd};
 ghost use Rattle.lexer_core.specs.declared.lexer.TheConstants.{MAX_LINE};
 ghost use Rattle.system_core.specs.declared.lines.line.TheConstants.{KEPT_BYTES};
@@ -57,6 +57,20 @@ pub trait LineServer {
         answers old line text new → answers old other text new };
 }
 
+/// Hands on what was written, where nothing is kept of a line: so it is after a line has ended.
+fn settle<W: Sink>(line: &Line, writer: &mut W) -> Result<(), Broken>
+    requires { W.failed writer.old ≡ false }
+    ensures failed { MatchResult result (λ _. W.failed writer.new ≡ false) (λ _. W.failed writer.new ≡ true) }
+    ensures taken { Keeps (W.taken writer.old) (W.taken writer.new) }
+    ensures settled { OnOk result ((line.now ≡ []) ⊎ (W.settled writer.old ≡ true) → W.settled writer.new ≡ true) }
+    ensures err { OnErr result (line.now ≡ []) }
+{
+    if line.as_slice().is_empty() {
+        return writer.flush();
+    }
+    Ok(())
+}
+
 /// Answers each line that ends in the piece, and keeps the front of what comes after the last.
 fn feed<D: LineServer, W: Sink>(
     server: &mut D,
@@ -70,6 +84,7 @@ fn feed<D: LineServer, W: Sink>(
         Feeds D.answers rest piece.now line.new server.old server.new (W.taken writer.old) (W.taken writer.new)) }
     ensures err { OnErr result ((rest : List ℕ) → NoFeed rest → line.old ≡ take KEPT_BYTES rest →
         Breaks D.answers rest piece.now server.old server.new (W.taken writer.old) (W.taken writer.new)) }
+    ensures settled { W.settled writer.old ≡ true → OnOk result (W.settled writer.new ≡ true) }
 {
     let mut left = piece;
     while let Some(end) = memchr(LINE_FEED, left) {
@@ -79,6 +94,7 @@ fn feed<D: LineServer, W: Sink>(
         line.clear();
         left = &behind[1..];
     }
+    settle(line, writer)?;
     line.extend(left);
     Ok(())
 }
@@ -103,12 +119,14 @@ fn finish<D: LineServer, W: Sink>(server: &mut D, line: &Line, writer: &mut W) -
     ensures empty { length line.now ≡ 0 → OnOk result ((server.new ≡ server.old) × Keeps (W.taken writer.old) (W.taken writer.new)) × IsOk result }
     ensures ok { 0 < length line.now → OnOk result (AnswersLine D.answers line.now server.old server.new (W.taken writer.old) (W.taken writer.new)) }
     ensures err { OnErr result ((0 < length line.now) × BreaksLine D.answers line.now server.old server.new (W.taken writer.old) (W.taken writer.new)) }
+    ensures settled { W.settled writer.old ≡ true → OnOk result (W.settled writer.new ≡ true) }
 {
     let bytes = line.as_slice();
     if bytes.is_empty() {
         return Ok(());
     }
-    server.answer(writer, bytes)
+    server.answer(writer, bytes)?;
+    writer.flush()
 }
 
 /// Reads to the end and answers each line, from a line with nothing in it.
@@ -125,6 +143,7 @@ fn serve_lines<D: LineServer, S: Source, W: Sink>(
     ensures read { IsErrOf result SessionFault.Read ↔ (S.failed reader.new ≡ true) }
     ensures write { IsErrOf result SessionFault.Write ↔ (W.failed writer.new ≡ true) }
     ensures memory { IsErrOf result SessionFault.NoMemory → ⊥ }
+    ensures settled { W.settled writer.old ≡ true → W.failed writer.new ≡ false → W.settled writer.new ≡ true }
     ensures ends { Ends D.answers D.over result server.old server.new (S.left reader.old) (S.left reader.new) (W.taken writer.old) (W.taken writer.new) }
 {
     let mut unread = MOST_BYTES;
@@ -162,7 +181,7 @@ fn new_buffer(alloc: Global) -> Result<Vec<u8>, AllocError>
 /// It reads at most 65,536 bytes at a time. `Read` and `Write` are answered exactly where the reader
 /// or the writer has failed, `Bound` where 2^32 bytes were read and the end had not come, and
 /// `NoMemory` before the first read. On `Read` and `Bound` the lines whose line feed has come were
-/// answered.
+/// answered. What was written is handed on before each further read, and at the end.
 pub fn serve<D: LineServer, S: Source, W: Sink>(
     alloc: Global,
     server: &mut D,
@@ -173,6 +192,7 @@ pub fn serve<D: LineServer, S: Source, W: Sink>(
     requires sink { W.failed writer.old ≡ false }
     ensures read { IsErrOf result SessionFault.Read ↔ (S.failed reader.new ≡ true) }
     ensures write { IsErrOf result SessionFault.Write ↔ (W.failed writer.new ≡ true) }
+    ensures settled { W.settled writer.old ≡ true → W.failed writer.new ≡ false → W.settled writer.new ≡ true }
     ensures ends { Ends D.answers D.over result server.old server.new (S.left reader.old) (S.left reader.new) (W.taken writer.old) (W.taken writer.new) }
 {
     let Ok(mut buffer) = new_buffer(alloc) else {

@@ -119,8 +119,8 @@ impl LineServer for ScriptServer {
 
 /// Answers the lines that the reader gives, one by one, until its end, and gives the core.
 ///
-/// A line is `user: statement`, and each is answered before the next is read. The chunk is from 1 to
-/// 64. `Read` and `Write` are answered exactly where the reader or the writer has failed, `Bound`
+/// A line is `user: statement`. What was answered to the lines read is handed on before more is read,
+/// and at the end. The chunk is from 1 to 64. `Read` and `Write` are answered exactly where the reader or the writer has failed, `Bound`
 /// where 2^32 bytes were read and the end had not come, and `NoMemory` before the first read.
 pub fn script<S: Source, W: Sink>(
     alloc: Global,
@@ -134,6 +134,7 @@ pub fn script<S: Source, W: Sink>(
     requires sink { W.failed writer.old ≡ false }
     ensures read { IsErrOf result SessionFault.Read ↔ (S.failed reader.new ≡ true) }
     ensures write { IsErrOf result SessionFault.Write ↔ (W.failed writer.new ≡ true) }
+    ensures settled { W.settled writer.old ≡ true → W.failed writer.new ≡ false → W.settled writer.new ≡ true }
     ensures ends { EndsScript chunk result (S.left reader.old) (S.left reader.new) (W.taken writer.old) (W.taken writer.new) }
 {
     let Ok(system) = System::with_limits(alloc, chunk, Limits::full()) else {

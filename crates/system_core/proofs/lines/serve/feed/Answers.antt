@@ -1,18 +1,18 @@
-use Rattle.std.proofs.Common.{◌+◌, [], ◌∷◌, ◌++◌, take, drop, sym, ap, ◌∙◌, subst, refl}
+use Rattle.std.proofs.Common.{◌+◌, [], ◌∷◌, ◌++◌, take, drop, sym, ap, ◌∙◌, subst, refl, inl, inr}
 use Rattle.std.specs.Str.Lines.{strip_carriage_return}
 use Rattle.system_core.specs.declared.lines.line.TheConstants.{KEPT_BYTES}
 use Rattle.system_core.specs.Serving.{Feeds, BreaksLine, AnswersLine}
-use Rattle.system_core.proofs.FeedLemmas.{Feeds-none, Feeds-line, Breaks-line, Feeds-open, split_feed, behind_feed, no_feed, no_feed_before, OnErr-from}
+use Rattle.system_core.proofs.FeedLemmas.{Feeds-none, Feeds-line, Breaks-line, Feeds-open, Feeds-kept, Breaks-flush, split_feed, behind_feed, no_feed, no_feed_before, OnErr-from}
 use Rattle.system_core.proofs.lines.serve.feed.Goals as goal
 
 pub loop-end-init : goal.loop-end-init
-loop-end-init g c = let R = g.D.LineServer.answers in let law = g.met.D.LineServer.too_long in (c.requires, λ rest h e. ([], refl, Feeds-none R law rest _ _ _ h e))
+loop-end-init g c = let R = g.D.LineServer.answers in let law = g.met.D.LineServer.too_long in (c.requires, inr, λ rest h e. ([], refl, Feeds-none R law rest _ _ _ h e))
 
 pub returns-in_err-answer-clause-err : goal.returns-in_err-answer-clause-err
 returns-in_err-answer-clause-err g c = OnErr-from c.from_residual.result (λ rest h e.
     let R = g.D.LineServer.answers in
     let law = g.met.D.LineServer.too_long in
-    let fed = c.loop-end.invariant.1 rest h e in
+    let fed = c.loop-end.invariant.2 rest h e in
     let left = c.loop-end.left.now in
     let end = c.in-Some.end in
     let line_is = c.extend.ensures ∙ ap (λ x. take KEPT_BYTES (c.loop-end.line ++ x)) {y = take end left} c.split_at.ensures.front in
@@ -29,10 +29,11 @@ returns-in_err-answer-clause-err g c = OnErr-from c.from_residual.result (λ res
 pub loop-end-preserved : goal.loop-end-preserved
 loop-end-preserved g c = (
   c.in_ok-answer.ensures.failed,
+  λ _. inl c.clear.ensures,
   λ rest h e.
       let R = g.D.LineServer.answers in
       let law = g.met.D.LineServer.too_long in
-      let fed = c.loop-end.invariant.1 rest h e in
+      let fed = c.loop-end.invariant.2 rest h e in
       let left = c.loop-end.left.now in
       let end = c.in-Some.end in
       let line_is = c.extend.ensures ∙ ap (λ x. take KEPT_BYTES (c.loop-end.line ++ x)) {y = take end left} c.split_at.ensures.front in
@@ -55,9 +56,20 @@ pub returns-clause-ok : goal.returns-clause-ok
 returns-clause-ok g c = λ rest h e.
     let R = g.D.LineServer.answers in
     let law = g.met.D.LineServer.too_long in
-    let fed = c.loop-end.invariant.1 rest h e in
+    let fed = c.loop-end.invariant.2 rest h e in
     let before = g.W.Sink.taken c.args.writer.now in
-    let after = g.W.Sink.taken c.loop-end.writer in
-    subst (λ x. Feeds R rest x c.extend-2.new.self c.args.server.now c.loop-end.server before after) fed.1
-    (Feeds-open R law rest fed.0 c.loop-end.left.now c.loop-end.line c.extend-2.new.self c.args.server.now c.loop-end.server before after
-    fed.2 (no_feed c.loop-end.left.now c.in_default.ensures) c.extend-2.ensures)
+    let between = g.W.Sink.taken c.loop-end.writer in
+    let after = g.W.Sink.taken c.settle.new.writer in
+    let open_fed = Feeds-open R law rest fed.0 c.loop-end.left.now c.loop-end.line c.extend-2.new.self c.args.server.now c.loop-end.server before between
+    fed.2 (no_feed c.loop-end.left.now c.in_default.ensures) c.extend-2.ensures in
+    Feeds-kept R law rest c.args.piece.now c.extend-2.new.self c.args.server.now c.loop-end.server before between after
+    (subst (λ x. Feeds R rest x c.extend-2.new.self c.args.server.now c.loop-end.server before between) fed.1 open_fed) c.settle.ensures.taken
+
+pub returns-in_err-settle-clause-err : goal.returns-in_err-settle-clause-err
+returns-in_err-settle-clause-err g c = OnErr-from c.from_residual-in_err-settle.result (λ rest h e.
+    let R = g.D.LineServer.answers in
+    let law = g.met.D.LineServer.too_long in
+    let fed = c.loop-end.invariant.2 rest h e in
+    Breaks-flush R law rest fed.0 c.loop-end.left.now c.args.piece.now c.loop-end.line c.args.server.now c.loop-end.server
+    (g.W.Sink.taken c.args.writer.now) (g.W.Sink.taken c.loop-end.writer) (g.W.Sink.taken c.settle.new.writer)
+    fed.2 c.in_err-settle.ensures.err c.settle.ensures.taken fed.1)

@@ -1,4 +1,4 @@
-use Rattle.std.proofs.Common.{◌≡◌, ℕ, false, List, ◌++◌, length, take}
+use Rattle.std.proofs.Common.{◌≡◌, ◌⊎◌, ℕ, true, false, List, [], ◌++◌, length, take}
 use Rattle.system_core.specs.declared.lines.line.TheConstants.{KEPT_BYTES}
 use Rattle.system_core.specs.Lines.{NoFeed}
 use Rattle.system_core.specs.Serving.{Feeds}
@@ -8,6 +8,7 @@ use Rattle.system_core.proofs.lines.serve.feed.Given as goal
 abbrev pub invariant-loop-end : goal.invariant-loop-end
 invariant-loop-end g l =
     (g.W.Sink.failed l.writer ≡ false)
+    × (g.W.Sink.settled l.initial.writer ≡ true → (l.line ≡ []) ⊎ (g.W.Sink.settled l.writer ≡ true))
     × ((rest : List ℕ) → NoFeed rest → l.initial.line ≡ take KEPT_BYTES rest → (done : List ℕ) × (done ++ l.left ≡ l.piece)
     × Feeds g.D.LineServer.answers rest done l.line l.initial.server l.server (g.W.Sink.taken l.initial.writer) (g.W.Sink.taken l.writer))
 

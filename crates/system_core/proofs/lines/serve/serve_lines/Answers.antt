@@ -80,6 +80,7 @@ loop-unread-preserved g c =
     record {
       source = c.in-Ok.ensures.failed;
       sink = c.in-Ok-feed.ensures.failed;
+      settled = λ h. c.in-Ok-feed.ensures.settled (c.loop-unread.invariant.settled h);
       room = omega arith;
       serving = subst (λ k. Serving g.D.LineServer.answers c.feed.new.line c.args.server.now c.feed.new.server (c.loop-unread.unread - k) left0 left2 taken0 taken2) size
           (Serving-more g.D.LineServer.answers g.met.D.LineServer.too_long c.loop-unread.line c.feed.new.line c.args.server.now c.loop-unread.server c.feed.new.server piece c.loop-unread.unread
@@ -96,6 +97,7 @@ loop-unread-init g c =
     record {
       source = c.requires.source;
       sink = c.requires.sink;
+      settled = λ h. h;
       room = c.requires.start.1;
       serving = subst (λ k. Serving R k start start (2 ^ 32) left left taken taken) (sym c.requires.start.0) (Serving-none R g.met.D.LineServer.too_long start left taken);
     }

@@ -1,0 +1,9 @@
+pub mod WorkedExamples
+pub mod SameLemmas
+pub mod ValidLemmas
+pub mod OwnersLemmas
+pub mod SinglesLemmas
+pub mod GrantLemmas
+pub mod MadeLemmas
+pub mod HistoryLemmas
+pub mod SameGrant

@@ -1,0 +1,168 @@
+-- The grants that were made: what is read of them, and what strikes and refolds leave.
+use Rattle.std.proofs.Common.{◌≡◌, ℕ, ◌+◌, ◌*◌, ◌<◌, Bool, true, false, not, ◌||◌, ◌&&◌, cond, List, [], ◌∷◌, ◌++◌, length, set, get_or, map, refl, sym, ap, ◌∙◌, subst, zero, suc, arith, length-append, zero-add}
+use Rattle.std.specs.List.{AllByRecursion, All, list_any, filter, count_by, sum_by}
+use Rattle.std.proofs.lemmas.List.Sums.{sum_by-cons}
+use Rattle.std.proofs.lemmas.List.Elements.{filter-append, recursion_from_All}
+use Rattle.std.proofs.lemmas.List.{append-nil, length-map}
+use Rattle.base_core.specs.declared.name.Name.{Name}
+use Rattle.base_core.specs.declared.name.User.{User}
+use Rattle.base_core.specs.declared.privilege.Atom.{Atom}
+use Rattle.base_core.specs.declared.value.Moment.{Moment}
+use Rattle.grants_core.specs.declared.grant.Grant.{Grant}
+use Rattle.grants_core.specs.declared.grant.Ownership.{Ownership}
+use Rattle.grants_core.specs.declared.made.Made.{Made}
+use Rattle.grants_core.specs.Owners.{with_owner, with_granted, was_granted}
+use Rattle.grants_core.specs.Valid.{is_supported, kept_with, valid, AreSupported}
+use Rattle.grants_core.specs.Content.{Content, may_grant, names, without, singles}
+use Rattle.grants_core.specs.Made.{grants_in, unstruck, standing, newly, AreMarked, IsReplayed}
+use Rattle.grants_core.proofs.SinglesLemmas.{length-singles}
+use Rattle.grants_core.proofs.OwnersLemmas.{valid-owners, alike-with_owner, alike-with_granted, AreMarked-with_owner, AreMarked-with_granted, AllByRecursion-append}
+use Rattle.grants_core.proofs.GrantLemmas.{singles-supported, singles-marked, All-valid, All-filtered}
+use Rattle.grants_core.proofs.ValidLemmas.{valid-push, valid-append, valid-filter_valid}
+
+abbrev pub content_of : List Ownership → List Grant → ℕ → Content
+content_of owners grants made = record { owners = owners; in_force = grants; made = made }
+
+pub list_any-standing : (q : Grant → Bool) (made : List Made) → list_any q (standing made) ≡ list_any (λ m. m.stands && q m.grant) made
+list_any-standing q [] = refl
+list_any-standing q (m ∷ ms) =
+    elim m.stands as (λ b. list_any q (grants_in (cond b (m ∷ filter (λ n. n.stands) ms) (filter (λ n. n.stands) ms))) ≡ ((b && q m.grant) || list_any (λ n. n.stands && q n.grant) ms)) [
+      | true ↦ ap (λ b. q m.grant || b) (list_any-standing q ms)
+      | false ↦ list_any-standing q ms
+    ]
+
+pub count_by-standing : (q : Grant → Bool) (made : List Made) → count_by q (standing made) ≡ count_by (λ m. m.stands && q m.grant) made
+count_by-standing q [] = refl
+count_by-standing q (m ∷ ms) =
+    let one : Made → ℕ = λ n. cond (n.stands && q n.grant) 1 0 in
+    let counted : Grant → ℕ = λ g. cond (q g) 1 0 in
+    let rest : count_by q (standing ms) ≡ sum_by one ms = count_by-standing q ms in
+    let more : count_by q (standing (m ∷ ms)) ≡ cond (m.stands && q m.grant) 1 0 + sum_by one ms =
+    elim m.stands as (λ b. count_by q (grants_in (cond b (m ∷ filter (λ n. n.stands) ms) (filter (λ n. n.stands) ms))) ≡ cond (b && q m.grant) 1 0 + sum_by one ms) [
+      | true ↦ sum_by-cons counted m.grant (standing ms) ∙ ap (λ n. cond (q m.grant) 1 0 + n) rest
+      | false ↦ rest ∙ sym (zero-add (sum_by one ms))
+    ] in
+    more ∙ sym (sum_by-cons one m ms)
+
+grants_in-append : (xs ys : List Made) → grants_in (xs ++ ys) ≡ grants_in xs ++ grants_in ys
+grants_in-append [] ys = refl
+grants_in-append (x ∷ xs) ys = ap (λ k. x.grant ∷ k) (grants_in-append xs ys)
+
+pub standing-append : (xs ys : List Made) → standing (xs ++ ys) ≡ standing xs ++ standing ys
+standing-append xs ys = ap grants_in (filter-append (λ m. m.stands) xs ys) ∙ grants_in-append (filter (λ m. m.stands) xs) (filter (λ m. m.stands) ys)
+
+pub unstruck-append : (xs ys : List Made) → unstruck (xs ++ ys) ≡ unstruck xs ++ unstruck ys
+unstruck-append xs ys = ap grants_in (filter-append (λ m. not m.struck) xs ys) ∙ grants_in-append (filter (λ m. not m.struck) xs) (filter (λ m. not m.struck) ys)
+
+-- to say that a grant stands strikes none
+pub unstruck-set : (made : List Made) (i : ℕ) (d : Made) (b : Bool) → i < length made → unstruck (set made i (record (get_or made i d) { stands = b })) ≡ unstruck made
+unstruck-set [] i d b h = absurd (omega arith)
+unstruck-set (m ∷ ms) zero d b h = elim m.struck as (λ s. grants_in (cond (not s) (record m { stands = b } ∷ filter (λ n. not n.struck) ms) (filter (λ n. not n.struck) ms)) ≡ grants_in (cond (not s) (m ∷ filter (λ n. not n.struck) ms) (filter (λ n. not n.struck) ms))) [ true ↦ refl | false ↦ refl ]
+unstruck-set (m ∷ ms) (suc i) d b h =
+    let after : List Made = set ms i (record (get_or ms i d) { stands = b }) in
+    let rest : unstruck after ≡ unstruck ms = unstruck-set ms i d b (omega arith) in
+    elim m.struck as (λ s. grants_in (cond (not s) (m ∷ filter (λ n. not n.struck) after) (filter (λ n. not n.struck) after)) ≡ grants_in (cond (not s) (m ∷ filter (λ n. not n.struck) ms) (filter (λ n. not n.struck) ms))) [ true ↦ rest | false ↦ ap (λ k. m.grant ∷ k) rest ]
+
+-- one more grant that stands as it should
+pub refolded_one : (o : List Ownership) (before : List Made) (m : Made) → standing before ≡ valid o (unstruck before) → m.stands ≡ (not m.struck && is_supported o (standing before) m.grant) → standing (before ++ m ∷ []) ≡ valid o (unstruck (before ++ m ∷ []))
+refolded_one o before m h is =
+    let s : List Grant = standing before in
+    let one : standing (before ++ m ∷ []) ≡ s ++ grants_in (cond m.stands (m ∷ []) []) = standing-append before (m ∷ []) in
+    let two : unstruck (before ++ m ∷ []) ≡ unstruck before ++ grants_in (cond (not m.struck) (m ∷ []) []) = unstruck-append before (m ∷ []) in
+    let same : s ++ grants_in (cond (not m.struck && is_supported o s m.grant) (m ∷ []) []) ≡ valid o (unstruck before ++ grants_in (cond (not m.struck) (m ∷ []) [])) =
+    elim m.struck as (λ b. s ++ grants_in (cond (not b && is_supported o s m.grant) (m ∷ []) []) ≡ valid o (unstruck before ++ grants_in (cond (not b) (m ∷ []) []))) [
+      | true ↦ append-nil s ∙ h ∙ ap (valid o) (sym (append-nil (unstruck before)))
+      | false ↦
+          (elim (is_supported o s m.grant) as (λ b. s ++ grants_in (cond b (m ∷ []) []) ≡ cond b (s ++ m.grant ∷ []) s) [ true ↦ refl | false ↦ append-nil s ])
+          ∙ ap (λ v. kept_with o v m.grant) h ∙ sym (valid-push o (unstruck before) m.grant)
+    ] in
+    one ∙ ap (λ b. s ++ grants_in (cond b (m ∷ []) [])) is ∙ same ∙ ap (valid o) (sym two)
+
+-- a grant after a revocation
+abbrev pub struck_by : User → List Atom → List User → Made → Made
+struck_by by atoms whom m = record m { struck = m.struck || names by atoms whom m.grant; stands = m.stands && not (names by atoms whom m.grant) }
+
+pub unstruck-struck_by : (by : User) (atoms : List Atom) (whom : List User) (made : List Made) → unstruck (map (struck_by by atoms whom) made) ≡ without by atoms whom (unstruck made)
+unstruck-struck_by by atoms whom [] = refl
+unstruck-struck_by by atoms whom (m ∷ ms) =
+    let is_left : Made → Bool = λ x. not x.struck in
+    let left : List Made = filter is_left (map (struck_by by atoms whom) ms) in
+    let w : List Grant = without by atoms whom (unstruck ms) in
+    let rest : grants_in left ≡ w = unstruck-struck_by by atoms whom ms in
+    let after : Bool → Bool → Made = λ s n. record { grant = m.grant; struck = s || n; stands = m.stands && not n } in
+    elim m.struck as (λ s. grants_in (cond (not (s || names by atoms whom m.grant)) (after s (names by atoms whom m.grant) ∷ left) left) ≡ without by atoms whom (grants_in (cond (not s) (m ∷ filter is_left ms) (filter is_left ms)))) [
+      | true ↦ rest
+      | false ↦ elim (names by atoms whom m.grant) as (λ n. grants_in (cond (not n) (after false n ∷ left) left) ≡ cond (not n) (m.grant ∷ w) w) [ true ↦ rest | false ↦ ap (λ k. m.grant ∷ k) rest ]
+    ]
+
+pub standing-struck_by : (by : User) (atoms : List Atom) (whom : List User) (made : List Made) → standing (map (struck_by by atoms whom) made) ≡ without by atoms whom (standing made)
+standing-struck_by by atoms whom [] = refl
+standing-struck_by by atoms whom (m ∷ ms) =
+    let stands : Made → Bool = λ x. x.stands in
+    let left : List Made = filter stands (map (struck_by by atoms whom) ms) in
+    let w : List Grant = without by atoms whom (standing ms) in
+    let rest : grants_in left ≡ w = standing-struck_by by atoms whom ms in
+    let after : Bool → Bool → Made = λ s n. record { grant = m.grant; struck = m.struck || n; stands = s && not n } in
+    elim m.stands as (λ s. grants_in (cond (s && not (names by atoms whom m.grant)) (after s (names by atoms whom m.grant) ∷ left) left) ≡ without by atoms whom (grants_in (cond s (m ∷ filter stands ms) (filter stands ms)))) [
+      | false ↦ rest
+      | true ↦ elim (names by atoms whom m.grant) as (λ n. grants_in (cond (not n) (after true n ∷ left) left) ≡ cond (not n) (m.grant ∷ w) w) [ true ↦ rest | false ↦ ap (λ k. m.grant ∷ k) rest ]
+    ]
+
+pub unstruck-newly : (gs : List Grant) → unstruck (map newly gs) ≡ gs
+unstruck-newly [] = refl
+unstruck-newly (g ∷ gs) = ap (λ k. g ∷ k) (unstruck-newly gs)
+
+pub standing-newly : (gs : List Grant) → standing (map newly gs) ≡ gs
+standing-newly [] = refl
+standing-newly (g ∷ gs) = ap (λ k. g ∷ k) (standing-newly gs)
+
+pub unstruck-added : (made : List Made) (gs : List Grant) → unstruck (made ++ map newly gs) ≡ unstruck made ++ gs
+unstruck-added made gs = unstruck-append made (map newly gs) ∙ ap (λ k. unstruck made ++ k) (unstruck-newly gs)
+
+pub standing-added : (made : List Made) (gs : List Grant) → standing (made ++ map newly gs) ≡ standing made ++ gs
+standing-added made gs = standing-append made (map newly gs) ∙ ap (λ k. standing made ++ k) (standing-newly gs)
+
+pub length-added : (made : List Made) (n : ℕ) (at : Moment) (by : User) (atoms : List Atom) (whom : List User) (option : Bool) → length (made ++ map newly (singles n at by atoms whom option)) ≡ length made + length atoms * length whom
+length-added made n at by atoms whom option =
+    length-append made (map newly (singles n at by atoms whom option)) ∙ ap (λ k. length made + k) (length-map (singles n at by atoms whom option) newly ∙ length-singles n at by atoms whom option)
+
+-- each change leaves what a replay gives
+pub IsReplayed-with_owner : (table : Name) (owner : User) (os : List Ownership) (made : List Made) → was_granted os table ≡ false → IsReplayed os made → IsReplayed (with_owner table owner os) made
+IsReplayed-with_owner table owner os made fresh h = record {
+  valid_stand = h.valid_stand ∙ sym (valid-owners os (with_owner table owner os) (unstruck made) (alike-with_owner table owner os (unstruck made) fresh h.marked));
+  marked = AreMarked-with_owner table owner os (unstruck made) h.marked;
+}
+
+pub IsReplayed-added : (os : List Ownership) (made : List Made) (first : ℕ) (at : Moment) (by : User) (atoms : List Atom) (whom : List User) (option : Bool) → IsReplayed os made → All (λ atom. may_grant os (standing made) by atom ≡ true) atoms → All (λ g. g.moment.0 < at.0) (standing made) → IsReplayed (with_granted atoms os) (made ++ map newly (singles first at by atoms whom option))
+IsReplayed-added os made first at by atoms whom option h may later =
+    let gs : List Grant = singles first at by atoms whom option in
+    let marks : List Ownership = with_granted atoms os in
+    let may_each : AllByRecursion (λ atom. may_grant os (standing made) by atom ≡ true) atoms = recursion_from_All (λ atom. may_grant os (standing made) by atom ≡ true) atoms may in
+    let later_each : AllByRecursion (λ g. g.moment.0 < at.0) (standing made) = recursion_from_All (λ g. g.moment.0 < at.0) (standing made) later in
+    let supported : AreSupported os (standing made) gs = singles-supported os (standing made) first at by atoms whom option may_each later_each in
+    let P : List Grant → Type 0 = λ v. AreSupported os v gs in
+    let all_valid : valid os (unstruck made ++ gs) ≡ standing made ++ gs = valid-append os (unstruck made) gs (subst P h.valid_stand supported) ∙ ap (λ v. v ++ gs) (sym h.valid_stand) in
+    let Marked : List Grant → Type 0 = λ k. AreMarked marks k in
+    let S : List Grant → Type 0 = λ v. AreMarked os v in
+    record {
+      valid_stand = standing-added made gs ∙ sym all_valid ∙ sym (valid-owners os marks (unstruck made ++ gs) (alike-with_granted atoms os (unstruck made ++ gs))) ∙ ap (valid marks) (sym (unstruck-added made gs));
+      marked = subst Marked (sym (unstruck-added made gs)) (AllByRecursion-append (λ g. was_granted marks g.atom.table ≡ true) (unstruck made) gs
+          (AreMarked-with_granted atoms os (unstruck made) h.marked)
+          (singles-marked os (standing made) first at by atoms whom option (subst S (sym h.valid_stand) (All-valid (λ g. was_granted os g.atom.table ≡ true) os (unstruck made) h.marked)) may_each));
+    }
+
+-- a revocation: what is struck, and what a refold then lets stand
+pub IsReplayed-struck : (os : List Ownership) (before after : List Made) (by : User) (atoms : List Atom) (whom : List User) → IsReplayed os before → unstruck after ≡ without by atoms whom (unstruck before) → standing after ≡ valid os (unstruck after) → IsReplayed os after
+IsReplayed-struck os before after by atoms whom h left stand =
+    let P : List Grant → Type 0 = λ v. AreMarked os v in
+    record {
+      valid_stand = stand;
+      marked = subst P (sym left) (All-filtered (λ g. was_granted os g.atom.table ≡ true) (λ g. not (names by atoms whom g)) (unstruck before) h.marked);
+    }
+
+pub standing-struck : (os : List Ownership) (before : List Made) (by : User) (atoms : List Atom) (whom : List User) → IsReplayed os before → valid os (without by atoms whom (unstruck before)) ≡ valid os (without by atoms whom (standing before))
+standing-struck os before by atoms whom h =
+    sym (valid-filter_valid os (λ g. not (names by atoms whom g)) (unstruck before)) ∙ ap (λ v. valid os (without by atoms whom v)) (sym h.valid_stand)
+
+pub same_content : (os ps : List Ownership) (gs hs : List Grant) (n m : ℕ) → os ≡ ps → gs ≡ hs → n ≡ m → content_of os gs n ≡ content_of ps hs m
+same_content os ps gs hs n m e f g = cc

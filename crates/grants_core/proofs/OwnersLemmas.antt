@@ -1,0 +1,204 @@
+-- What a change of the owners leaves.
+use Rattle.std.proofs.Common.{◌≡◌, ℕ, ◌+◌, ◌<◌, ◌≤◌, Bool, true, false, ◌||◌, ◌&&◌, cond, subst, List, [], ◌∷◌, ◌++◌, Option, Some, None, length, take, drop, get_or, set, refl, sym, ap, ◌∙◌, arith, ⊎_elim, suc, ltb, drop-cons}
+use Rattle.std.specs.List.{AllByRecursion, list_any, fold, find, position, position_or_len}
+use Rattle.std.specs.Option.{option_map}
+use Rattle.std.proofs.lemmas.Bool.{and_parts, or_cases, or_left, or_right, and_from, cases_Bool, both_ways, cases_lt, lt-ltb, cond-true, cond-false, false≢true, false_from_ne_true}
+use Rattle.std.proofs.lemmas.List.{take-append-drop, set_split, length-take, get_or-take, get_or_default}
+use Rattle.std.proofs.lemmas.List.Elements.{recursion_from_All}
+use Rattle.std.proofs.lemmas.List.Sums.{fails_before_first}
+use Rattle.std.proofs.lemmas.List.Quantifiers.{position-Some}
+use Rattle.base_core.specs.declared.name.Name.{Name}
+use Rattle.base_core.specs.declared.name.User.{User}
+use Rattle.base_core.specs.declared.privilege.Atom.{Atom}
+use Rattle.base_core.specs.declared.value.Moment.{Moment}
+use Rattle.base_core.specs.Words.{same_name}
+use Rattle.base_core.specs.Users.{same_user}
+use Rattle.grants_core.specs.Same.{same_atom}
+use Rattle.grants_core.specs.Owners.{owner_of, owns, was_granted, with_owner, marked, with_granted}
+use Rattle.grants_core.specs.Valid.{is_supported, supports, kept_with, valid, AreSupported}
+use Rattle.grants_core.specs.Content.{gives, may_grant, to_each, singles}
+use Rattle.grants_core.specs.Made.{AreMarked}
+use Rattle.grants_core.proofs.SameLemmas.{same_name-true}
+use Rattle.grants_core.specs.declared.grant.Grant.{Grant}
+use Rattle.grants_core.specs.declared.grant.Ownership.{Ownership}
+
+-- `position` finds none where none passes
+pub none_from_position : {A : Type 0} (p : A → Bool) (xs : List A) → position p xs ≡ None → AllByRecursion (λ g. p g ≡ false) xs
+none_from_position p xs h =
+    let far : length xs ≤ position_or_len p xs =
+    ⊎_elim (λ (near : position_or_len p xs < length xs).
+    let some : position p xs ≡ Some (position_or_len p xs) = cond-true _ _ _ (lt-ltb _ _ near) in
+    let no : ⊥ = cc in absurd no)
+    (λ (le : length xs ≤ position_or_len p xs). le)
+    (cases_lt (position_or_len p xs) (length xs)) in
+    recursion_from_All (λ g. p g ≡ false) xs (λ k d lt. let near : k < position_or_len p xs = omega arith in fails_before_first p xs k d near)
+
+pub with_owner-none : (table : Name) (user : User) (os : List Ownership) → AllByRecursion (λ o. same_name o.table table ≡ false) os → with_owner table user os ≡ os ++ record { table = table; owner = user; granted = false } ∷ []
+with_owner-none table user [] h = refl
+with_owner-none table user (o ∷ os) h =
+    cond-false (same_name o.table table) _ _ h.0 ∙ ap (λ k. o ∷ k) (with_owner-none table user os h.1)
+
+with_owner-past : (table : Name) (user : User) (before : List Ownership) (o : Ownership) (after : List Ownership) → AllByRecursion (λ p. same_name p.table table ≡ false) before → same_name o.table table ≡ true → with_owner table user (before ++ o ∷ after) ≡ before ++ record o { owner = user } ∷ after
+with_owner-past table user [] o after h here = cond-true (same_name o.table table) _ _ here
+with_owner-past table user (p ∷ ps) o after h here =
+    cond-false (same_name p.table table) _ _ h.0 ∙ ap (λ k. p ∷ k) (with_owner-past table user ps o after h.1 here)
+
+pub with_owner-at : (table : Name) (user : User) (os : List Ownership) (i : ℕ) (d : Ownership) → position (λ o. same_name o.table table) os ≡ Some i → set os i (record (get_or os i d) { owner = user }) ≡ with_owner table user os
+with_owner-at table user os i d found =
+    let p : Ownership → Bool = λ o. same_name o.table table in
+    let at = position-Some p os i d found in
+    let before : List Ownership = take i os in
+    let split : os ≡ before ++ get_or os i d ∷ drop (suc i) os = sym (take-append-drop i os) ∙ ap (λ k. take i os ++ k) (drop-cons os i d at.0) in
+    let none : AllByRecursion (λ o. p o ≡ false) before = recursion_from_All (λ o. p o ≡ false) before (λ k e lt. let near : k < i = omega (arith, length-take i os) in let far : k < length os = omega arith in rw (get_or-take i os k e near) (rw (get_or_default os k e d far) (at.2 k near))) in
+    let within : i < length os = at.0 in
+    rw (set_split os i (record (get_or os i d) { owner = user })) (sym (ap (with_owner table user) split ∙ with_owner-past table user before (get_or os i d) (drop (suc i) os) none at.1))
+
+pub owner_of-cons : (o : Ownership) (os : List Ownership) (t : Name) → owner_of (o ∷ os) t ≡ cond (same_name o.table t) (Some o.owner) (owner_of os t)
+owner_of-cons o os t = elim (same_name o.table t) as (λ b. option_map (λ (p : Ownership). p.owner) (cond b (Some o) (find (λ p. same_name p.table t) os)) ≡ cond b (Some o.owner) (owner_of os t)) [ true ↦ refl | false ↦ refl ]
+
+-- another table keeps its owner
+pub owner_of-with_owner : (table : Name) (user : User) (os : List Ownership) (t : Name) → same_name table t ≡ false → owner_of (with_owner table user os) t ≡ owner_of os t
+owner_of-with_owner table user [] t other =
+    owner_of-cons (record { table = table; owner = user; granted = false }) [] t ∙ cond-false (same_name table t) _ _ other
+owner_of-with_owner table user (o ∷ os) t other =
+    ⊎_elim
+    (λ (here : same_name o.table table ≡ true).
+    let P : Name → Type 0 = λ n. same_name n t ≡ false in
+    let not_t : same_name o.table t ≡ false = subst P (sym (same_name-true o.table table here)) other in
+    ap (λ k. owner_of k t) (cond-true (same_name o.table table) (record o { owner = user } ∷ os) (o ∷ with_owner table user os) here)
+    ∙ owner_of-cons (record o { owner = user }) os t ∙ cond-false (same_name o.table t) (Some user) _ not_t
+    ∙ sym (owner_of-cons o os t ∙ cond-false (same_name o.table t) (Some o.owner) _ not_t))
+    (λ (there : same_name o.table table ≡ false).
+    ap (λ k. owner_of k t) (cond-false (same_name o.table table) (record o { owner = user } ∷ os) (o ∷ with_owner table user os) there)
+    ∙ owner_of-cons o (with_owner table user os) t
+    ∙ ap (cond (same_name o.table t) (Some o.owner)) (owner_of-with_owner table user os t other)
+    ∙ sym (owner_of-cons o os t))
+    (cases_Bool (same_name o.table table))
+
+pub owns-with_owner : (table : Name) (owner : User) (os : List Ownership) (user : User) (atom : Atom) → same_name table atom.table ≡ false → owns (with_owner table owner os) user atom ≡ owns os user atom
+unfolding owns
+owns-with_owner table owner os user atom other =
+    ap (λ (k : Option User). elim k as (λ _. Bool) [ Some o ↦ same_user o user | None ↦ false ]) (owner_of-with_owner table owner os atom.table other)
+
+-- no table gains or loses its mark
+pub was_granted-with_owner : (table : Name) (user : User) (os : List Ownership) (t : Name) → was_granted (with_owner table user os) t ≡ was_granted os t
+was_granted-with_owner table user [] t = refl
+was_granted-with_owner table user (o ∷ os) t =
+    elim (same_name o.table table) as (λ b. was_granted (cond b (record o { owner = user } ∷ os) (o ∷ with_owner table user os)) t ≡ was_granted (o ∷ os) t) [
+      | true ↦ refl
+      | false ↦ ap (λ k. (o.granted && same_name o.table t) || k) (was_granted-with_owner table user os t)
+    ]
+
+pub owner_of-marked : (atoms : List Atom) (os : List Ownership) (t : Name) → owner_of (with_granted atoms os) t ≡ owner_of os t
+owner_of-marked atoms [] t = refl
+owner_of-marked atoms (o ∷ os) t =
+    owner_of-cons (marked atoms o) (with_granted atoms os) t ∙ ap (cond (same_name o.table t) (Some o.owner)) (owner_of-marked atoms os t) ∙ sym (owner_of-cons o os t)
+
+pub owns-with_granted : (atoms : List Atom) (os : List Ownership) (user : User) (atom : Atom) → owns (with_granted atoms os) user atom ≡ owns os user atom
+unfolding owns
+owns-with_granted atoms os user atom =
+    ap (λ (k : Option User). elim k as (λ _. Bool) [ Some o ↦ same_user o user | None ↦ false ]) (owner_of-marked atoms os atom.table)
+
+-- a mark stays
+pub was_granted-with_granted : (atoms : List Atom) (os : List Ownership) (t : Name) → was_granted os t ≡ true → was_granted (with_granted atoms os) t ≡ true
+was_granted-with_granted atoms [] t h = h
+was_granted-with_granted atoms (o ∷ os) t h =
+    ⊎_elim
+    (λ (here : (o.granted && same_name o.table t) ≡ true).
+    let parts = and_parts o.granted (same_name o.table t) here in
+    let meant : Bool = list_any (λ a. same_name a.table o.table) atoms in
+    or_left ((o.granted || meant) && same_name o.table t) _ (and_from (o.granted || meant) (same_name o.table t) (or_left o.granted meant parts.0) parts.1))
+    (λ (there : was_granted os t ≡ true). or_right _ _ (was_granted-with_granted atoms os t there))
+    (or_cases _ _ h)
+
+-- an owned table gets its mark
+pub was_granted-owned : (atoms : List Atom) (os : List Ownership) (user : User) (atom : Atom) → owns os user atom ≡ true → list_any (λ a. same_name a.table atom.table) atoms ≡ true → was_granted (with_granted atoms os) atom.table ≡ true
+unfolding owns
+was_granted-owned atoms [] user atom h meant = absurd (false≢true h)
+was_granted-owned atoms (o ∷ os) user atom h meant =
+    let own : Option User → Bool = λ (k : Option User). elim k as (λ _. Bool) [ Some p ↦ same_user p user | None ↦ false ] in
+    let more : Bool = list_any (λ a. same_name a.table o.table) atoms in
+    ⊎_elim
+    (λ (here : same_name o.table atom.table ≡ true).
+    let P : Name → Type 0 = λ n. list_any (λ a. same_name a.table n) atoms ≡ true in
+    let marks : more ≡ true = subst P (sym (same_name-true o.table atom.table here)) meant in
+    or_left ((o.granted || more) && same_name o.table atom.table) _ (and_from (o.granted || more) (same_name o.table atom.table) (or_right o.granted more marks) here))
+    (λ (there : same_name o.table atom.table ≡ false).
+    let rest : owner_of (o ∷ os) atom.table ≡ owner_of os atom.table = owner_of-cons o os atom.table ∙ cond-false _ _ _ there in
+    or_right ((o.granted || more) && same_name o.table atom.table) _ (was_granted-owned atoms os user atom (sym (ap own rest) ∙ h) meant))
+    (cases_Bool (same_name o.table atom.table))
+
+-- the same grants are valid under owners who own alike
+valid_alike : (o p : List Ownership) (kept grants : List Grant) → AllByRecursion (λ g. owns p g.grantor g.atom ≡ owns o g.grantor g.atom) grants → fold (kept_with p) kept grants ≡ fold (kept_with o) kept grants
+valid_alike o p kept [] h = refl
+valid_alike o p kept (g ∷ gs) h =
+    ap (λ b. fold (kept_with p) (cond (b || list_any (λ k. supports k g) kept) (kept ++ g ∷ []) kept) gs) h.0 ∙ valid_alike o p (kept_with o kept g) gs h.1
+
+pub valid-owners : (o p : List Ownership) (grants : List Grant) → AllByRecursion (λ g. owns p g.grantor g.atom ≡ owns o g.grantor g.atom) grants → valid p grants ≡ valid o grants
+valid-owners o p grants h = valid_alike o p [] grants h
+
+pub AreSupported-owners : (o p : List Ownership) (all grants : List Grant) → AllByRecursion (λ g. owns p g.grantor g.atom ≡ owns o g.grantor g.atom) grants → AreSupported o all grants → AreSupported p all grants
+AreSupported-owners o p all [] h k = tt
+AreSupported-owners o p all (g ∷ gs) h k = (ap (λ b. b || list_any (λ e. supports e g) all) h.0 ∙ k.0, AreSupported-owners o p all gs h.1 k.1)
+
+-- a new owner of a table without grants owns none of what was granted
+pub alike-with_owner : (table : Name) (owner : User) (os : List Ownership) (grants : List Grant) → was_granted os table ≡ false → AreMarked os grants → AllByRecursion (λ g. owns (with_owner table owner os) g.grantor g.atom ≡ owns os g.grantor g.atom) grants
+alike-with_owner table owner os [] fresh h = tt
+alike-with_owner table owner os (g ∷ gs) fresh h = (
+  owns-with_owner table owner os g.grantor g.atom (false_from_ne_true _ (λ same.
+      let P : Name → Type 0 = λ n. was_granted os n ≡ true in
+      both_ways _ fresh (subst P (sym (same_name-true table g.atom.table same)) h.0))),
+  alike-with_owner table owner os gs fresh h.1,
+)
+
+pub alike-with_granted : (atoms : List Atom) (os : List Ownership) (grants : List Grant) → AllByRecursion (λ g. owns (with_granted atoms os) g.grantor g.atom ≡ owns os g.grantor g.atom) grants
+alike-with_granted atoms os [] = tt
+alike-with_granted atoms os (g ∷ gs) = (owns-with_granted atoms os g.grantor g.atom, alike-with_granted atoms os gs)
+
+pub AreMarked-with_owner : (table : Name) (owner : User) (os : List Ownership) (grants : List Grant) → AreMarked os grants → AreMarked (with_owner table owner os) grants
+AreMarked-with_owner table owner os [] h = tt
+AreMarked-with_owner table owner os (g ∷ gs) h = (was_granted-with_owner table owner os g.atom.table ∙ h.0, AreMarked-with_owner table owner os gs h.1)
+
+pub AreMarked-with_granted : (atoms : List Atom) (os : List Ownership) (grants : List Grant) → AreMarked os grants → AreMarked (with_granted atoms os) grants
+AreMarked-with_granted atoms os [] h = tt
+AreMarked-with_granted atoms os (g ∷ gs) h = (was_granted-with_granted atoms os g.atom.table h.0, AreMarked-with_granted atoms os gs h.1)
+
+pub AllByRecursion-append : {A : Type 0} (P : A → Type 0) (xs ys : List A) → AllByRecursion P xs → AllByRecursion P ys → AllByRecursion P (xs ++ ys)
+AllByRecursion-append P [] ys h k = k
+AllByRecursion-append P (x ∷ xs) ys h k = (h.0, AllByRecursion-append P xs ys h.1 k)
+
+to_each-all : (P : Grant → Type 0) (n : ℕ) (at : Moment) (by : User) (atom : Atom) (whom : List User) (option : Bool) → ((g : Grant) → g.atom ≡ atom → g.grantor ≡ by → g.moment ≡ at → P g) → AllByRecursion P (to_each n at by atom whom option)
+to_each-all P n at by atom [] option f = tt
+to_each-all P n at by atom (u ∷ us) option f = (f _ refl refl refl, to_each-all P (n + 1) at by atom us option f)
+
+-- what holds of each grant of one of the atoms, by that user and at that moment, holds of the single grants
+pub singles-all : (P : Grant → Type 0) (Q : Atom → Type 0) (n : ℕ) (at : Moment) (by : User) (atoms : List Atom) (whom : List User) (option : Bool) → ((g : Grant) → Q g.atom → g.grantor ≡ by → g.moment ≡ at → P g) → AllByRecursion Q atoms → AllByRecursion P (singles n at by atoms whom option)
+singles-all P Q n at by [] whom option f h = tt
+singles-all P Q n at by (a ∷ more) whom option f h =
+    AllByRecursion-append P (to_each n at by a whom option) (singles (n + length whom) at by more whom option)
+    (to_each-all P n at by a whom option (λ g of_atom by_user made. let R : Atom → Type 0 = λ b. Q b in f g (subst R (sym of_atom) h.0) by_user made))
+    (singles-all P Q (n + length whom) at by more whom option f h.1)
+
+-- a grant to him with the option supports what he makes later
+supports-from_gives : (e g : Grant) → e.moment.0 < g.moment.0 → (e.option && gives g.grantor g.atom e) ≡ true → supports e g ≡ true
+unfolding gives supports
+supports-from_gives e g later h =
+    let of_atom : Bool = same_atom e.atom g.atom in
+    let to_him : Bool = same_user e.grantee g.grantor in
+    let parts = and_parts e.option (of_atom && to_him) h in
+    let same = and_parts of_atom to_him parts.1 in
+    and_from (e.option && of_atom && to_him) (ltb e.moment.0 g.moment.0) (and_from (e.option && of_atom) to_him (and_from e.option of_atom parts.0 same.0) same.1) (lt-ltb _ _ later)
+
+list_any_supports : (grants : List Grant) (g : Grant) → AllByRecursion (λ h. h.moment.0 < g.moment.0) grants → list_any (λ h. h.option && gives g.grantor g.atom h) grants ≡ true → list_any (λ h. supports h g) grants ≡ true
+list_any_supports [] g later h = h
+list_any_supports (e ∷ es) g later h =
+    ⊎_elim
+    (λ (here : (e.option && gives g.grantor g.atom e) ≡ true). or_left (supports e g) (list_any (λ k. supports k g) es) (supports-from_gives e g later.0 here))
+    (λ (there : list_any (λ k. k.option && gives g.grantor g.atom k) es ≡ true). or_right (supports e g) _ (list_any_supports es g later.1 there))
+    (or_cases _ _ h)
+
+pub supported-from_may : (o : List Ownership) (grants : List Grant) (g : Grant) → AllByRecursion (λ h. h.moment.0 < g.moment.0) grants → may_grant o grants g.grantor g.atom ≡ true → is_supported o grants g ≡ true
+supported-from_may o grants g later h =
+    ⊎_elim (λ (own : owns o g.grantor g.atom ≡ true). or_left _ _ own)
+    (λ (by : list_any (λ k. k.option && gives g.grantor g.atom k) grants ≡ true). or_right (owns o g.grantor g.atom) _ (list_any_supports grants g later by))
+    (or_cases _ _ h)
