@@ -165,3 +165,21 @@ denied @2: o granted no UPDATE(x) on t to v\ndenied @2: o granted no UPDATE(n) o
     )?;
     Ok(())
 }
+
+/// The first lack in the order of a statement's checks is answered.
+#[test]
+fn order_of_lacks(rt: HostRuntime) -> Result<(), Fail> {
+    let _ = answered(
+        &rt,
+        rt.alloc(),
+        b"ann: CREATE TABLE pay (name TEXT, wage INTEGER)\n\
+ann: GRANT UPDATE (wage) ON pay TO bob\nbob: UPDATE pay SET name = 'x', wage = 'y'\n\
+bob: UPDATE pay SET wage = 'y'\nbob: UPDATE pay SET wage = 1\n\
+ann: INSERT INTO pay VALUES ('x')\nann: SELECT age FROM pay\n\
+ann: CREATE TABLE pay (x TEXT)\nbob: SELECT * FROM pax\n",
+        b"done @1\ndone @2\ndenied @2: bob lacks UPDATE(name) on pay\n\
+refused @2: column wage takes INTEGER\ndone @3\nrefused @3: 1 values for 2 columns\n\
+denied @3: no column age in pay\ndenied @3: table pay exists\ndenied @3: no table pax\n",
+    )?;
+    Ok(())
+}

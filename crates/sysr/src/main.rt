@@ -18,6 +18,7 @@ mod tests;
 use base_core::{StdSink, StdSource};
 use command_line::{CommandLine, options};
 use std::io::BufWriter;
+use std::mem::forget;
 use std::process::ExitCode;
 use std::{env, io};
 use system_core::{SessionFault, script};
@@ -61,7 +62,12 @@ fn run(rt: &HostRuntime, chunk: usize) -> ExitCode
     let mut reader = StdSource::new(rt.stdin());
     let mut writer = StdSink::new(buffered);
     match script(rt.alloc(), &mut reader, &mut writer, chunk) {
-        Ok(_) => ExitCode::SUCCESS,
+        Ok(system) => {
+            // The process ends here, and its memory goes back as a whole: to take the rows apart one by
+            // one first would cost a tenth of the run.
+            forget(system);
+            ExitCode::SUCCESS
+        }
         Err(fault) => give_up(rt, fault_text(fault)),
     }
 }

@@ -19,12 +19,12 @@ use Rattle.grants_core.specs.declared.grant.Ownership.{Ownership}
 use Rattle.grants_core.specs.Owners.{owner_of, owns}
 use Rattle.grants_core.specs.Content.{Content, gives}
 use Rattle.grants_core.proofs.OwnersLemmas.{AllByRecursion-append}
-use Rattle.system_core.specs.Atoms.{of_table, to_update, atoms_of_one, atoms_of}
-use Rattle.system_core.specs.Verdict.{State, Check, verdict, first_lack, each, require, is_table, columns_of, atoms_at, names_listed, holds, may_grant, column_stands, column_takes, count_is_right, types_are_right, with_filter, room_for_change, room_for_grants, listed_columns_stand}
+use Rattle.monitor_core.specs.Atoms.{of_table, to_update, atoms_of_one, atoms_of}
+use Rattle.monitor_core.specs.Verdict.{State, Check, verdict, first_lack, each, require, is_table, columns_of, atoms_at, list_stands, holds, may_grant, column_stands, column_takes, count_is_right, types_are_right, with_filter, room_for_change, room_for_grants, listed_columns_stand}
 use Rattle.system_core.specs.Standing.{AgreeOn, Stands}
 use Rattle.system_core.specs.Journal.{contents, rights_at, verdict_at}
 use Rattle.system_core.specs.declared.event.Entry.{Entry}
-use Rattle.system_core.proofs.Passing.{guarded, each-alike}
+use Rattle.monitor_core.proofs.Passing.{guarded, each-alike}
 
 -- ---- the atoms of privileges on a table are of that table
 all_map : {A : Type 0} (table : Name) (f : A → Atom) (xs : List A) → ((x : A) → (f x).table ≡ table) → AllByRecursion (λ a. a.table ≡ table) (map f xs)
@@ -71,10 +71,10 @@ module _ (ts : List (Name × Contents)) (l : Limits) (m : ℕ) (c : Content) (os
   verdict-owners (statements.CreateTable table columns) h = refl
   verdict-owners (statements.Insert table values) h =
       guarded (is_table ts table) (lacks.NoTable table) _ _ (λ stands.
-      ap (λ x. first_lack (x ∷ count_is_right (by_owners ts l m c ps) table values ∷ types_are_right (columns_of ts table) values ∷ room_for_change (by_owners ts l m c ps) ∷ [])) (holds-alike (of_table table kinds.Insert) (h table stands)))
+      ap (λ x. first_lack (x ∷ count_is_right (by_owners ts l m c ps) table values ∷ types_are_right (by_owners ts l m c ps) table values ∷ room_for_change (by_owners ts l m c ps) ∷ [])) (holds-alike (of_table table kinds.Insert) (h table stands)))
   verdict-owners (statements.Select list table filter) h =
       guarded (is_table ts table) (lacks.NoTable table) _ _ (λ stands.
-      ap (λ x. first_lack (each (names_listed list) (column_stands (by_owners ts l m c ps) table) ∷ each filter (λ q. column_stands (by_owners ts l m c ps) table q.column) ∷ x ∷ each filter (λ q. column_takes (by_owners ts l m c ps) table q.column q.literal) ∷ [])) (holds-alike (of_table table kinds.Select) (h table stands)))
+      ap (λ x. first_lack (list_stands (by_owners ts l m c ps) table list ∷ each filter (λ q. column_stands (by_owners ts l m c ps) table q.column) ∷ x ∷ each filter (λ q. column_takes (by_owners ts l m c ps) table q.column q.literal) ∷ [])) (holds-alike (of_table table kinds.Select) (h table stands)))
   verdict-owners (statements.Delete table filter) h =
       let two : Check → Check → Check = λ x y. first_lack (each filter (λ q. column_stands (by_owners ts l m c ps) table q.column) ∷ x ∷ with_filter filter y ∷ each filter (λ q. column_takes (by_owners ts l m c ps) table q.column q.literal) ∷ room_for_change (by_owners ts l m c ps) ∷ []) in
       guarded (is_table ts table) (lacks.NoTable table) _ _ (λ stands.
@@ -95,7 +95,8 @@ module _ (ts : List (Name × Contents)) (l : Limits) (m : ℕ) (c : Content) (os
   verdict-owners (statements.Revoke asked table users) h = refl
   verdict-owners statements.Checkpoint h = refl
   verdict-owners statements.Checkpoints h = refl
-  verdict-owners (statements.Export number only) h = refl
+  verdict-owners (statements.Export number None) h = refl
+  verdict-owners (statements.Export number (Some table)) h = refl
 
 -- **the verdict by rights that agree on the tables is the same**
 pub verdict-agree : (ts : List (Name × Contents)) (l : Limits) (m : ℕ) (c d : Content) (user : User) (s : Statement) → AgreeOn ts c d → verdict (record { tables = ts; rights = c; limits = l; moment = m }) user s ≡ verdict (record { tables = ts; rights = d; limits = l; moment = m }) user s

@@ -20,7 +20,7 @@ use Rattle.grants_core.proofs.OwnersLemmas.{was_granted-with_owner, owner_of-wit
 use Rattle.grants_core.proofs.GrantLemmas.{All-filtered, All-implied}
 use Rattle.grants_core.proofs.HistoryLemmas.{granted_from-append}
 use Rattle.system_core.specs.declared.event.Entry.{Entry}
-use Rattle.system_core.specs.Verdict.{is_table}
+use Rattle.monitor_core.specs.Verdict.{is_table}
 use Rattle.system_core.specs.Journal.{tables_with, contents, change_of, changes_from, changes}
 use Rattle.system_core.specs.Carrying.{rights_after}
 use Rattle.system_core.specs.Standing.{AgreeOn}

@@ -28,11 +28,11 @@ use Rattle.grants_core.proofs.OwnersLemmas.{was_granted-with_owner, owner_of-wit
 use Rattle.grants_core.proofs.GrantLemmas.{All-filtered, All-implied, All-valid}
 use Rattle.grants_core.proofs.HistoryLemmas.{content-create, content-grant, content-revoke, content-other, unstruck-early}
 use Rattle.system_core.specs.declared.event.Entry.{Entry}
-use Rattle.system_core.specs.Verdict.{State, checks, verdict, table_stands, room_for_change, may_grant, is_table, columns_of, atoms_at}
-use Rattle.system_core.specs.Journal.{contents, tables_with, tables_after, change_of, changes, rights_at, state_of, verdict_at, is_change, IsLawfulFrom}
+use Rattle.monitor_core.specs.Verdict.{State, checks, verdict, table_stands, room_for_change, may_grant, is_table, columns_of, atoms_at, is_change}
+use Rattle.system_core.specs.Journal.{contents, tables_with, tables_after, change_of, changes, rights_at, state_of, verdict_at, IsLawfulFrom}
 use Rattle.system_core.specs.Carrying.{CanCarry, IsNarrow, Leaves, rights_after, most_grants}
 use Rattle.system_core.specs.Standing.{Stands, AgreeOn, inserted_of}
-use Rattle.system_core.proofs.Passing.{require-Ok, passed, not-some, some_is, each-Ok}
+use Rattle.monitor_core.proofs.Passing.{require-Ok, passed, not-some, some_is, each-Ok}
 use Rattle.system_core.proofs.TableLemmas.{IsNew, is_table-after, is_table-old, narrow-after, inserted-after}
 use Rattle.system_core.proofs.Agreeing.{atoms-table, All-atoms, verdict-agree}
 use Rattle.system_core.proofs.Growing.{On, OnTables, Grows, creates, changes-more, length-changes, never_granted, agree-after, granted_on}

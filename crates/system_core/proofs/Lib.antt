@@ -1,6 +1,3 @@
-pub mod Misfits
-pub mod Passing
-pub mod Checking
 pub mod TableLemmas
 pub mod Agreeing
 pub mod Growing

@@ -11,7 +11,7 @@ use Rattle.reader_core.specs.declared.statement.Statement.TheVariants as stateme
 use Rattle.tables_core.specs.Contents.{Contents, opened, with_row, deleted, updated, with_change, table_of}
 use Rattle.tables_core.proofs.ContentsLemmas.{table_of-with_change, table_of-append}
 use Rattle.grants_core.proofs.SameLemmas.{same_name-true}
-use Rattle.system_core.specs.Verdict.{is_table, columns_of}
+use Rattle.monitor_core.specs.Verdict.{is_table, columns_of}
 use Rattle.system_core.specs.Journal.{tables_after}
 use Rattle.system_core.specs.Carrying.{IsNarrow, most_columns}
 use Rattle.system_core.specs.Standing.{inserted_of}

@@ -10,7 +10,7 @@ use Rattle.grants_core.specs.declared.grant.Change.{Change}
 use Rattle.grants_core.specs.declared.grant.Change.TheVariants as change
 use Rattle.grants_core.specs.Owners.{was_granted}
 use Rattle.grants_core.specs.Content.{Content, may_grant, after_create, after_grant, after_revoke}
-use Rattle.system_core.specs.Verdict.{atoms_at, columns_of}
+use Rattle.monitor_core.specs.Verdict.{atoms_at, columns_of}
 
 -- the rights after a change, of which the moment before it is given
 abbrev pub rights_after : Content → ℕ → Change → Content

@@ -12,22 +12,14 @@ use Rattle.grants_core.specs.declared.grant.Change.TheVariants as change
 use Rattle.grants_core.specs.Content.{Content}
 use Rattle.grants_core.specs.History.{content_after}
 use Rattle.system_core.specs.declared.event.Entry.{Entry}
-use Rattle.system_core.specs.Verdict.{State, Check, verdict, atoms_at}
+use Rattle.monitor_core.specs.Verdict.{State, Check, verdict, atoms_at, is_change}
 
--- whether a statement is a change
-abbrev pub is_change : Statement → Bool
-is_change (statements.CreateTable table columns) = true
-is_change (statements.Insert table values) = true
-is_change (statements.Delete table filter) = true
-is_change (statements.Update table sets filter) = true
-is_change (statements.Grant privileges table users option) = true
-is_change (statements.Revoke privileges table users) = true
-is_change _ = false
-
--- whether a statement is carried out by now: no checkpoint is yet
+-- whether a statement is carried out by now: those about checkpoints are not yet
 abbrev pub is_served : Statement → Bool
-is_served (statements.Select list table filter) = true
-is_served asked = is_change asked
+is_served statements.Checkpoint = false
+is_served statements.Checkpoints = false
+is_served (statements.Export number only) = false
+is_served _ = true
 
 -- the tables after a change
 abbrev pub tables_after : List (Name × Contents) → User → Statement → List (Name × Contents)

@@ -1,5 +1,3 @@
-pub mod Atoms
-pub mod Verdict
 pub mod Journal
 pub mod World
 pub mod Carrying
@@ -14,6 +12,8 @@ pub use Rattle.base_core.specs.Values
 pub use Rattle.base_core.specs.Lacks
 pub use Rattle.base_core.specs.Streams
 pub use Rattle.tables_core.specs.Contents
+pub use Rattle.monitor_core.specs.Atoms
+pub use Rattle.monitor_core.specs.Verdict
 pub use Rattle.grants_core.specs.Content
 pub use Rattle.grants_core.specs.History
 pub use Rattle.reader_core.specs.Language

@@ -9,7 +9,7 @@ use Rattle.grants_core.specs.Owners.{owner_of, was_granted}
 use Rattle.grants_core.specs.Content.{Content}
 use Rattle.grants_core.specs.History.{granted}
 use Rattle.system_core.specs.declared.event.Entry.{Entry}
-use Rattle.system_core.specs.Verdict.{is_table, columns_of}
+use Rattle.monitor_core.specs.Verdict.{is_table, columns_of}
 use Rattle.system_core.specs.Journal.{contents, changes, rights_at, IsLawful}
 use Rattle.system_core.specs.Carrying.{most_columns, most_grants}
 

@@ -1,5 +1,6 @@
 -- Worlds, and the steps from one to the next.
 use Rattle.std.specs.Prelude.{ℕ, ◌≡◌, ◌+◌, true, List, [], ◌∷◌, ◌++◌, length, map, if◌then◌else◌, Ok, Err, Option, None, Some, option_map}
+use Rattle.std.specs.Option.{unwrap_or}
 use Rattle.base_core.specs.Lacks.{is_denial}
 use Rattle.base_core.specs.declared.name.User.{User}
 use Rattle.base_core.specs.declared.name.Name.{Name}
@@ -17,8 +18,8 @@ use Rattle.system_core.specs.declared.event.Event.{Event}
 use Rattle.system_core.specs.declared.event.Event.TheVariants as events
 use Rattle.system_core.specs.declared.event.Reply.{Reply}
 use Rattle.system_core.specs.declared.event.Reply.TheVariants as replies
-use Rattle.system_core.specs.Verdict.{Check, columns_of}
-use Rattle.system_core.specs.Journal.{contents, is_served, is_change, verdict_at}
+use Rattle.monitor_core.specs.Verdict.{Check, columns_of, is_change}
+use Rattle.system_core.specs.Journal.{contents, is_served, verdict_at}
 
 -- what a system stands for: its journal of accepted changes, its chunk, and its limits
 pub record World : Type 0 where
@@ -49,8 +50,7 @@ turned_away at lack = if is_denial lack then replies.Denied at lack else replies
 
 -- the columns that a query gives: those listed, or with no list all, in table order
 abbrev pub columns_given : List Column → Option (List Name) → List Name
-columns_given columns None = map (λ c. c.name) columns
-columns_given columns (Some names) = names
+columns_given columns list = unwrap_or list (map (λ c. c.name) columns)
 
 -- the rows that answer a query: those of the table that the filter chooses, cut to the columns given
 abbrev pub IsAnswer : List Entry → Statement → List Row → Type 0

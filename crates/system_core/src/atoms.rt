@@ -1,24 +1,11 @@
 //! The atoms that privileges on a table are.
 ghost use Rattle.std.specs.Prelude.{◌≡◌, ◌≤◌, ◌+◌, ◌∷◌, ◌++◌, [], length, map, OnOk, IfOk};
-ghost use Rattle.system_core.specs.Atoms.{of_table, to_update, atoms_of_one, atoms_of, columns_listed};
+ghost use Rattle.monitor_core.specs.Atoms.{of_table, to_update, atoms_of_one, atoms_of};
 ghost use Rattle.system_core.specs.Carrying.{most_columns};
 
 use base_core::{Atom, Column, Kind, Name, Named, NoMemory};
 use reader_core::{Privilege, Privileges};
 use std::alloc::Global;
-
-/// The columns that a privilege lists.
-pub fn columns_listed(privilege: &Privilege) -> &[Name]
-    ensures { result.now ≡ columns_listed privilege.now }
-{
-    match privilege {
-        Privilege::Select | Privilege::Insert | Privilege::Delete => &[],
-        Privilege::Update(list) => match list {
-            None => &[],
-            Some(names) => names.as_slice(),
-        },
-    }
-}
 
 // Appends the privilege to update each of the columns.
 fn push_updates<T: Named>(atoms: &mut Vec<Atom>, table: Name, items: &[T]) -> Result<(), NoMemory>

@@ -4,14 +4,14 @@ ghost use Rattle.tables_core.specs.Contents.{opened, with_row, deleted, updated,
 ghost use Rattle.grants_core.specs.Owners.{was_granted};
 ghost use Rattle.grants_core.specs.Content.{after_create, after_grant, after_revoke};
 ghost use Rattle.reader_core.specs.declared.statement.Statement.TheVariants as statements;
-ghost use Rattle.system_core.specs.Verdict.{columns_of, atoms_at};
+ghost use Rattle.monitor_core.specs.Verdict.{columns_of, atoms_at};
 ghost use Rattle.system_core.specs.Journal.{tables_after, change_of};
 ghost use Rattle.system_core.specs.Carrying.{CanCarry, CanGrant, IsNarrow, Leaves, most_columns, most_grants, rights_after};
 
 use crate::atoms::atoms_of;
-use crate::checks::columns_of;
 use base_core::{Column, Distinct, Moment, Name, NoMemory, Row, Sequence, User, twins_of};
 use grants_core::{Authority, Replay};
+use monitor_core::columns_of;
 use reader_core::{MAX_ITEMS, MAX_USERS, Privileges, Statement};
 use std::alloc::Global;
 use tables_core::Tables;

@@ -1,15 +1,15 @@
 //! The journal as changes of rights.
 ghost use Rattle.std.specs.Prelude.{◌≡◌, ◌≤◌, length, map, IfOk};
 ghost use Rattle.base_core.specs.declared.name.Name.{Name};
-ghost use Rattle.system_core.specs.Verdict.{columns_of, atoms_at};
+ghost use Rattle.monitor_core.specs.Verdict.{columns_of, atoms_at};
 ghost use Rattle.system_core.specs.Journal.{change_of};
 ghost use Rattle.system_core.specs.Carrying.{most_columns};
 
 use crate::atoms::atoms_of;
-use crate::checks::columns_of;
 use crate::event::Entry;
 use base_core::{Atom, Name, NoMemory, Sequence, User};
 use grants_core::Change;
+use monitor_core::columns_of;
 use reader_core::{Privileges, Statement};
 use std::alloc::Global;
 use tables_core::Tables;

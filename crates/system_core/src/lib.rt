@@ -9,10 +9,11 @@
 //! entry was allowed at the journal before it.
 //!
 //! [`System::step`] is the one contract: it is a step of the machine from the world that the system
-//! stands for to the one after. A user's statement has a verdict at the journal: a list of checks, of
-//! which the first that fails is the lack. What passes is carried out, and a change is entered; what
-//! does not is answered by its lack, as a denial or a refusal, and the world stays. Want of memory is
-//! a refusal too, and changes nothing. Of the language's ten statements seven are carried out by now
+//! stands for to the one after. A user's statement is judged at the journal, by the monitor's
+//! [`judge`](monitor_core::judge) and nothing else. What it allows is carried out, and a change is
+//! entered; else the first lack is the answer, as a denial or a refusal, and the world stays. Want of
+//! memory is a refusal too, and changes nothing; it never stands in place of a lack (a law of
+//! [`laws`]). Of the language's ten statements seven are carried out by now
 //! ([`is_served`]): CREATE TABLE, INSERT, SELECT, DELETE, UPDATE, GRANT and REVOKE. A step must not be
 //! asked another.
 //!
@@ -39,8 +40,8 @@
 //! TABLE sets the owner before it makes the table. Where the table then finds no memory, the owner of a
 //! name that is no table is left; no verdict reads it, and the next creation of that name sets another.
 //!
-//! Judging takes no memory: it goes over privileges, columns and users as they are written, and makes
-//! their list only to carry them out.
+//! Judging goes over privileges, columns and users as they are written, without memory. A list of the
+//! atoms that they are is made only to carry them out.
 //!
 //! The loop over lines is generic over what answers a line. Its contract says of any reader's pieces
 //! that the lines are those of the whole input: what is kept between two pieces is the front of the
@@ -58,10 +59,8 @@
 mod atoms;
 mod carry;
 mod change;
-mod checks;
-mod each;
 mod event;
-mod judging;
+pub mod laws;
 mod lines;
 mod record;
 mod rows;

@@ -3,21 +3,19 @@ ghost use Rattle.std.specs.Prelude.{◌≡◌, ◌+◌, ◌<◌, ◌≤◌, ◌+
 ghost use Rattle.std.specs.Vec.{vec_capacity};
 ghost use Rattle.base_core.specs.Full.{IsFull};
 ghost use Rattle.tables_core.specs.Contents.{selected, table_of};
-ghost use Rattle.system_core.specs.Verdict.{columns_of};
-ghost use Rattle.system_core.specs.Journal.{IsLawful, is_served, is_change, verdict_at, contents, changes};
+ghost use Rattle.monitor_core.specs.Verdict.{columns_of, is_change, allowed_by};
+ghost use Rattle.system_core.specs.Journal.{IsLawful, is_served, verdict_at, contents, changes};
 ghost use Rattle.grants_core.specs.History.{in_force_after};
 ghost use Rattle.system_core.specs.World.{opening, entry, moment_of, next_moment, entered, turned_away, columns_given, CarriesOut, Answers, IsServed, Step, Run, IsRunOfSome};
 
 use crate::carry::carry_out;
 use crate::change::changes_of;
-use crate::checks::columns_of;
 use crate::event::{Entry, Event, Reply};
-use crate::judging::Judge;
-use crate::served::is_change;
 use base_core::{
     Column, Condition, Distinct, Lack, Limits, Moment, Name, NoMemory, Row, Sequence, User,
 };
 use grants_core::{Authority, Change, Replay, audit};
+use monitor_core::{Allowed, columns_of, judge};
 use reader_core::{MAX_ITEMS, Statement};
 use std::alloc::{AllocError, Global};
 use std::marker::Model;
@@ -176,16 +174,12 @@ impl System {
         Ok(if same { Some(live.len()) } else { None })
     }
 
-    fn judged(&self, user: &User, statement: &Statement) -> Result<(), Lack>
-        ensures { result ≡ verdict_at self.now.limits self.now.journal user.now statement.now }
+    fn judged(&self, user: &User, statement: &Statement) -> Result<Allowed, Lack>
+        ensures { result ≡ allowed_by (verdict_at self.now.limits self.now.journal user.now statement.now) statement.now }
     {
-        let judge = Judge {
-            tables: &self.tables,
-            rights: &self.rights,
-            limits: &self.limits,
-            moment: Moment(count(&self.journal)),
-        };
-        judge.judge(user, statement)
+        let moment = Moment(count(&self.journal));
+        let (tables, rights) = (&self.tables, &self.rights);
+        judge(tables, rights, &self.limits, *user, statement, moment)
     }
 
     /// Carries out an allowed change, and enters it.
@@ -239,15 +233,16 @@ impl System {
     }
 
     /// Carries out what is allowed.
-    fn carry_out(&mut self, entry: Entry) -> Reply
+    fn carry_out(&mut self, entry: Entry, allowed: Allowed) -> Reply
         requires allowed { verdict_at self.old.limits self.old.journal entry.user entry.statement ≡ Ok tt }
+        requires judged { allowed.change ≡ is_change entry.statement }
         requires served { is_served entry.statement ≡ true }
         ensures { CarriesOut self.old entry result self.new }
     {
-        if !is_change(&entry.statement) {
+        if !allowed.change {
             return self.query(&entry);
         }
-        let at = self.moment();
+        let at = Moment(count(&self.journal));
         match self.change(entry) {
             Ok(()) => Reply::Done {
                 at: Moment(at.0 + 1),
@@ -265,7 +260,7 @@ impl System {
     {
         match self.judged(&entry.user, &entry.statement) {
             Err(lack) => turn_away(self.moment(), lack),
-            Ok(()) => self.carry_out(entry),
+            Ok(allowed) => self.carry_out(entry, allowed),
         }
     }
 

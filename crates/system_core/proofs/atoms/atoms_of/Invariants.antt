@@ -1,5 +1,5 @@
 use Rattle.std.proofs.Common.{◌≡◌, ◌≤◌, ◌*◌, ◌++◌, length, drop}
-use Rattle.system_core.specs.Atoms.{atoms_of}
+use Rattle.monitor_core.specs.Atoms.{atoms_of}
 use Rattle.system_core.proofs.atoms.atoms_of.Given as goal
 
 -- the atoms so far and those to come

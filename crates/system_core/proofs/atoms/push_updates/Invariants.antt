@@ -1,5 +1,5 @@
 use Rattle.std.proofs.Common.{◌≡◌, ◌++◌, map, drop}
-use Rattle.system_core.specs.Atoms.{to_update}
+use Rattle.monitor_core.specs.Atoms.{to_update}
 use Rattle.system_core.proofs.atoms.push_updates.Given as goal
 
 -- the atoms so far and those to come

@@ -3,7 +3,7 @@ use Rattle.base_core.specs.declared.name.Name.{Name}
 use Rattle.tables_core.specs.Contents.{Contents}
 use Rattle.grants_core.specs.declared.grant.Change.{Change}
 use Rattle.system_core.specs.declared.event.Entry.{Entry}
-use Rattle.system_core.specs.Verdict.{columns_of}
+use Rattle.monitor_core.specs.Verdict.{columns_of}
 use Rattle.system_core.specs.Journal.{change_of, changes}
 use Rattle.system_core.specs.World.{World}
 use Rattle.system_core.proofs.Replaying.{changes-at_once}

@@ -1,0 +1,5 @@
+pub mod Passing
+pub mod Checking
+pub mod Zipping
+pub mod Lacking
+pub mod Allowing

@@ -1,0 +1,80 @@
+//! The single checks of a judgement.
+ghost use Rattle.std.specs.Prelude.{◌≡◌};
+ghost use Rattle.std.specs.List.{zip};
+ghost use Rattle.base_core.specs.declared.value.Value as values;
+ghost use Rattle.monitor_core.specs.Verdict.{require, each, is_table, columns_of, takes};
+
+use base_core::{Assignment, Column, Condition, Lack, Name, Named, Value};
+use tables_core::Tables;
+
+/// What names a column, and a value for it.
+pub trait Literal: Named {
+    ghost literal_of: { Self → values.Value };
+
+    fn literal(&self) -> &Value
+        ensures { result.now ≡ literal_of self.now };
+}
+
+impl Literal for Condition {
+    ghost literal_of = { λ c. c.literal };
+
+    fn literal(&self) -> &Value {
+        &self.literal
+    }
+}
+
+impl Literal for Assignment {
+    ghost literal_of = { λ a. a.value };
+
+    fn literal(&self) -> &Value {
+        &self.value
+    }
+}
+
+/// Passed where the test holds, and else the lack.
+pub fn require(holds: bool, lack: Lack) -> Result<(), Lack>
+    ensures { result ≡ require holds lack }
+{
+    if holds { Ok(()) } else { Err(lack) }
+}
+
+pub fn is_table(tables: &Tables, name: Name) -> bool
+    ensures { result ≡ is_table tables.now name }
+{
+    tables.owner(&name).is_some()
+}
+
+/// The columns of the table of this name, in order, and none where there is no such table: by these
+/// UPDATE without columns is judged, and by these it is to be carried out.
+pub fn columns_of(tables: &Tables, name: Name) -> &[Column]
+    ensures { result.now ≡ columns_of tables.now name }
+{
+    match tables.columns(&name) {
+        Some(columns) => columns,
+        None => &[],
+    }
+}
+
+/// Passed where the column takes the value.
+pub fn takes(column: &Column, value: &Value) -> Result<(), Lack>
+    ensures { result ≡ takes column.now value.now }
+{
+    let Column { name, ty } = *column;
+    let lack = Lack::WrongType {
+        column: name,
+        wanted: ty,
+    };
+    require(value.has_type(ty), lack)
+}
+
+/// Passed where each column takes the value at its place.
+pub fn each_takes(columns: &[Column], values: &[Value]) -> Result<(), Lack>
+    ensures { result ≡ each (zip columns.now values.now) (λ pair. takes pair.0 pair.1) }
+{
+    for (column, value) in columns.iter().zip(values) {
+        if let Err(lack) = takes(column, value) {
+            return Err(lack);
+        }
+    }
+    Ok(())
+}

@@ -1,0 +1,453 @@
+//! The judgement of a statement.
+ghost use Rattle.std.specs.Prelude.{◌≡◌, ℕ, ◌∷◌, [], ◌≤◌, nat_lt, length};
+ghost use Rattle.base_core.specs.declared.name.User.{User};
+ghost use Rattle.base_core.specs.declared.privilege.Kind.TheVariants as kinds;
+ghost use Rattle.reader_core.specs.declared.statement.Statement.TheVariants as statements;
+ghost use Rattle.monitor_core.specs.Verdict.{verdict, first_lack, holds, each, column_stands, column_takes, table_stands, table_is_new, with_filter, list_stands, room_for_change, room_for_table, listed_columns_stand, atoms_at, may_grant, has_made, has_room, room_for_grants};
+ghost use Rattle.monitor_core.specs.Atoms.{to_update, columns_listed};
+
+use crate::checks::{Literal, columns_of, each_takes, is_table, require, takes};
+use crate::each::{AtomCheck, columns_listed, each_atom, each_update};
+use base_core::{
+    Assignment, Atom, Condition, Distinct, Kind, Lack, Limits, Moment, Name, Named, User, Value,
+    What,
+};
+use grants_core::Authority;
+use reader_core::{MAX_ITEMS, Privilege, Statement};
+use std::marker::Model;
+use tables_core::Tables;
+
+/// What is judged by. Contracts see it as the state.
+#[derive(Drop)]
+pub struct Judge<'a, A: Authority> {
+    pub tables: &'a Tables,
+    pub rights: &'a A,
+    pub limits: &'a Limits,
+    pub moment: Moment,
+}
+
+impl<'a, A: Authority> Model for Judge<'a, A> {
+    ghost use Rattle.monitor_core.specs.Verdict.{State};
+
+    ghost Value = { State };
+
+    ghost view = { λ j. record { tables = j.tables.now; rights = A.content j.rights.now; limits = j.limits.now; moment = j.moment.0 } };
+}
+
+/// That the user holds an atom.
+#[derive(Drop)]
+struct Held<'a, A: Authority> {
+    judge: &'a Judge<'a, A>,
+    user: User,
+}
+
+impl<'a, A: Authority> AtomCheck for Held<'a, A> {
+    ghost check_of = { λ c atom. holds c.judge.now c.user atom };
+
+    fn check(&self, atom: Atom) -> Result<(), Lack> {
+        self.judge.may(&self.user, atom)
+    }
+}
+
+/// That the user may grant an atom.
+#[derive(Drop)]
+struct Grantable<'a, A: Authority> {
+    judge: &'a Judge<'a, A>,
+    user: User,
+}
+
+impl<'a, A: Authority> AtomCheck for Grantable<'a, A> {
+    ghost check_of = { λ c atom. may_grant c.judge.now c.user atom };
+
+    fn check(&self, atom: Atom) -> Result<(), Lack> {
+        self.judge.may_grant(&self.user, atom)
+    }
+}
+
+/// That there is room for grants of an atom to each of the users.
+#[derive(Drop)]
+struct Roomy<'a, A: Authority> {
+    judge: &'a Judge<'a, A>,
+    users: &'a [User],
+}
+
+impl<'a, A: Authority> AtomCheck for Roomy<'a, A> {
+    ghost check_of = { λ c atom. room_for_grants c.judge.now c.users.now atom };
+
+    fn check(&self, atom: Atom) -> Result<(), Lack> {
+        let room = self.judge.has_room_for(&atom, self.users.len() as u64);
+        require(room, Lack::Full(What::Grants))
+    }
+}
+
+/// That grants of an atom by the one to each of the users are in force.
+#[derive(Drop)]
+struct Granted<'a, A: Authority> {
+    judge: &'a Judge<'a, A>,
+    by: User,
+    users: &'a [User],
+}
+
+impl<'a, A: Authority> AtomCheck for Granted<'a, A> {
+    ghost check_of = { λ c atom. each c.users.now (has_made c.judge.now c.by atom) };
+
+    fn check(&self, atom: Atom) -> Result<(), Lack> {
+        self.judge.has_made_each(&self.by, self.users, &atom)
+    }
+}
+
+impl<A: Authority> Judge<'_, A> {
+    fn table_stands(&self, table: Name) -> Result<(), Lack>
+        ensures { result ≡ table_stands self.now table }
+    {
+        require(is_table(self.tables, table), Lack::NoTable(table))
+    }
+
+    fn may(&self, user: &User, atom: Atom) -> Result<(), Lack>
+        ensures { result ≡ holds self.now user.now atom }
+    {
+        let may = self.rights.holds(*user, &atom);
+        require(may, Lack::NoPrivilege { user: *user, atom })
+    }
+
+    /// With a filter the user needs this too.
+    #[tactic(auto, unfolding(crate::specs::Verdict::with_filter))]
+    fn may_filter(&self, user: &User, atom: Atom, filter: &[Condition]) -> Result<(), Lack>
+        ensures { result ≡ with_filter filter.now (holds self.now user.now atom) }
+    {
+        match filter {
+            [] => Ok(()),
+            [..] => self.may(user, atom),
+        }
+    }
+
+    fn may_update(&self, user: &User, table: Name, sets: &[Assignment]) -> Result<(), Lack>
+        ensures { result ≡ each sets.now (λ a. holds self.now user.now (to_update table a.column)) }
+    {
+        let held = Held {
+            judge: self,
+            user: *user,
+        };
+        each_update(&held, table, sets)
+    }
+
+    fn may_grant(&self, user: &User, atom: Atom) -> Result<(), Lack>
+        ensures { result ≡ may_grant self.now user.now atom }
+    {
+        let may = self.rights.may_grant(*user, &atom);
+        require(may, Lack::NoGrantOption { user: *user, atom })
+    }
+
+    fn has_made(&self, by: &User, to: &User, atom: &Atom) -> Result<(), Lack>
+        ensures { result ≡ has_made self.now by.now atom.now to.now }
+    {
+        let made = self.rights.has_made(*by, *to, atom);
+        let Atom { table, kind } = *atom;
+        let lack = Lack::NoGrant {
+            by: *by,
+            to: *to,
+            atom: Atom { table, kind },
+        };
+        require(made, lack)
+    }
+
+    fn has_made_each(&self, by: &User, users: &[User], atom: &Atom) -> Result<(), Lack>
+        ensures { result ≡ each users.now (has_made self.now by.now atom.now) }
+    {
+        for to in users {
+            if let Err(lack) = self.has_made(by, to, atom) {
+                return Err(lack);
+            }
+        }
+        Ok(())
+    }
+
+    #[tactic(auto, unfolding(crate::specs::Verdict::has_room))]
+    fn has_room_for(&self, atom: &Atom, more: u64) -> bool
+        ensures { result ≡ has_room self.now.rights.in_force atom.now more self.now.limits.grants }
+    {
+        self.rights.room(atom, more, self.limits.grants)
+    }
+
+    fn column_stands(&self, table: Name, column: Name) -> Result<(), Lack>
+        ensures { result ≡ column_stands self.now table column }
+    {
+        let stands = self.tables.column(&table, column).is_some();
+        require(stands, Lack::NoColumn { table, column })
+    }
+
+    /// Each name is a column's of the table.
+    fn columns_stand<T: Named>(&self, table: Name, items: &[T]) -> Result<(), Lack>
+        ensures { result ≡ each items.now (λ item. column_stands self.now table (T.name_of item)) }
+    {
+        for item in items {
+            if let Err(lack) = self.column_stands(table, item.name()) {
+                return Err(lack);
+            }
+        }
+        Ok(())
+    }
+
+    /// Each column that the query lists is the table's.
+    fn list_stands(&self, table: Name, list: &Option<Distinct<Name, MAX_ITEMS>>) -> Result<(), Lack>
+        ensures { result ≡ list_stands self.now table list.now }
+    {
+        match list {
+            None => Ok(()),
+            Some(names) => self.columns_stand(table, names.as_slice()),
+        }
+    }
+
+    /// Each column that the privilege lists is the table's.
+    fn listed_by_one_stand(&self, table: Name, privilege: &Privilege) -> Result<(), Lack>
+        ensures { result ≡ each (columns_listed privilege.now) (column_stands self.now table) }
+    {
+        self.columns_stand(table, columns_listed(privilege))
+    }
+
+    /// Each column that the privileges list is the table's.
+    fn listed_stand(&self, table: Name, privileges: &[Privilege]) -> Result<(), Lack>
+        ensures { result ≡ listed_columns_stand self.now table privileges.now }
+    {
+        for privilege in privileges {
+            if let Err(lack) = self.listed_by_one_stand(table, privilege) {
+                return Err(lack);
+            }
+        }
+        Ok(())
+    }
+
+    /// Each atom that the privileges are passes.
+    fn each_atom<C: AtomCheck>(
+        &self,
+        check: &C,
+        table: Name,
+        privileges: &[Privilege],
+    ) -> Result<(), Lack>
+        ensures { result ≡ each (atoms_at self.now.tables table privileges.now) (C.check_of check.now) }
+    {
+        each_atom(check, table, columns_of(self.tables, table), privileges)
+    }
+
+    fn column_takes(&self, table: Name, column: Name, value: &Value) -> Result<(), Lack>
+        ensures { result ≡ column_takes self.now table column value.now }
+    {
+        match self.tables.column(&table, column) {
+            Some(column) => takes(&column, value),
+            None => Ok(()),
+        }
+    }
+
+    /// Each column named takes its literal.
+    fn columns_take<T: Literal>(&self, table: Name, items: &[T]) -> Result<(), Lack>
+        ensures { result ≡ each items.now (λ item. column_takes self.now table (T.name_of item) (T.literal_of item)) }
+    {
+        for item in items {
+            if let Err(lack) = self.column_takes(table, item.name(), item.literal()) {
+                return Err(lack);
+            }
+        }
+        Ok(())
+    }
+
+    fn has_room(&self) -> bool
+        ensures { result ≡ nat_lt self.now.moment self.now.limits.changes }
+    {
+        self.moment.0 < self.limits.changes
+    }
+
+    fn room_for_change(&self) -> Result<(), Lack>
+        ensures { result ≡ room_for_change self.now }
+    {
+        require(self.has_room(), Lack::Full(What::Changes))
+    }
+
+    fn create(&self, table: Name) -> Result<(), Lack>
+        ensures { result ≡ first_lack (table_is_new self.now table ∷ room_for_change self.now ∷ room_for_table self.now ∷ []) }
+    {
+        if is_table(self.tables, table) {
+            return Err(Lack::TableExists(table));
+        }
+        if !self.has_room() {
+            return Err(Lack::Full(What::Changes));
+        }
+        let room = (self.tables.len() as u64) < self.limits.tables;
+        require(room, Lack::Full(What::Tables))
+    }
+
+    fn insert(&self, user: &User, table: Name, values: &[Value]) -> Result<(), Lack>
+        ensures { result ≡ verdict self.now user.now (statements.Insert table values.now) }
+    {
+        let columns = columns_of(self.tables, table);
+        let (given, wanted) = (values.len(), columns.len());
+        let kind = Kind::Insert;
+        let atom = Atom { table, kind };
+        self.table_stands(table)?;
+        self.may(user, atom)?;
+        require(given == wanted, Lack::WrongCount { given, wanted })?;
+        each_takes(columns, values)?;
+        self.room_for_change()
+    }
+
+    fn select(
+        &self,
+        user: &User,
+        list: &Option<Distinct<Name, MAX_ITEMS>>,
+        table: Name,
+        filter: &[Condition],
+    ) -> Result<(), Lack>
+        ensures { result ≡ verdict self.now user.now (statements.Select list.now table filter.now) }
+    {
+        let kind = Kind::Select;
+        let atom = Atom { table, kind };
+        self.table_stands(table)?;
+        self.list_stands(table, list)?;
+        self.columns_stand(table, filter)?;
+        self.may(user, atom)?;
+        self.columns_take(table, filter)
+    }
+
+    fn delete(&self, user: &User, table: Name, filter: &[Condition]) -> Result<(), Lack>
+        ensures { result ≡ verdict self.now user.now (statements.Delete table filter.now) }
+    {
+        let kind = Kind::Delete;
+        let atom = Atom { table, kind };
+        let read = Atom {
+            table,
+            kind: Kind::Select,
+        };
+        self.table_stands(table)?;
+        self.columns_stand(table, filter)?;
+        self.may(user, atom)?;
+        self.may_filter(user, read, filter)?;
+        self.columns_take(table, filter)?;
+        self.room_for_change()
+    }
+
+    fn update(
+        &self,
+        user: &User,
+        table: Name,
+        sets: &[Assignment],
+        filter: &[Condition],
+    ) -> Result<(), Lack>
+        ensures { result ≡ verdict self.now user.now (statements.Update table sets.now filter.now) }
+    {
+        let kind = Kind::Select;
+        let atom = Atom { table, kind };
+        self.table_stands(table)?;
+        self.columns_stand(table, sets)?;
+        self.columns_stand(table, filter)?;
+        self.may_update(user, table, sets)?;
+        self.may_filter(user, atom, filter)?;
+        self.columns_take(table, sets)?;
+        self.columns_take(table, filter)?;
+        self.room_for_change()
+    }
+
+    // No `?` in the next two, nor in a loop that names no atom: the toolchain can't build a proof of it.
+    fn grant(
+        &self,
+        user: &User,
+        privileges: &[Privilege],
+        table: Name,
+        users: &[User],
+        option: bool,
+    ) -> Result<(), Lack>
+        ensures { result ≡ verdict self.now user.now (statements.Grant privileges.now table users.now option) }
+    {
+        let user = *user;
+        let grantable = Grantable { judge: self, user };
+        let roomy = Roomy { judge: self, users };
+        if let Err(lack) = self.table_stands(table) {
+            return Err(lack);
+        }
+        if let Err(lack) = self.listed_stand(table, privileges) {
+            return Err(lack);
+        }
+        if let Err(lack) = self.each_atom(&grantable, table, privileges) {
+            return Err(lack);
+        }
+        if let Err(lack) = self.room_for_change() {
+            return Err(lack);
+        }
+        self.each_atom(&roomy, table, privileges)
+    }
+
+    fn revoke(
+        &self,
+        user: &User,
+        privileges: &[Privilege],
+        table: Name,
+        users: &[User],
+    ) -> Result<(), Lack>
+        ensures { result ≡ verdict self.now user.now (statements.Revoke privileges.now table users.now) }
+    {
+        let by = *user;
+        let granted = Granted {
+            judge: self,
+            by,
+            users,
+        };
+        if let Err(lack) = self.table_stands(table) {
+            return Err(lack);
+        }
+        if let Err(lack) = self.listed_stand(table, privileges) {
+            return Err(lack);
+        }
+        if let Err(lack) = self.each_atom(&granted, table, privileges) {
+            return Err(lack);
+        }
+        self.room_for_change()
+    }
+
+    /// The table that an export is limited to stands.
+    fn export(&self, only: &Option<Name>) -> Result<(), Lack>
+        ensures { (user : User) (number : ℕ) → result ≡ verdict self.now user (statements.Export number only.now) }
+    {
+        match only {
+            None => Ok(()),
+            Some(table) => self.table_stands(*table),
+        }
+    }
+
+    /// Whether the statement may be carried out, or the first lack.
+    pub fn judge(&self, user: &User, statement: &Statement) -> Result<(), Lack>
+        ensures { result ≡ verdict self.now user.now statement.now }
+    {
+        match statement {
+            Statement::CreateTable { table, columns: _ } => self.create(*table),
+            Statement::Insert { table, values } => self.insert(user, *table, values.as_slice()),
+            Statement::Select {
+                list,
+                table,
+                filter,
+            } => { self.select(user, list, *table, filter.as_slice()) }
+            Statement::Delete { table, filter } => self.delete(user, *table, filter.as_slice()),
+            Statement::Update {
+                table,
+                sets,
+                filter,
+            } => { self.update(user, *table, sets.as_slice(), filter.as_slice()) }
+            Statement::Grant {
+                privileges,
+                table,
+                users,
+                option,
+            } => self.grant(
+                user,
+                privileges.as_slice(),
+                *table,
+                users.as_slice(),
+                *option,
+            ),
+            Statement::Revoke {
+                privileges,
+                table,
+                users,
+            } => self.revoke(user, privileges.as_slice(), *table, users.as_slice()),
+            Statement::Checkpoint | Statement::Checkpoints => Ok(()),
+            Statement::Export { number: _, only } => self.export(only),
+        }
+    }
+}
