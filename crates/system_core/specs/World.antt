@@ -1,5 +1,5 @@
 -- Worlds, and the steps from one to the next.
-use Rattle.std.specs.Prelude.{ℕ, ◌≡◌, ◌+◌, true, List, [], ◌∷◌, ◌++◌, length, map, if◌then◌else◌, Ok, Err, Option, None, Some, option_map}
+use Rattle.std.specs.Prelude.{ℕ, ◌≡◌, ◌+◌, true, List, [], ◌∷◌, ◌++◌, length, map, if◌then◌else◌, Ok, Err, Option, Some, option_map}
 use Rattle.std.specs.Option.{unwrap_or}
 use Rattle.base_core.specs.Lacks.{is_denial}
 use Rattle.base_core.specs.declared.name.User.{User}

@@ -1,6 +1,4 @@
-use Rattle.std.proofs.Common.{ap, ◌∙◌, Err, Result, subst}
-use Rattle.base_core.specs.declared.lack.Lack.{Lack}
-use Rattle.monitor_core.specs.Verdict.{Check}
+use Rattle.std.proofs.Common.{ap, ◌∙◌, Err, subst}
 use Rattle.monitor_core.proofs.Lacking.{verdict-not_NoMemory}
 use Rattle.system_core.specs.Journal.{state_of}
 use Rattle.system_core.specs.World.{entry, Answers}
