@@ -1,29 +1,26 @@
 //! Calls of the core, and its replies.
-ghost use Rattle.std.specs.Prelude.{◌<◌, ◌≤◌, IfOk};
-ghost use Rattle.system_core.specs.World.{IsServed};
-
 use base_core::{Limits, Name, User};
 use reader_core::read;
 use std::alloc::Global;
 use std::test::Fail;
-use system_core::{Event, Reply, System, is_served, reply_text};
+use system_core::{Event, Reply, System, reply_text};
 
-fn say(alloc: Global, statement: &[u8]) -> Result<Event, Fail>
-    ensures { IfOk result IsServed }
-{
-    let statement = read(alloc, statement)?;
-    if !is_served(&statement) {
-        return Err(Fail::from("not carried out yet"));
-    }
+/// That this user says this.
+pub fn say_as(alloc: Global, user: &[u8], statement: &[u8]) -> Result<Event, Fail> {
     Ok(Event::Say {
         pass: 0,
-        user: User(Name::read(b"ann").ok_or("no name")?),
-        statement,
+        user: User(Name::read(user).ok_or("no name")?),
+        statement: read(alloc, statement)?,
     })
 }
 
+/// That ann says this.
+pub fn say(alloc: Global, statement: &[u8]) -> Result<Event, Fail> {
+    say_as(alloc, b"ann", statement)
+}
+
 /// The texts of the replies, one after another.
-fn texts(alloc: Global, replies: &[Reply]) -> Result<Vec<u8>, Fail> {
+pub fn texts(alloc: Global, replies: &[Reply]) -> Result<Vec<u8>, Fail> {
     let mut all = Vec::new(alloc);
     for reply in replies {
         all.extend_from_slice(&reply_text(alloc, reply)?)?;

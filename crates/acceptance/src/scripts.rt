@@ -144,20 +144,6 @@ refused @1: column x takes INTEGER\n"
     Ok(())
 }
 
-/// A statement that is read and not carried out yet is answered at its first word.
-#[test]
-fn not_carried_out_yet(rt: HostRuntime) -> Result<(), Fail> {
-    let text = written(
-        rt.alloc(),
-        b"ann: \t CHECKPOINT;\nann: CHECKPOINTS\no:EXPORT 1 ONLY t\n",
-    )?;
-    assert_eq!(rt;
-        text.as_slice(),
-        b"error 4 at 7: not expected\nerror 4 at 5: not expected\nerror 4 at 2: not expected\n".as_slice()
-    );
-    Ok(())
-}
-
 #[test]
 fn what_is_missing_is_named(rt: HostRuntime) -> Result<(), Fail> {
     let text = written(

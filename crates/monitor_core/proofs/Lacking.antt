@@ -1,4 +1,4 @@
--- No check finds that memory was refused.
+-- No check finds that memory was refused, or that turns are worn.
 use Rattle.std.proofs.Common.{◌≡◌, Bool, true, false, List, [], ◌∷◌, map, Ok, Err, Option, Some, None, subst}
 use Rattle.std.specs.List.{AllByRecursion, zip}
 use Rattle.std.specs.Option.{option_map_or, unwrap_or}
@@ -16,17 +16,18 @@ use Rattle.tables_core.specs.Contents.{column_of}
 use Rattle.monitor_core.specs.Atoms.{to_update, columns_listed}
 use Rattle.monitor_core.specs.Verdict.{State, Check, require, first_lack, each, takes, column_takes, column_stands, with_filter, columns_of, atoms_at, holds, may_grant, has_made, room_for_grants, checks, verdict}
 
--- a check that doesn't find it
-abbrev Sound : Check → Type 0
+-- a check that finds neither
+abbrev pub Sound : Check → Type 0
 Sound (Ok _) = Unit {0}
 Sound (Err lacks.NoMemory) = ⊥
+Sound (Err lacks.Worn) = ⊥
 Sound (Err _) = Unit {0}
 
-sound-require : (b : Bool) (lack : Lack) → Sound (Err lack) → Sound (require b lack)
+pub sound-require : (b : Bool) (lack : Lack) → Sound (Err lack) → Sound (require b lack)
 sound-require true lack h = tt
 sound-require false lack h = h
 
-sound-first : (all : List Check) → AllByRecursion Sound all → Sound (first_lack all)
+pub sound-first : (all : List Check) → AllByRecursion Sound all → Sound (first_lack all)
 sound-first [] h = tt
 sound-first (Ok u ∷ more) h = sound-first more h.1
 sound-first (Err lack ∷ more) h = h.0
@@ -56,7 +57,7 @@ sound-with_filter (c ∷ more) check h = h
 sound-listed : (s : State) (table : Name) (names : List Name) → Sound (each names (column_stands s table))
 sound-listed s table names = sound-each names (column_stands s table) (λ name. sound-require _ _ tt)
 
-sound : (s : State) (user : User) (asked : Statement) → AllByRecursion Sound (checks s user asked)
+pub sound : (s : State) (user : User) (asked : Statement) → AllByRecursion Sound (checks s user asked)
 sound s user (statements.CreateTable table columns) = (sound-require _ _ tt, (sound-require _ _ tt, (sound-require _ _ tt, tt)))
 sound s user (statements.Insert table values) =
     (sound-require _ _ tt, (sound-require _ _ tt, (sound-require _ _ tt, (sound-each (zip (columns_of s.tables table) values) (λ pair. takes pair.0 pair.1) (λ pair. sound-takes pair.0 pair.1), (sound-require _ _ tt, tt)))))

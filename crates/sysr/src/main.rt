@@ -2,26 +2,28 @@
 //!
 //! Each line is `user: statement`, and what was read is answered before more is read. The exit status is
 //! 0 where the input was read to its end, whatever the replies; 1 where the program itself could not
-//! go on, with the reason on standard error; 2 where the command line was refused. Help goes to
-//! standard output, with status 0.
+//! go on, with the reason on standard error; 2 where the command line was refused; 3 where an audit
+//! failed. Help goes to standard output, with status 0.
 //!
 //! What is written for what was read is the contract of [`script`], and what the command line may
 //! say is that of [`options`]; this file joins the two with the streams of the process.
 #![tactic(auto)]
 
-ghost use Rattle.std.specs.Prelude.{◌<◌, ◌≤◌};
+ghost use Rattle.std.specs.Prelude.{◌≡◌, ◌<◌, ◌≤◌, false};
 
 mod command_line;
+mod ending;
 #[cfg(test)]
 mod tests;
 
-use base_core::{StdSink, StdSource};
+use base_core::{Broken, Sink, StdSink, StdSource, write_all};
 use command_line::{CommandLine, options};
+use ending::audit_end;
 use std::io::BufWriter;
 use std::mem::forget;
 use std::process::ExitCode;
 use std::{env, io};
-use system_core::{SessionFault, script};
+use system_core::{SessionFault, System, script};
 
 // What is gathered of the output before it is written.
 const OUTPUT_BYTES: usize = 65536;
@@ -52,21 +54,49 @@ fn refuse(rt: &HostRuntime, error: &clap::Error) -> ExitCode {
     ExitCode::from(error.exit_code() as u8)
 }
 
-fn run(rt: &HostRuntime, chunk: usize) -> ExitCode
-    requires some { 0 < chunk }
-    requires small { chunk ≤ 64 }
+fn write_last<W: Sink>(writer: &mut W, line: &[u8]) -> Result<(), Broken>
+    requires { W.failed writer.old ≡ false }
+{
+    write_all(writer, line)?;
+    writer.flush()
+}
+
+/// Compares the rights in force with a replay of the journal, and writes how that ended.
+fn audit<W: Sink>(rt: &HostRuntime, system: &System, writer: &mut W) -> ExitCode
+    requires { W.failed writer.old ≡ false }
+{
+    let Ok(found) = system.audit() else {
+        return give_up(rt, NO_MEMORY);
+    };
+    let Ok((line, status)) = audit_end(rt.alloc(), found) else {
+        return give_up(rt, NO_MEMORY);
+    };
+    match write_last(writer, line.as_slice()) {
+        Ok(()) => ExitCode::from(status),
+        Err(Broken) => give_up(rt, fault_text(SessionFault::Write)),
+    }
+}
+
+fn run(rt: &HostRuntime, asked: CommandLine) -> ExitCode
+    requires some { 0 < asked.chunk }
+    requires small { asked.chunk ≤ 64 }
 {
     let Ok(buffered) = BufWriter::with_capacity(rt.alloc(), OUTPUT_BYTES, rt.stdout()) else {
         return give_up(rt, NO_MEMORY);
     };
     let mut reader = StdSource::new(rt.stdin());
     let mut writer = StdSink::new(buffered);
-    match script(rt.alloc(), &mut reader, &mut writer, chunk) {
+    match script(rt.alloc(), &mut reader, &mut writer, asked.chunk) {
         Ok(system) => {
+            let status = if asked.audit {
+                audit(rt, &system, &mut writer)
+            } else {
+                ExitCode::SUCCESS
+            };
             // The process ends here, and its memory goes back as a whole: to take the rows apart one by
             // one first would cost a tenth of the run.
             forget(system);
-            ExitCode::SUCCESS
+            status
         }
         Err(fault) => give_up(rt, fault_text(fault)),
     }
@@ -85,7 +115,7 @@ fn main(rt: HostRuntime) -> ExitCode {
         Err(_) => return give_up(&rt, NO_MEMORY),
     };
     match options(rt.alloc(), words.as_slice()) {
-        Ok(CommandLine { chunk }) => run(&rt, chunk),
+        Ok(asked) => run(&rt, asked),
         Err(error) => refuse(&rt, &error),
     }
 }

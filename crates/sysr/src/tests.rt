@@ -1,11 +1,60 @@
 use crate::command_line::options;
+use crate::ending::audit_end;
 use clap::error::ErrorKind;
+use std::alloc::Global;
 use std::test::Fail;
 
 #[test]
 fn run_is_taken(rt: HostRuntime) -> Result<(), Fail> {
     let chosen = options(rt.alloc(), &["sysr", "run"])?;
     assert_eq!(rt; chosen.chunk, 16);
+    Ok(())
+}
+
+#[test]
+fn a_chunk_is_taken(rt: HostRuntime) -> Result<(), Fail> {
+    let chosen = options(rt.alloc(), &["sysr", "run", "--chunk", "64"])?;
+    assert_eq!(rt; chosen.chunk, 64);
+    assert!(rt; !chosen.audit);
+    Ok(())
+}
+
+#[test]
+fn an_audit_is_taken(rt: HostRuntime) -> Result<(), Fail> {
+    let chosen = options(rt.alloc(), &["sysr", "run", "--audit"])?;
+    assert!(rt; chosen.audit);
+    Ok(())
+}
+
+#[test]
+fn an_audit_ends_well(rt: HostRuntime) -> Result<(), Fail> {
+    let (line, status) = audit_end(rt.alloc(), Some(4))?;
+    assert_eq!(rt; line.as_slice(), b"audit ok 4\n".as_slice());
+    assert_eq!(rt; status, 0);
+    Ok(())
+}
+
+#[test]
+fn an_audit_fails(rt: HostRuntime) -> Result<(), Fail> {
+    let (line, status) = audit_end(rt.alloc(), None)?;
+    assert_eq!(rt; line.as_slice(), b"audit failed\n".as_slice());
+    assert_eq!(rt; status, 3);
+    Ok(())
+}
+
+fn refused_with_status(alloc: Global, words: &[&str]) -> Result<i32, Fail> {
+    match options(alloc, words) {
+        Ok(_) => Err(Fail::from("the command line was taken")),
+        Err(error) => Ok(error.exit_code()),
+    }
+}
+
+#[test]
+fn a_chunk_out_of_range_is_refused_with_status_2(rt: HostRuntime) -> Result<(), Fail> {
+    for chunk in ["0", "65", "x", "-1", ""] {
+        let status = refused_with_status(rt.alloc(), &["sysr", "run", "--chunk", chunk])?;
+        assert_eq!(rt; status, 2);
+    }
     Ok(())
 }
 

@@ -106,7 +106,7 @@ verdict-agree ts l m c d user s h =
     ∙ ap (λ n. verdict (record { tables = ts; rights = record { owners = d.owners; in_force = d.in_force; made = n }; limits = l; moment = m }) user s) h.made)
 
 -- **the verdict by what a system keeps is that of its journal**
-pub verdict-stands : (chunk : ℕ) (limits : Limits) (journal : List Entry) (tables : List (Name × Contents)) (rights : Content) (user : User) (s : Statement) → Stands chunk limits journal tables rights → verdict (record { tables = tables; rights = rights; limits = limits; moment = length journal }) user s ≡ verdict_at limits journal user s
-verdict-stands chunk limits journal tables rights user s h =
+pub verdict-stands : (limits : Limits) (journal : List Entry) (tables : List (Name × Contents)) (rights : Content) (user : User) (s : Statement) → Stands limits journal tables rights → verdict (record { tables = tables; rights = rights; limits = limits; moment = length journal }) user s ≡ verdict_at limits journal user s
+verdict-stands limits journal tables rights user s h =
     ap (λ ts. verdict (record { tables = ts; rights = rights; limits = limits; moment = length journal }) user s) h.tables_of
     ∙ verdict-agree (contents journal) limits (length journal) rights (rights_at journal) user s h.agree

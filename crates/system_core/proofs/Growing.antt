@@ -100,7 +100,7 @@ marked_other atoms (o ∷ os) name other h =
     ap (λ b. b || rest) none ∙ marked_other atoms os name other os_false)
     (cases_Bool (same_name o.table name))
 
-owner_of-new : (table : Name) (user : User) (os : List Ownership) → owner_of (with_owner table user os) table ≡ Some user
+pub owner_of-new : (table : Name) (user : User) (os : List Ownership) → owner_of (with_owner table user os) table ≡ Some user
 owner_of-new table user [] = owner_of-cons (record { table = table; owner = user; granted = false }) [] table ∙ cond-true (same_name table table) _ _ (same_name-refl table)
 owner_of-new table user (o ∷ os) =
     ⊎_elim

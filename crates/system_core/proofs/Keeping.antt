@@ -1,5 +1,5 @@
 -- An allowed change may be carried out, and the system stands as before after it.
-use Rattle.std.proofs.Common.{◌≡◌, ℕ, ◌+◌, ◌*◌, ◌<◌, ◌≤◌, ◌^◌, Bool, true, false, subst, List, [], ◌∷◌, ◌++◌, Ok, Option, Some, None, IsSome, IsSomeAnd, length, refl, sym, ap, ◌∙◌, arith, append_assoc, ⊎_elim}
+use Rattle.std.proofs.Common.{◌≡◌, ◌+◌, ◌*◌, ◌<◌, ◌≤◌, ◌^◌, Bool, true, false, subst, List, [], ◌∷◌, ◌++◌, Ok, Option, Some, None, IsSome, IsSomeAnd, length, refl, sym, ap, ◌∙◌, arith, append_assoc, ⊎_elim}
 use Rattle.std.specs.List.{All}
 use Rattle.std.specs.Option.{option_map_or, is_some}
 use Rattle.std.proofs.lemmas.Bool.{ltb-true, false_from_ne_true, both_ways}
@@ -27,6 +27,7 @@ use Rattle.grants_core.proofs.SameLemmas.{same_name-true}
 use Rattle.grants_core.proofs.OwnersLemmas.{was_granted-with_owner, owner_of-with_owner}
 use Rattle.grants_core.proofs.GrantLemmas.{All-filtered, All-implied, All-valid}
 use Rattle.grants_core.proofs.HistoryLemmas.{content-create, content-grant, content-revoke, content-other, unstruck-early}
+use Rattle.capture_core.specs.Image.{row_total}
 use Rattle.system_core.specs.declared.event.Entry.{Entry}
 use Rattle.monitor_core.specs.Verdict.{State, checks, verdict, table_stands, room_for_change, may_grant, is_table, columns_of, atoms_at, is_change}
 use Rattle.system_core.specs.Journal.{contents, tables_with, tables_after, change_of, changes, rights_at, state_of, verdict_at, IsLawfulFrom}
@@ -34,6 +35,7 @@ use Rattle.system_core.specs.Carrying.{CanCarry, IsNarrow, Leaves, rights_after,
 use Rattle.system_core.specs.Standing.{Stands, AgreeOn, inserted_of}
 use Rattle.monitor_core.proofs.Passing.{require-Ok, passed, not-some, some_is, each-Ok}
 use Rattle.system_core.proofs.TableLemmas.{IsNew, is_table-after, is_table-old, narrow-after, inserted-after}
+use Rattle.system_core.proofs.Counting.{row_total-after}
 use Rattle.system_core.proofs.Agreeing.{atoms-table, All-atoms, verdict-agree}
 use Rattle.system_core.proofs.Growing.{On, OnTables, Grows, creates, changes-more, length-changes, never_granted, agree-after, granted_on}
 
@@ -94,7 +96,7 @@ early journal =
     (All-implied (λ g. g.moment.0 < 1 + length cs) (λ g. g.moment.0 < length journal + 1) (in_force_after cs) (λ g lt. omega (arith, lt, length-changes journal))
     (All-valid (λ g. g.moment.0 < 1 + length cs) (owners_after cs) (unstruck_after cs) (unstruck-early cs)))
 
-module _ (chunk : ℕ) (limits : Limits) (journal : List Entry) (tables : List (Name × Contents)) (rights : Content) (h : Stands chunk limits journal tables rights) where
+module _ (limits : Limits) (journal : List Entry) (tables : List (Name × Contents)) (rights : Content) (h : Stands limits journal tables rights) where
   can : (user : User) (s : Statement) → is_change s ≡ true → verdict_at limits journal user s ≡ Ok tt → CanCarry (contents journal) rights (length journal) user s
   can user (statements.CreateTable table columns) change ok =
       let none : table_of (contents journal) table ≡ None = new (state_of limits journal) user (statements.CreateTable table columns) ok in
@@ -200,11 +202,11 @@ rights-more limits journal user statements.Checkpoint on ok = content-other (cha
 rights-more limits journal user statements.Checkpoints on ok = content-other (changes journal)
 rights-more limits journal user (statements.Export number only) on ok = content-other (changes journal)
 
-module _ (chunk : ℕ) (limits : Limits) (journal : List Entry) (tables : List (Name × Contents)) (rights : Content) (h : Stands chunk limits journal tables rights) where
+module _ (limits : Limits) (journal : List Entry) (tables : List (Name × Contents)) (rights : Content) (h : Stands limits journal tables rights) where
   -- the system stands with the change entered
   pub Stands-more : (new_tables : List (Name × Contents)) (new_rights : Content) (e : Entry) → verdict_at limits journal e.user e.statement ≡ Ok tt → is_change e.statement ≡ true
       → new_tables ≡ tables_after tables e.user e.statement → new_rights ≡ rights_after rights (length journal) (change_of tables e.user e.statement) → IsNarrow e.statement → new_rights.made ≤ rights.made + most_grants
-      → Stands chunk limits (journal ++ e ∷ []) new_tables new_rights
+      → Stands limits (journal ++ e ∷ []) new_tables new_rights
   Stands-more new_tables new_rights e ok change tables_is rights_is narrow few =
       let at : State = state_of limits journal in
       let ts : List (Name × Contents) = contents journal in
@@ -229,8 +231,6 @@ module _ (chunk : ℕ) (limits : Limits) (journal : List Entry) (tables : List (
       subst Granted (sym (changes-more journal e)) (subst OnAfter (sym later) (granted_on ts after (changes journal) ch h.sound.on_tables on grown.stays)) in
       let made_few : (rights_at (journal ++ e ∷ [])).made ≤ most_grants * length (journal ++ e ∷ []) = omega (arith, agree_later.made, few, h.agree.made, h.sound.made_few, long) in
       record {
-        some = h.some;
-        small = h.small;
         sound = record {
           lawful = lawful-more limits [] journal e h.sound.lawful ok change;
           few = omega (arith, long, fits);
@@ -238,6 +238,7 @@ module _ (chunk : ℕ) (limits : Limits) (journal : List Entry) (tables : List (
           narrow = λ name. subst (λ (k : List (Name × Contents)). length (columns_of k name) ≤ 32) (sym later) (narrow-after ts e.user e.statement name is_new narrow (h.sound.narrow name));
           on_tables = on_later;
           made_few = made_few;
+          rows_few = subst (λ (k : List (Name × Contents)). row_total k ≤ length (journal ++ e ∷ [])) (sym later) (omega (arith, long, row_total-after ts e.user e.statement, h.sound.rows_few));
         };
         tables_of = tables_is ∙ (ap (λ k. tables_after k e.user e.statement) h.tables_of ∙ sym later);
         agree = agree_later;
@@ -275,7 +276,7 @@ module _ (chunk : ℕ) (limits : Limits) (journal : List Entry) (tables : List (
   leaves user (statements.Export number only) new_rights ok left = as_before new_rights left
 
   -- **after want of memory the system stands with the same journal**
-  pub Stands-left : (new_tables : List (Name × Contents)) (new_rights : Content) (e : Entry) → verdict_at limits journal e.user e.statement ≡ Ok tt → new_tables ≡ tables → Leaves rights (change_of tables e.user e.statement) new_rights → Stands chunk limits journal new_tables new_rights
+  pub Stands-left : (new_tables : List (Name × Contents)) (new_rights : Content) (e : Entry) → verdict_at limits journal e.user e.statement ≡ Ok tt → new_tables ≡ tables → Leaves rights (change_of tables e.user e.statement) new_rights → Stands limits journal new_tables new_rights
   Stands-left new_tables new_rights e ok same left =
       let P : List (Name × Contents) → Type 0 = λ ts. Leaves rights (change_of ts e.user e.statement) new_rights in
-      record { some = h.some; small = h.small; sound = h.sound; tables_of = same ∙ h.tables_of; agree = leaves e.user e.statement new_rights ok (subst P h.tables_of left) }
+      record { sound = h.sound; tables_of = same ∙ h.tables_of; agree = leaves e.user e.statement new_rights ok (subst P h.tables_of left) }

@@ -1,15 +1,24 @@
 pub mod TableLemmas
 pub mod Agreeing
 pub mod Growing
+pub mod Counting
 pub mod Keeping
+pub mod Owning
+pub mod Judged
+pub mod Rising
+pub mod Imaging
+pub mod Holding
+pub mod Beginning
+pub mod Exported
+pub mod Exporting
 pub mod Replaying
 pub mod LineLemmas
 pub mod AnswerLemmas
 pub mod FeedLemmas
 pub mod ServeLemmas
-pub mod CsvLaw
 mod Running
 pub mod Refusals
 pub mod Pushing
 pub mod Offsets
 pub mod Answering
+pub mod Unworn

@@ -2,7 +2,8 @@
 use Rattle.std.proofs.Common.{List, [], ◌∷◌, ◌++◌, refl, subst}
 use Rattle.system_core.specs.declared.event.Event.{Event}
 use Rattle.system_core.specs.declared.event.Reply.{Reply}
-use Rattle.system_core.specs.World.{World, Step, Run}
+use Rattle.system_core.specs.World.{World}
+use Rattle.system_core.specs.Step.{Step, Run}
 
 pub Run-more : (old mid new : World) (events : List Event) (replies : List Reply) (event : Event) (reply : Reply) → Run old events replies mid → Step mid event reply new → Run old (events ++ event ∷ []) (replies ++ reply ∷ []) new
 Run-more old mid new [] [] event reply h step =

@@ -22,7 +22,7 @@ IsNew tables (statements.CreateTable table columns) = table_of tables table ≡ 
 IsNew tables _ = Unit {0}
 
 -- what holds of a look-up, and of each look-up after a change to the one table
-changed : (P : Option Contents → Type 0) (tables : List (Name × Contents)) (table : Name) (change : Contents → Contents) (name : Name)
+pub changed : (P : Option Contents → Type 0) (tables : List (Name × Contents)) (table : Name) (change : Contents → Contents) (name : Name)
     → (P (table_of tables name) → P (option_map change (table_of tables name))) → P (table_of tables name) → P (table_of (with_change table change tables) name)
 changed P tables table change name keeps h =
     subst P (sym (table_of-with_change tables table name change)) (elim (same_name table name) as (λ b. P (cond b (option_map change (table_of tables name)) (table_of tables name))) [ true ↦ keeps h | false ↦ h ])

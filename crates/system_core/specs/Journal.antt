@@ -1,5 +1,5 @@
 -- What a journal says: its tables, its changes of rights, and how a statement is judged at it.
-use Rattle.std.specs.Prelude.{◌≡◌, Bool, true, false, List, [], ◌∷◌, ◌++◌, length, Ok}
+use Rattle.std.specs.Prelude.{◌≡◌, true, List, [], ◌∷◌, ◌++◌, length, Ok}
 use Rattle.std.specs.List.{fold}
 use Rattle.base_core.specs.declared.name.Name.{Name}
 use Rattle.base_core.specs.declared.name.User.{User}
@@ -13,13 +13,6 @@ use Rattle.grants_core.specs.Content.{Content}
 use Rattle.grants_core.specs.History.{content_after}
 use Rattle.system_core.specs.declared.event.Entry.{Entry}
 use Rattle.monitor_core.specs.Verdict.{State, Check, verdict, atoms_at, is_change}
-
--- whether a statement is carried out by now: those about checkpoints are not yet
-abbrev pub is_served : Statement → Bool
-is_served statements.Checkpoint = false
-is_served statements.Checkpoints = false
-is_served (statements.Export number only) = false
-is_served _ = true
 
 -- the tables after a change
 abbrev pub tables_after : List (Name × Contents) → User → Statement → List (Name × Contents)

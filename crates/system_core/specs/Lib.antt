@@ -1,8 +1,10 @@
 pub mod Journal
+pub mod Exports
 pub mod World
+pub mod Judging
+pub mod Step
 pub mod Carrying
 pub mod Standing
-pub mod Record
 pub mod Lines
 pub mod Serving
 pub use Rattle.base_core.specs.Words
@@ -17,7 +19,12 @@ pub use Rattle.monitor_core.specs.Verdict
 pub use Rattle.grants_core.specs.Content
 pub use Rattle.grants_core.specs.History
 pub use Rattle.reader_core.specs.Language
+pub use Rattle.capture_core.specs.Image
+pub use Rattle.export_core.specs.Record
+pub use Rattle.export_core.specs.Export
+pub use Rattle.export_core.specs.Ticket
 pub mod Texts
 pub mod Script
+pub mod Saying
 pub use Rattle.lexer_core.specs.Lexing
 pub use Rattle.lexer_core.specs.Codes

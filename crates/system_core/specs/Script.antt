@@ -1,6 +1,6 @@
--- What a script's line says, and what may be written for it.
-use Rattle.std.specs.Prelude.{◌≡◌, ◌⊎◌, ◌+◌, ◌<◌, ℕ, Bool, true, false, not, ◌==◌, nat_lt, List, length, take, drop, slice_index, if◌then◌else◌, Option, None, Some, Result, Ok, Err}
-use Rattle.std.specs.List.{list_all, prefix_len}
+-- What a script's line says, and what may be written for it and for the step of the checkpointer after it.
+use Rattle.std.specs.Prelude.{◌≡◌, ◌⊎◌, ◌+◌, ◌++◌, ◌<◌, ℕ, [], Bool, true, false, not, ◌==◌, nat_lt, List, length, take, drop, slice_index, if◌then◌else◌, Option, None, Some, Result, Ok, Err}
+use Rattle.std.specs.List.{concat, list_all, prefix_len}
 use Rattle.std.specs.Char.{is_ascii_alphabetic}
 use Rattle.std.proofs.Common.{arith, sym, ◌∙◌}
 use Rattle.std.proofs.lemmas.Bool.Decides.{nat_tests}
@@ -16,12 +16,13 @@ use Rattle.lexer_core.specs.declared.lexer.TheConstants.{MAX_LINE}
 use Rattle.base_core.specs.declared.word.TheConstants.{MAX_NAME}
 use Rattle.reader_core.specs.Language.{Spells, IsReadFault}
 use Rattle.reader_core.specs.declared.statement.Statement.{Statement}
-use Rattle.system_core.specs.Journal.{is_served}
 use Rattle.system_core.specs.Serving.{Ends}
-use Rattle.system_core.specs.Texts.{reply_text, fault_text, unread_text, lost_text}
-use Rattle.system_core.specs.World.{World, Step, opening}
+use Rattle.system_core.specs.Texts.{reply_text, fault_text, unread_text, lost_text, cut_text}
+use Rattle.system_core.specs.World.{World, opening}
+use Rattle.system_core.specs.Step.{Step}
 use Rattle.system_core.specs.declared.event.Event.TheVariants as events
 use Rattle.system_core.specs.declared.event.Reply.{Reply}
+use Rattle.system_core.specs.declared.event.Reply.TheVariants as replies
 use Rattle.system_core.specs.declared.lines.serve.SessionFault.{SessionFault}
 
 abbrev pub colon : ℕ
@@ -51,53 +52,72 @@ addressed line =
     else if list_all is_blank line then Err (codes.Empty, 0)
     else addressed_by (prefix_len is_word_byte line) line
 
--- the user asks this, from that byte on
-pub record AsksFrom (start : ℕ) (line : List ℕ) (user : User) (asked : Statement) : Type 0 where
+-- the user asks this
+pub record Asks (line : List ℕ) (user : User) (asked : Statement) : Type 0 where
+  pub start : ℕ
   pub speaker : addressed line ≡ Ok (user, start)
   pub spelled : Spells (drop start line) asked
 
--- the user asks this, which is carried out by now
-pub record Asks (line : List ℕ) (user : User) (asked : Statement) : Type 0 where
-  pub start : ℕ
-  pub asks : AsksFrom start line user asked
-  pub served : is_served asked ≡ true
-
--- the byte of a line at which its first word stands, after blanks
-abbrev pub first_word : List ℕ → ℕ
-first_word line = prefix_len is_blank line
-
--- the line's one fault, at this byte of it; the last is a statement that is not carried out by now, at its first word
+-- the line's one fault, at this byte of it
 pub data IsFaulty (line : List ℕ) : Code → ℕ → Type 0 where
   address : {code : Code} {offset : ℕ} → addressed line ≡ Err (code, offset) → IsFaulty line code offset
   statement : {code : Code} (user : User) (start offset : ℕ) → addressed line ≡ Ok (user, start) → IsReadFault (drop start line) code offset → IsFaulty line code (start + offset)
-  unserved : (user : User) (start : ℕ) (asked : Statement) → AsksFrom start line user asked → is_served asked ≡ false → IsFaulty line codes.Expected (start + first_word (drop start line))
 
--- From old, this text may be written for the line, and new is the next world. The last two are for want of memory.
-pub data Answers (old : World) (line : List ℕ) : List ℕ → World → Type 0 where
-  faulty : {code : Code} {offset : ℕ} → IsFaulty line code offset → Answers old line (fault_text code offset) old
-  said : {new : World} (user : User) (asked : Statement) (reply : Reply) → Asks line user asked → Step old (events.Say 0 user asked) reply new → Answers old line (reply_text reply) new
-  unread : Answers old line unread_text old
-  lost : {new : World} (user : User) (asked : Statement) (reply : Reply) → Asks line user asked → Step old (events.Say 0 user asked) reply new → Answers old line lost_text new
+-- what may be written behind the text of a reply: of an export its records, or some of them and, for
+-- want of memory, that the rest is cut; of all else nothing
+abbrev pub TellsRecords : Reply → List ℕ → Type 0
+TellsRecords (replies.Export ticket) text = (text ≡ concat ticket.to_come) ⊎ ((n : ℕ) × (n < length ticket.to_come) × (text ≡ concat (take n ticket.to_come) ++ cut_text))
+TellsRecords reply text = text ≡ []
 
--- the text of a reply, or that it is lost
+-- what may be written of a reply: its text and its records, or, for want of memory, that it is lost
 abbrev pub Tells : Reply → List ℕ → Type 0
-Tells reply text = (text ≡ reply_text reply) ⊎ (text ≡ lost_text)
+Tells reply text = ((records : List ℕ) × TellsRecords reply records × (text ≡ reply_text reply ++ records)) ⊎ (text ≡ lost_text)
 
--- the text of a fault, or that the line was not read
-abbrev pub IsFaultTold : Code → ℕ → List ℕ → Type 0
-IsFaultTold code offset text = (text ≡ fault_text code offset) ⊎ (text ≡ unread_text)
+-- From old, this text may be written for the line itself, and new is the next world. The last is for
+-- want of memory.
+pub data AnswersLine (old : World) (line : List ℕ) : List ℕ → World → Type 0 where
+  faulty : {code : Code} {offset : ℕ} → IsFaulty line code offset → AnswersLine old line (fault_text code offset) old
+  said : {text : List ℕ} {new : World} (user : User) (asked : Statement) (reply : Reply) → Asks line user asked → Step old (events.Say 0 user asked) reply new → Tells reply text → AnswersLine old line text new
+  unread : AnswersLine old line unread_text old
+
+abbrev pub is_refused : Reply → Bool
+is_refused (replies.Refused at lack) = true
+is_refused reply = false
+
+-- From old, this text may be written for the step of the checkpointer after a line, and new is the next
+-- world: nothing; or, where the step found no memory, that the checkpoint is given up.
+pub data Follows (old : World) : List ℕ → World → Type 0 where
+  stepped : {new : World} (reply : Reply) → Step old events.Step reply new → is_refused reply ≡ false → Follows old [] new
+  gave_up : {text : List ℕ} {new : World} (mid : World) (refusal reply : Reply) → Step old events.Step refusal mid → is_refused refusal ≡ true → Step mid events.Abandon reply new → Tells reply text → Follows old text new
+
+-- From old, this text may be written for the line and the step after it, and new is the next world.
+pub record Answers (old : World) (line text : List ℕ) (new : World) : Type 0 where
+  pub first : List ℕ
+  pub mid : World
+  pub second : List ℕ
+  pub answered : AnswersLine old line first mid
+  pub followed : Follows mid second new
+  pub text_is : text ≡ first ++ second
 
 pub too_long : (line : List ℕ) → MAX_LINE < length line → addressed line ≡ Err (codes.TooLong, MAX_LINE)
 too_long line h = grind (arith, nat_tests)
 
+AnswersLine-too_long : (old new : World) (line other text : List ℕ) → MAX_LINE < length line → MAX_LINE < length other → AnswersLine old line text new → AnswersLine old other text new
+AnswersLine-too_long old _ line other _ h k (faulty (address e)) = faulty (address (too_long other k ∙ sym (too_long line h) ∙ e))
+AnswersLine-too_long old _ line other _ h k (faulty (statement user start offset e f)) = let l = too_long line h in cc
+AnswersLine-too_long old new line other _ h k (said user asked reply a step tells) = let l = too_long line h in let s = a.speaker in cc
+AnswersLine-too_long old _ line other _ h k unread = unread
+
 -- lines that are too long are answered alike
 pub Answers-too_long : (old new : World) (line other text : List ℕ) → MAX_LINE < length line → MAX_LINE < length other → Answers old line text new → Answers old other text new
-Answers-too_long old _ line other _ h k (faulty (address e)) = faulty (address (too_long other k ∙ sym (too_long line h) ∙ e))
-Answers-too_long old _ line other _ h k (faulty (statement user start offset e f)) = let l = too_long line h in cc
-Answers-too_long old _ line other _ h k (faulty (unserved user start asked a n)) = let l = too_long line h in let s = a.speaker in cc
-Answers-too_long old new line other _ h k (said user asked reply a step) = let l = too_long line h in let s = a.asks.speaker in cc
-Answers-too_long old _ line other _ h k unread = unread
-Answers-too_long old new line other _ h k (lost user asked reply a step) = let l = too_long line h in let s = a.asks.speaker in cc
+Answers-too_long old new line other text h k a = record {
+  first = a.first;
+  mid = a.mid;
+  second = a.second;
+  answered = AnswersLine-too_long old a.mid line other a.first h k a.answered;
+  followed = a.followed;
+  text_is = a.text_is;
+}
 
 abbrev pub never : World → Bool
 never w = false

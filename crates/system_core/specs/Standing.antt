@@ -1,16 +1,25 @@
--- How the tables and the rights stand to the journal.
-use Rattle.std.specs.Prelude.{ℕ, ◌≡◌, ◌≤◌, ◌<◌, ◌*◌, true, false, List, length}
+-- How the tables, the rights and the images stand to the journal.
+use Rattle.std.specs.Prelude.{ℕ, ◌≡◌, ◌≤◌, ◌<◌, ◌*◌, true, false, List, [], ◌∷◌, length, map, Option, Some, None, option_map, Ok}
 use Rattle.std.specs.List.{AllByRecursion}
 use Rattle.std.specs.Option.{option_map_or}
 use Rattle.base_core.specs.declared.name.Name.{Name}
+use Rattle.base_core.specs.declared.name.User.{User}
+use Rattle.base_core.specs.declared.value.Moment.{Moment}
+use Rattle.base_core.specs.declared.lack.Lack.TheVariants as lacks
 use Rattle.base_core.specs.declared.limits.Limits.{Limits}
 use Rattle.tables_core.specs.Contents.{Contents, table_of}
 use Rattle.grants_core.specs.Owners.{owner_of, was_granted}
 use Rattle.grants_core.specs.Content.{Content}
 use Rattle.grants_core.specs.History.{granted}
 use Rattle.system_core.specs.declared.event.Entry.{Entry}
-use Rattle.monitor_core.specs.Verdict.{is_table, columns_of}
+use Rattle.monitor_core.specs.Verdict.{Check, require, first_lack, is_table, columns_of}
+use Rattle.capture_core.specs.Image.{image, row_total, has}
+use Rattle.capture_core.specs.Capturing.{Active as Capture, Capturing}
+use Rattle.capture_core.specs.declared.image.Image.{Image}
+use Rattle.export_core.specs.Export.{held_then, holds_now}
 use Rattle.system_core.specs.Journal.{contents, changes, rights_at, IsLawful}
+use Rattle.system_core.specs.Exports.{journal_at}
+use Rattle.system_core.specs.World.{World, Active, AreSound}
 use Rattle.system_core.specs.Carrying.{most_columns, most_grants}
 
 -- how many rows were ever inserted into the table of this name
@@ -33,11 +42,64 @@ pub record IsSound (limits : Limits) (journal : List Entry) : Type 0 where
   pub narrow : (name : Name) → length (columns_of (contents journal) name) ≤ most_columns
   pub on_tables : AllByRecursion (λ g. is_table (contents journal) g.atom.table ≡ true) (granted (changes journal))
   pub made_few : (rights_at journal).made ≤ most_grants * length journal
+  pub rows_few : row_total (contents journal) ≤ length journal
 
--- what a system keeps
-pub record Stands (chunk : ℕ) (limits : Limits) (journal : List Entry) (tables : List (Name × Contents)) (rights : Content) : Type 0 where
-  pub some : 0 < chunk
-  pub small : chunk ≤ 64
+-- what a ledger stands for: the accepted changes, and the limits that they are judged by
+pub record Accepted : Type 0 where
+  pub journal : List Entry
+  pub limits : Limits
+
+-- what a ledger keeps
+pub record Stands (limits : Limits) (journal : List Entry) (tables : List (Name × Contents)) (rights : Content) : Type 0 where
   pub sound : IsSound limits journal
   pub tables_of : tables ≡ contents journal
   pub agree : AgreeOn (contents journal) rights (rights_at journal)
+
+-- ---- checkpoints
+-- an active capture, as a world has it
+abbrev pub shown : Capture → Active
+shown a = record { number = a.coming.number; point = a.coming.point; left = a.left }
+
+-- the world of a system with these accepted changes, this capture, and these kept images
+abbrev pub world_of : ℕ → Accepted → Capturing → List Image → World
+world_of chunk accepted capturing images = record {
+  journal = accepted.journal;
+  begun = capturing.begun;
+  finished = map (λ image. (image.number, image.point)) images;
+  active = option_map shown capturing.active;
+  chunk = chunk;
+  limits = accepted.limits;
+}
+
+-- what a checkpoint of this number keeps of a journal, at its point
+abbrev pub image_at : List Entry → ℕ → Moment → Image
+image_at journal number point = image number point (contents (journal_at journal point)) (rights_at (journal_at journal point))
+
+-- the image is what its checkpoint keeps of the journal, at a point of it
+pub record IsImageOf (journal : List Entry) (image : Image) : Type 0 where
+  pub past : image.point.0 ≤ length journal
+  pub is : image ≡ image_at journal image.number image.point
+
+abbrev pub IsComing : List Entry → Option Capture → Type 0
+IsComing journal None = Unit {0}
+IsComing journal (Some a) = IsImageOf journal a.coming
+
+-- what a system keeps
+pub record Holds (chunk : ℕ) (accepted : Accepted) (capturing : Capturing) (images : List Image) : Type 0 where
+  pub some : 0 < chunk
+  pub small : chunk ≤ 64
+  pub images_of : AllByRecursion (IsImageOf accepted.journal) images
+  pub coming_of : IsComing accepted.journal capturing.active
+  pub sound : AreSound (world_of chunk accepted capturing images)
+
+-- ---- exports of images
+-- the first lack of an export of the image, by the rights now
+abbrev pub image_check : Image → Content → User → Option Name → Check
+image_check image now user None = Ok tt
+image_check image now user (Some table) =
+    first_lack (
+    require (has image table) (lacks.NoTableThen table image.number)
+    ∷ require (held_then image user table) (lacks.NoSelectThen user table)
+    ∷ require (holds_now now user table) (lacks.NoSelectNow user table)
+    ∷ []
+    )

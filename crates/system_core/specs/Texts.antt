@@ -13,7 +13,10 @@ use Rattle.base_core.specs.declared.lack.What.{What}
 use Rattle.base_core.specs.declared.lack.What.TheVariants as whats
 use Rattle.lexer_core.specs.Codes.{code_number, code_text}
 use Rattle.lexer_core.specs.declared.fault.Code.{Code}
-use Rattle.system_core.specs.Record.{row_lines}
+use Rattle.export_core.specs.Record.{record_line, row_lines}
+use Rattle.export_core.specs.Ticket.{header_line}
+use Rattle.system_core.specs.declared.event.Checkpoint.{Checkpoint}
+use Rattle.system_core.specs.declared.event.Checkpoint.TheVariants as checkpoints
 use Rattle.system_core.specs.declared.event.Reply.{Reply}
 use Rattle.system_core.specs.declared.event.Reply.TheVariants as replies
 
@@ -69,13 +72,24 @@ abbrev pub refusal_text : ℕ → Lack → List ℕ
 refusal_text at lacks.Worn = codes "refused: worn\n"
 refusal_text at lack = stamped (codes "refused @") at lack
 
--- what is written of a reply
+-- a checkpoint, as it is listed
+abbrev pub checkpoint_line : Checkpoint → List ℕ
+checkpoint_line (checkpoints.Kept number point) = record_line (codes "finished" ∷ decimal number ∷ decimal point.0 ∷ [])
+checkpoint_line (checkpoints.Active number point left) = record_line (codes "active" ∷ decimal number ∷ decimal point.0 ∷ decimal left ∷ [])
+
+-- what is written of a reply, and of an export before its records
 abbrev pub reply_text : Reply → List ℕ
 reply_text (replies.Done at) = joined (codes "done @" ∷ decimal at.0 ∷ codes "\n" ∷ [])
 reply_text (replies.Rows at rows) = joined (codes "rows " ∷ decimal (length rows) ∷ codes " @" ∷ decimal at.0 ∷ codes "\n" ∷ row_lines rows ∷ [])
 reply_text (replies.Denied at lack) = stamped (codes "denied @") at.0 lack
 reply_text (replies.Refused at lack) = refusal_text at.0 lack
+reply_text (replies.Listed at entries) = joined (codes "checkpoints " ∷ decimal (length entries) ∷ codes " @" ∷ decimal at.0 ∷ codes "\n" ∷ flat_map checkpoint_line entries ∷ [])
+reply_text (replies.Begun number at) = joined (codes "checkpoint " ∷ decimal number ∷ codes " begun @" ∷ decimal at.0 ∷ codes "\n" ∷ [])
+reply_text (replies.Export ticket) = header_line ticket
+reply_text (replies.Abandoned number) = joined (codes "checkpoint " ∷ decimal number ∷ codes " abandoned\n" ∷ [])
 reply_text replies.Idle = []
+reply_text (replies.Stepped number left) = []
+reply_text (replies.Finished number) = []
 
 -- what is written of a line that is not read, with the byte of the line
 abbrev pub fault_text : Code → ℕ → List ℕ
@@ -88,3 +102,7 @@ unread_text = codes "refused: no memory\n"
 -- what is written of an event that was done, where its reply's text found no memory
 abbrev pub lost_text : List ℕ
 lost_text = codes "reply lost: no memory\n"
+
+-- what is written in place of the rest of an export, where its next record found no memory
+abbrev pub cut_text : List ℕ
+cut_text = codes "export cut: no memory\n"

@@ -1,6 +1,7 @@
 //! Events, replies, and the entries of the journal.
 
 use base_core::{Lack, Moment, Row, Sequence, User};
+use export_core::Ticket;
 use reader_core::Statement;
 
 /// An accepted change: through which pass, by whom, and what. Entry m, counted from 1, made moment m.
@@ -21,21 +22,73 @@ pub enum Event {
     },
     /// A step of the checkpointer.
     Step,
-    /// To give up the active capture.
+    /// To give up the active checkpoint.
     Abandon,
+}
+
+/// A checkpoint, as CHECKPOINTS lists it. Its point is the moment at which it was begun.
+#[derive(Clone, Copy, Debug)]
+pub enum Checkpoint {
+    /// It was finished, and is kept.
+    Kept {
+        number: u64,
+        point: Moment,
+    },
+    /// It is being captured, with so many records left.
+    Active {
+        number: u64,
+        point: Moment,
+        left: u64,
+    },
 }
 
 /// What the core answers.
 #[derive(Debug, Drop)]
 pub enum Reply {
     /// The change was accepted, and made this moment.
-    Done { at: Moment },
+    Done {
+        at: Moment,
+    },
     /// The rows of a query, at this moment.
-    Rows { at: Moment, rows: Sequence<Row> },
+    Rows {
+        at: Moment,
+        rows: Sequence<Row>,
+    },
+    /// The checkpoints that are kept at this moment, the oldest first, and then the active one.
+    Listed {
+        at: Moment,
+        entries: Sequence<Checkpoint>,
+    },
+    /// The checkpoint of this number was begun at this moment.
+    Begun {
+        number: u64,
+        at: Moment,
+    },
+    /// The export was allowed; its records are to be taken from the ticket.
+    Export(Ticket),
     /// Something is missing: lacks 11 to 20. Nothing changed.
-    Denied { at: Moment, lack: Lack },
+    Denied {
+        at: Moment,
+        lack: Lack,
+    },
     /// Something does not fit, or is full: lacks from 21 on. Nothing changed.
-    Refused { at: Moment, lack: Lack },
-    /// There is no capture.
+    Refused {
+        at: Moment,
+        lack: Lack,
+    },
+    /// No checkpoint is active.
     Idle,
+    /// So many records of this checkpoint are left.
+    Stepped {
+        number: u64,
+        left: u64,
+    },
+    /// This checkpoint is finished, and kept.
+    Finished {
+        number: u64,
+    },
+    /// This checkpoint was given up.
+    Abandoned {
+        number: u64,
+    },
 }

@@ -1,26 +1,31 @@
-//! The core: the journal of accepted changes, the tables and rights that it makes, and the answers to
-//! a script.
+//! The core: the journal of accepted changes, the tables and rights that it makes, the checkpoints of
+//! them, and the answers to a script.
 //!
-//! A [`System`] stands for a world: its journal, its chunk (the number of records in a step of the
-//! checkpointer) and its limits. The tables and the rights (owners, and grants in force) are not part
-//! of it, since they follow from the journal: the rights are those that a replay of its changes leaves,
-//! without the revoked grants and all that could not have been made without them. A moment is the
-//! number of accepted changes so far, and entry m of the journal, counted from 1, made moment m. Every
-//! entry was allowed at the journal before it.
+//! A [`System`] stands for a world: its journal; how many checkpoints were begun, those that are kept, each
+//! by its number and its point, and the active one with the number of its records that are left; its chunk
+//! (the number of records in a step of the checkpointer) and its limits. The tables, the rights (owners,
+//! and grants in force) and what a checkpoint has are not part of it, since they follow from the journal:
+//! the rights are those that a replay of its changes leaves, without the revoked grants and all that could
+//! not have been made without them, and a checkpoint has the tables and the rights of the journal as it was
+//! at its point. A moment is the number of accepted changes so far, and entry m of the journal, counted
+//! from 1, made moment m. Every entry was allowed at the journal before it.
 //!
 //! [`System::step`] is the one contract: it is a step of the machine from the world that the system
 //! stands for to the one after. A user's statement is judged at the journal, by the monitor's
-//! [`judge`](monitor_core::judge) and nothing else. What it allows is carried out, and a change is
-//! entered; else the first lack is the answer, as a denial or a refusal, and the world stays. Want of
-//! memory is a refusal too, and changes nothing; it never stands in place of a lack (a law of
-//! [`laws`]). Of the language's ten statements seven are carried out by now
-//! ([`is_served`]): CREATE TABLE, INSERT, SELECT, DELETE, UPDATE, GRANT and REVOKE. A step must not be
-//! asked another.
+//! [`judge`](monitor_core::judge), and then by the checkpoints. What is allowed is carried out, and a change
+//! is entered; else the first lack is the answer, as a denial or a refusal, and the world stays. A lack
+//! bears the moment, or, of what was missing at a checkpoint, its point. Want of memory is a refusal too,
+//! and changes nothing; it never stands in place of a lack (a law of [`laws`]).
 //!
 //! GRANT and REVOKE name lists, which are carried out whole or not at all: the lack is that of the first
 //! atom in the order written (of UPDATE without columns, of every column in table order), and of REVOKE
 //! for each atom that of the first user. [`System::changes`] gives the journal as changes of rights, and
 //! [`System::audit`] replays it and compares.
+//!
+//! CHECKPOINT begins a checkpoint, at most one at a time, and the events [`Step`](Event::Step) and
+//! [`Abandon`](Event::Abandon) carry it on or give it up. The last eight that were finished are kept.
+//! EXPORT answers a ticket, which tells of each table of a kept checkpoint what the user may select, then
+//! and now.
 //!
 //! ```text
 //! let mut system = System::new(alloc, 16)?;
@@ -29,16 +34,19 @@
 //! ```
 //!
 //! [`script`] reads lines `user: statement` and gives the writer the text of each reply before it looks
-//! at the next line; before it reads on, it flushes. Its contract is over bytes: what was written is
-//! answers to the lines of what was read, one after another, by the machine above. A statement that is
-//! read and not carried out by now is answered as not expected at its first word, and is no event.
+//! at the next line, and after an export's its records; before it reads on, it flushes. Each line, whatever
+//! it is, is followed by one step of the checkpointer; where that finds no memory, the checkpoint is given
+//! up, and the script says so. The contract is over bytes: what was written is answers to the lines of what
+//! was read, one after another, by the machine above.
 //!
 //! # Mechanism
 //!
-//! A change first makes room for its entry in the journal, then changes the tables or the rights, which
-//! on want of memory are as before, and then enters it. So at no point is a change half done. CREATE
-//! TABLE sets the owner before it makes the table. Where the table then finds no memory, the owner of a
-//! name that is no table is left; no verdict reads it, and the next creation of that name sets another.
+//! A `Ledger` has the journal, the tables and the rights; the system has it beside the active capture and
+//! the catalogue of the images that are kept. A change first makes room for its entry in the journal, then
+//! changes the tables or the rights, which on want of memory are as before, and then enters it. So at no
+//! point is a change half done. CREATE TABLE sets the owner before it makes the table. Where the table then
+//! finds no memory, the owner of a name that is no table is left; no verdict reads it, and the next creation
+//! of that name sets another.
 //!
 //! Judging goes over privileges, columns and users as they are written, without memory. A list of the
 //! atoms that they are is made only to carry them out.
@@ -52,27 +60,27 @@
 //! Beside the rights, a CREATE TABLE or an INSERT is constant, amortised, and a SELECT, DELETE or UPDATE
 //! goes over the rows of its table once. Rights are kept in plain lists: a question after one goes over
 //! the owners and, of who is not the owner, over all grants that were ever made; a CREATE TABLE goes over
-//! the owners, a REVOKE replays all grants, and an audit the whole journal. A line costs its bytes once.
-//! The journal keeps each change, the tables each row, and the rights each grant, also what was revoked.
+//! the owners, a REVOKE replays all grants, and an audit the whole journal. A CHECKPOINT copies all rows and
+//! grants in force, and its steps count; an EXPORT asks two rights of each table and then costs what it
+//! writes. A line costs its bytes once. The journal keeps each change, the tables each row, the rights each
+//! grant, also what was revoked, and each checkpoint all rows and grants of its point.
 #![tactic(auto)]
 
 mod atoms;
 mod carry;
 mod change;
+mod checkpoints;
 mod event;
 pub mod laws;
+mod ledger;
 mod lines;
-mod record;
-mod rows;
-mod served;
 mod system;
 mod texts;
 mod wording;
 
-pub use event::{Entry, Event, Reply};
+pub use event::{Checkpoint, Entry, Event, Reply};
 pub use lines::serve::SessionFault;
 pub use lines::server::script;
-pub use served::is_served;
 pub use system::System;
 pub use wording::reply_text;
 

@@ -1,47 +1,48 @@
-//! The core: the journal of accepted changes, and the tables and rights that it makes.
-ghost use Rattle.std.specs.Prelude.{◌≡◌, ◌+◌, ◌<◌, ◌≤◌, ◌++◌, ◌∷◌, [], true, false, All, length, map, Ok, Some, option_map, IsSome, IfOk, OnOk, OnErr, MatchResult, vec_len};
+//! The core: one event after another, each a step of the machine.
+ghost use Rattle.std.specs.Prelude.{ℕ, ◌≡◌, ◌<◌, ◌≤◌, ◌++◌, ◌∷◌, [], true, false, length, Ok, Some, IsSome, IfOk, MatchResult, vec_len};
 ghost use Rattle.std.specs.Vec.{vec_capacity};
 ghost use Rattle.base_core.specs.Full.{IsFull};
-ghost use Rattle.tables_core.specs.Contents.{selected, table_of};
-ghost use Rattle.monitor_core.specs.Verdict.{columns_of, is_change, allowed_by};
-ghost use Rattle.system_core.specs.Journal.{IsLawful, is_served, verdict_at, contents, changes};
 ghost use Rattle.grants_core.specs.History.{in_force_after};
-ghost use Rattle.system_core.specs.World.{opening, entry, moment_of, next_moment, entered, turned_away, columns_given, CarriesOut, Answers, IsServed, Step, Run, IsRunOfSome};
+ghost use Rattle.monitor_core.specs.Verdict.{first_lack, is_change};
+ghost use Rattle.tables_core.specs.Contents.{table_of};
+ghost use Rattle.reader_core.specs.declared.statement.Statement.TheVariants as statements;
+ghost use Rattle.system_core.specs.Journal.{verdict_at, contents, changes};
+ghost use Rattle.system_core.specs.World.{opening, entry, moment_of, IsLawfulWorld};
+ghost use Rattle.system_core.specs.Judging.{checkpoint_checks, verdict_of};
+ghost use Rattle.system_core.specs.Step.{turned_away, CarriesOut, Answers, Advances, GivesUp, Step, Run, IsRunOfSome};
 
-use crate::carry::carry_out;
-use crate::change::changes_of;
+use crate::checkpoints::{judged_at, listed, may_export};
 use crate::event::{Entry, Event, Reply};
-use base_core::{
-    Column, Condition, Distinct, Lack, Limits, Moment, Name, NoMemory, Row, Sequence, User,
-};
-use grants_core::{Authority, Change, Replay, audit};
-use monitor_core::{Allowed, columns_of, judge};
+use crate::ledger::Ledger;
+use base_core::{Condition, Distinct, Lack, Limits, Moment, Name, NoMemory, Sequence, User};
+use capture_core::{Capture, Progress};
+use catalogue_core::Catalogue;
+use export_core::Ticket;
+use grants_core::Change;
 use reader_core::{MAX_ITEMS, Statement};
 use std::alloc::{AllocError, Global};
 use std::marker::Model;
-use tables_core::Tables;
 
-/// The core. Contracts see the world that it stands for: the journal of accepted changes, the chunk,
-/// and the limits.
+/// The core. Contracts see the world that it stands for: the journal of accepted changes, the
+/// checkpoints, the chunk, and the limits.
 #[derive(Drop)]
 pub struct System {
     alloc: Global,
     chunk: usize,
-    limits: Limits,
-    journal: Vec<Entry>,
-    tables: Tables,
-    rights: Replay,
+    ledger: Ledger,
+    capture: Capture,
+    catalogue: Catalogue,
 }
 
 impl Model for System {
     ghost use Rattle.system_core.specs.World.{World};
-    ghost use Rattle.system_core.specs.Standing.{Stands};
+    ghost use Rattle.system_core.specs.Standing.{world_of, Holds};
 
     ghost Value = { World };
 
-    ghost view = { λ s. record { journal = s.journal.items; chunk = s.chunk; limits = s.limits } };
+    ghost view = { λ s. world_of s.chunk s.ledger s.capture s.catalogue };
 
-    ghost invariant = { λ s. Stands s.chunk s.limits s.journal.items s.tables s.rights };
+    ghost invariant = { λ s. Holds s.chunk s.ledger s.capture s.catalogue };
 }
 
 fn turn_away(at: Moment, lack: Lack) -> Reply
@@ -54,29 +55,12 @@ fn turn_away(at: Moment, lack: Lack) -> Reply
     }
 }
 
-fn names_of(alloc: Global, columns: &[Column]) -> Result<Vec<Name>, AllocError>
-    ensures { IfOk result (λ names. names.items ≡ map (λ c. c.name) columns.now) }
+fn no_memory(at: Moment) -> Reply
+    ensures { result ≡ Reply.Refused at Lack.NoMemory }
 {
-    columns.iter().map(|column| column.name).collect(alloc)
-}
-
-/// The rows of a table that the filter chooses, cut to the columns listed, or with no list to all.
-fn rows_of(
-    alloc: Global,
-    tables: &Tables,
-    list: &Option<Distinct<Name, MAX_ITEMS>>,
-    table: &Name,
-    filter: &[Condition],
-) -> Result<Vec<Row>, NoMemory>
-    requires { IsSome (table_of tables.now table.now) }
-    ensures { IfOk result (λ rows. option_map (selected (columns_given (columns_of tables.now table.now) list.now) filter.now) (table_of tables.now table.now) ≡ Some rows.items) }
-{
-    match list {
-        Some(names) => tables.select(table, names.as_slice(), filter),
-        None => {
-            let names = names_of(alloc, columns_of(tables, *table))?;
-            tables.select(table, &names, filter)
-        }
+    Reply::Refused {
+        at,
+        lack: Lack::NoMemory,
     }
 }
 
@@ -91,32 +75,13 @@ fn note(replies: &mut Vec<Reply>, reply: Reply)
     }
 }
 
-/// Enters into a journal that has room.
-fn enter(journal: &mut Vec<Entry>, entry: Entry)
-    requires { vec_len journal.old < vec_capacity journal.old }
-    ensures { journal.new.items ≡ journal.old.items ++ entry ∷ [] }
-{
-    match journal.push(entry) {
-        Ok(()) => {}
-        Err(_) => unreachable!(),
-    }
-}
-
-fn count(journal: &[Entry]) -> u64
-    ensures { result ≡ length journal.now }
-{
-    journal.len() as u64
-}
-
 impl System {
     /// Nothing entered, with full limits. The chunk is the number of records that a step of the
     /// checkpointer takes, from 1 to 64. `NoMemory` where a request for memory was refused.
     pub fn new(alloc: Global, chunk: usize) -> Result<System, NoMemory>
         requires some { 0 < chunk }
         requires small { chunk ≤ 64 }
-        ensures opening { IfOk result (λ s. s.journal ≡ []) }
-        ensures chunk { IfOk result (λ s. s.chunk ≡ chunk) }
-        ensures full { IfOk result (λ s. IsFull s.limits) }
+        ensures { IfOk result (λ s. IsFull s.limits × (s ≡ opening chunk s.limits)) }
     {
         System::with_limits(alloc, chunk, Limits::full())
     }
@@ -127,13 +92,13 @@ impl System {
         requires small { chunk ≤ 64 }
         ensures { IfOk result (λ s. s ≡ opening chunk limits) }
     {
+        let catalogue = Catalogue::new(alloc)?;
         Ok(System {
             alloc,
             chunk,
-            limits,
-            journal: Vec::new(alloc),
-            tables: Tables::new(alloc),
-            rights: Replay::new(alloc),
+            ledger: Ledger::new(alloc, limits),
+            capture: Capture::new(alloc),
+            catalogue,
         })
     }
 
@@ -141,17 +106,16 @@ impl System {
     pub fn moment(&self) -> Moment
         ensures { result ≡ moment_of self.now }
     {
-        let _ = &self.tables;
-        Moment(count(&self.journal))
+        self.ledger.moment()
     }
 
     /// The accepted changes, in order: entry m, counted from 1, made moment m. Each was allowed at
-    /// the journal before it.
+    /// the journal before it, and the checkpoints are as those of a world are.
     pub fn journal(&self) -> &[Entry]
         ensures journal { result.now ≡ self.now.journal }
-        ensures lawful { IsLawful self.now.limits self.now.journal }
+        ensures lawful { IsLawfulWorld self.now }
     {
-        self.journal.as_slice()
+        self.ledger.journal()
     }
 
     /// The accepted changes, each as what it changes of rights: the privileges of GRANT and REVOKE as
@@ -160,7 +124,7 @@ impl System {
     pub fn changes(&self) -> Result<Vec<Change>, NoMemory>
         ensures { IfOk result (λ found. found.items ≡ changes self.now.journal) }
     {
-        changes_of(self.alloc, &self.tables, self.journal.as_slice())
+        self.ledger.changes()
     }
 
     /// How many grants are in force, if they are exactly those that a replay of the journal leaves in
@@ -168,108 +132,157 @@ impl System {
     pub fn audit(&self) -> Result<Option<usize>, NoMemory>
         ensures { IfOk result (λ found. found ≡ Some (length (in_force_after (changes self.now.journal)))) }
     {
-        let changes = self.changes()?;
-        let live = self.rights.live()?;
-        let same = audit(self.alloc, &changes, &live)?;
-        Ok(if same { Some(live.len()) } else { None })
+        self.ledger.audit()
     }
 
-    fn judged(&self, user: &User, statement: &Statement) -> Result<Allowed, Lack>
-        ensures { result ≡ allowed_by (verdict_at self.now.limits self.now.journal user.now statement.now) statement.now }
-    {
-        let moment = Moment(count(&self.journal));
-        let (tables, rights) = (&self.tables, &self.rights);
-        judge(tables, rights, &self.limits, *user, statement, moment)
-    }
-
-    /// Carries out an allowed change, and enters it.
-    fn change(&mut self, entry: Entry) -> Result<(), NoMemory>
+    /// Carries out an allowed change.
+    fn change(&mut self, entry: Entry) -> Reply
         requires allowed { verdict_at self.old.limits self.old.journal entry.user entry.statement ≡ Ok tt }
         requires change { is_change entry.statement ≡ true }
-        ensures ok { OnOk result (self.new ≡ entered self.old entry) }
-        ensures err { OnErr result (self.new ≡ self.old) }
+        ensures { CarriesOut self.old entry result self.new }
     {
-        self.journal.reserve(1)?;
-        let moment = count(&self.journal);
-        carry_out(
-            self.alloc,
-            &mut self.tables,
-            &mut self.rights,
-            moment,
-            entry.user,
-            &entry.statement,
-        )?;
-        enter(&mut self.journal, entry);
-        Ok(())
+        let at = self.ledger.moment();
+        match self.ledger.change(entry) {
+            Ok(()) => Reply::Done {
+                at: Moment(at.0 + 1),
+            },
+            Err(NoMemory) => no_memory(at),
+        }
     }
 
-    /// Answers an allowed query.
-    fn query(&self, entry: &Entry) -> Reply
-        requires allowed { verdict_at self.now.limits self.now.journal entry.now.user entry.now.statement ≡ Ok tt }
-        requires query { is_change entry.now.statement ≡ false }
-        requires served { is_served entry.now.statement ≡ true }
-        ensures { CarriesOut self.now entry.now result self.now }
+    /// Answers a query of a table that stands.
+    fn select(
+        &self,
+        list: &Option<Distinct<Name, MAX_ITEMS>>,
+        table: &Name,
+        filter: &[Condition],
+    ) -> Reply
+        requires { IsSome (table_of (contents self.now.journal) table.now) }
+        ensures { (pass : ℕ) (user : User) → CarriesOut self.now (entry pass user (statements.Select list.now table.now filter.now)) result self.now }
     {
-        let at = self.moment();
+        let at = self.ledger.moment();
+        match self.ledger.select(list, table, filter) {
+            Ok(rows) => Reply::Rows {
+                at,
+                rows: Sequence::from_vec(rows),
+            },
+            Err(NoMemory) => no_memory(at),
+        }
+    }
+
+    /// Lists the checkpoints.
+    fn list(&self) -> Reply
+        ensures { (pass : ℕ) (user : User) → CarriesOut self.now (entry pass user statements.Checkpoints) result self.now }
+    {
+        let at = self.ledger.moment();
+        match listed(self.alloc, &self.catalogue, &self.capture) {
+            Ok(entries) => Reply::Listed { at, entries },
+            Err(NoMemory) => no_memory(at),
+        }
+    }
+
+    /// Begins a checkpoint, where none is active and there is room for one more.
+    fn begin(&mut self) -> Reply
+        ensures { (pass : ℕ) (user : User) → Answers self.old (entry pass user statements.Checkpoint) (first_lack (checkpoint_checks self.old user statements.Checkpoint)) result self.new }
+    {
+        let at = self.ledger.moment();
+        let limit = self.ledger.limits().checkpoints;
+        let (tables, rights) = (self.ledger.tables(), self.ledger.rights());
+        let number = match self.capture.begin(tables, rights, at, limit) {
+            Ok(number) => number,
+            Err(lack) => return turn_away(at, lack),
+        };
+        Reply::Begun { number, at }
+    }
+
+    /// Issues an export, where its checkpoint is kept and, of one table alone, that may be exported. A
+    /// table of which it is to be has to stand now.
+    fn export(&self, user: User, number: u64, only: Option<Name>) -> Reply
+        requires { verdict_at self.now.limits self.now.journal user (statements.Export number only) ≡ Ok tt }
+        ensures { (pass : ℕ) → Answers self.now (entry pass user (statements.Export number only)) (first_lack (checkpoint_checks self.now user (statements.Export number only))) result self.now }
+    {
+        let at = self.ledger.moment();
+        let rights = self.ledger.rights();
+        let Some(image) = self.catalogue.find(number) else {
+            return turn_away(at, Lack::NoCheckpoint(number));
+        };
+        if let Err(lack) = may_export(image, rights, &user, &only) {
+            return turn_away(judged_at(image.point, at, &lack), lack);
+        }
+        match Ticket::issue(self.alloc, image, user, rights, only, at) {
+            Ok(ticket) => Reply::Export(ticket),
+            Err(NoMemory) => no_memory(at),
+        }
+    }
+
+    /// Answers what is no change, as the monitor allowed it.
+    fn look(&mut self, entry: &Entry) -> Reply
+        requires allowed { verdict_at self.old.limits self.old.journal entry.now.user entry.now.statement ≡ Ok tt }
+        requires look { is_change entry.now.statement ≡ false }
+        ensures { Answers self.old entry.now (first_lack (checkpoint_checks self.old entry.now.user entry.now.statement)) result self.new }
+    {
         match &entry.statement {
             Statement::Select {
                 list,
                 table,
                 filter,
-            } => {
-                match rows_of(self.alloc, &self.tables, list, table, filter.as_slice()) {
-                    Ok(rows) => Reply::Rows {
-                        at,
-                        rows: Sequence::from_vec(rows),
-                    },
-                    Err(NoMemory) => Reply::Refused {
-                        at,
-                        lack: Lack::NoMemory,
-                    },
-                }
-            }
+            } => self.select(list, table, filter.as_slice()),
+            Statement::Checkpoint => self.begin(),
+            Statement::Checkpoints => self.list(),
+            Statement::Export { number, only } => self.export(entry.user, number.get(), *only),
             _ => unreachable!(),
         }
     }
 
-    /// Carries out what is allowed.
-    fn carry_out(&mut self, entry: Entry, allowed: Allowed) -> Reply
-        requires allowed { verdict_at self.old.limits self.old.journal entry.user entry.statement ≡ Ok tt }
-        requires judged { allowed.change ≡ is_change entry.statement }
-        requires served { is_served entry.statement ≡ true }
-        ensures { CarriesOut self.old entry result self.new }
+    fn say(&mut self, entry: Entry) -> Reply
+        ensures { Answers self.old entry (verdict_of self.old entry.user entry.statement) result self.new }
     {
-        if !allowed.change {
-            return self.query(&entry);
-        }
-        let at = Moment(count(&self.journal));
-        match self.change(entry) {
-            Ok(()) => Reply::Done {
-                at: Moment(at.0 + 1),
-            },
-            Err(NoMemory) => Reply::Refused {
-                at,
-                lack: Lack::NoMemory,
-            },
+        match self.ledger.judged(&entry.user, &entry.statement) {
+            Err(lack) => turn_away(self.ledger.moment(), lack),
+            Ok(allowed) => {
+                if allowed.change {
+                    self.change(entry)
+                } else {
+                    self.look(&entry)
+                }
+            }
         }
     }
 
-    fn say(&mut self, entry: Entry) -> Reply
-        requires { is_served entry.statement ≡ true }
-        ensures { Answers self.old entry (verdict_at self.old.limits self.old.journal entry.user entry.statement) result self.new }
+    /// A step of the checkpointer.
+    fn advance(&mut self) -> Reply
+        ensures { Advances self.old self.old.active result self.new }
     {
-        match self.judged(&entry.user, &entry.statement) {
-            Err(lack) => turn_away(self.moment(), lack),
-            Ok(allowed) => self.carry_out(entry, allowed),
+        let Some((number, _, _)) = self.capture.active() else {
+            return Reply::Idle;
+        };
+        let (tables, rights) = (self.ledger.tables(), self.ledger.rights());
+        match self.capture.step(tables, rights, self.chunk) {
+            Ok(Progress::Left(left)) => Reply::Stepped { number, left },
+            Ok(Progress::Done(image)) => {
+                self.catalogue.add(image);
+                Reply::Finished { number }
+            }
+            Ok(Progress::Idle) => Reply::Idle,
+            Err(NoMemory) => no_memory(self.ledger.moment()),
+        }
+    }
+
+    /// Gives the active checkpoint up.
+    fn give_up(&mut self) -> Reply
+        ensures { GivesUp self.old self.old.active result self.new }
+    {
+        let (tables, rights) = (self.ledger.tables(), self.ledger.rights());
+        match self.capture.abandon(tables, rights) {
+            Some(number) => Reply::Abandoned { number },
+            None => Reply::Idle,
         }
     }
 
     /// One event: a step of the machine. What the verdict allows is carried out, and a change is
     /// entered; else the reply names the first lack, and nothing changes. Want of memory is Refused
-    /// with NoMemory, and changes nothing. The statement must be one that is carried out by now:
-    /// CREATE TABLE, INSERT, SELECT, DELETE, UPDATE, GRANT or REVOKE.
+    /// with NoMemory, and changes nothing.
     pub fn step(&mut self, event: Event) -> Reply
-        requires { IsServed event }
         ensures { Step self.old event result self.new }
     {
         match event {
@@ -282,15 +295,14 @@ impl System {
                 user,
                 statement,
             }),
-            Event::Step | Event::Abandon => Reply::Idle,
+            Event::Step => self.advance(),
+            Event::Abandon => self.give_up(),
         }
     }
 
     /// One step after another. Where there is no memory to note a reply, the events before it were
-    /// done, with these replies, and no later one. Each statement must be one that is carried out
-    /// by now.
+    /// done, with these replies, and no later one.
     pub fn run(&mut self, events: Vec<Event>) -> Result<Vec<Reply>, (NoMemory, Vec<Reply>)>
-        requires { All IsServed events.items }
         ensures { MatchResult result (λ replies. Run self.old events.items replies.items self.new) (λ e. IsRunOfSome self.old events.items e.1.items self.new) }
     {
         let mut replies = Vec::new(self.alloc);

@@ -1,11 +1,13 @@
 //! The texts of replies and lacks.
 ghost use Rattle.std.specs.Prelude.{◌≡◌, ◌++◌, ◌∷◌, [], codes, decimal, IfOk, OnOk};
-ghost use Rattle.system_core.specs.Texts.{joined, kind_text, type_text, what_text, about_atom, stamped, lack_text, refusal_text, reply_text, fault_text};
+ghost use Rattle.std.specs.List.{flat_map};
+ghost use Rattle.export_core.specs.Ticket.{header_line};
+ghost use Rattle.system_core.specs.Texts.{joined, kind_text, type_text, what_text, about_atom, stamped, lack_text, refusal_text, checkpoint_line, reply_text, fault_text};
 
-use crate::event::Reply;
-use crate::rows::write_rows;
+use crate::event::{Checkpoint, Reply};
 use crate::texts::{push_all, push_bytes, push_number};
 use base_core::{Atom, ColType, Kind, Lack, Moment, Name, NoMemory, Row, User, What};
+use export_core::{Ticket, write_record, write_rows};
 use lexer_core::Code;
 use std::alloc::Global;
 
@@ -180,8 +182,58 @@ fn rows_text(mut text: Vec<u8>, at: Moment, rows: &[Row]) -> Result<Vec<u8>, NoM
     write_rows(text, rows)
 }
 
-/// The text of a reply, each line with its line feed: `done @m`; `rows N @m` and N records; `denied
-/// @m:` or `refused @m:` and what is missing; nothing for Idle. `NoMemory` where a request for memory
+fn write_checkpoint(text: Vec<u8>, checkpoint: &Checkpoint) -> Result<Vec<u8>, NoMemory>
+    ensures { IfOk result (λ longer. longer.items ≡ text.items ++ checkpoint_line checkpoint.now) }
+{
+    match checkpoint {
+        Checkpoint::Kept { number, point } => {
+            write_record(text, b"finished", &[*number, point.0])
+        }
+        Checkpoint::Active {
+            number,
+            point,
+            left,
+        } => write_record(text, b"active", &[*number, point.0, *left]),
+    }
+}
+
+fn write_checkpoints(mut text: Vec<u8>, entries: &[Checkpoint]) -> Result<Vec<u8>, NoMemory>
+    ensures { IfOk result (λ longer. longer.items ≡ text.items ++ flat_map checkpoint_line entries.now) }
+{
+    for checkpoint in entries {
+        text = write_checkpoint(text, checkpoint)?;
+    }
+    Ok(text)
+}
+
+fn listed_text(mut text: Vec<u8>, at: Moment, entries: &[Checkpoint]) -> Result<Vec<u8>, NoMemory>
+    ensures { IfOk result (λ longer. longer.items ≡ text.items ++ reply_text (Reply.Listed at entries.now)) }
+{
+    push_bytes(&mut text, b"checkpoints ")?;
+    push_number(&mut text, entries.len())?;
+    push_number_in(&mut text, b" @", at.0, b"\n")?;
+    write_checkpoints(text, entries)
+}
+
+fn push_begun(text: &mut Vec<u8>, number: u64, at: Moment) -> Result<(), NoMemory>
+    ensures { OnOk result (text.new.items ≡ text.old.items ++ reply_text (Reply.Begun number at)) }
+{
+    push_number_in(text, b"checkpoint ", number, b" begun @")?;
+    push_number_in(text, b"", at.0, b"\n")
+}
+
+fn push_header(text: &mut Vec<u8>, ticket: &Ticket) -> Result<(), NoMemory>
+    ensures { OnOk result (text.new.items ≡ text.old.items ++ header_line ticket.now) }
+{
+    push_number_in(text, b"export ", ticket.number(), b" point ")?;
+    push_number_in(text, b"", ticket.point().0, b" @")?;
+    push_number_in(text, b"", ticket.at().0, b"\n")
+}
+
+/// The text of a reply, each line with its line feed: `done @m`; `rows N @m` and N records;
+/// `checkpoints N @m` and N records; `checkpoint n begun @m` or `checkpoint n abandoned`; of an export
+/// the line before its records, `export n point p @m`; `denied @m:` or `refused @m:` and what is
+/// missing; nothing for the other replies of the checkpointer. `NoMemory` where a request for memory
 /// was refused.
 pub fn reply_text(alloc: Global, reply: &Reply) -> Result<Vec<u8>, NoMemory>
     ensures { IfOk result (λ text. text.items ≡ reply_text reply.now) }
@@ -190,9 +242,15 @@ pub fn reply_text(alloc: Global, reply: &Reply) -> Result<Vec<u8>, NoMemory>
     match reply {
         Reply::Done { at } => push_number_in(&mut text, b"done @", at.0, b"\n")?,
         Reply::Rows { at, rows } => return rows_text(text, *at, rows.as_slice()),
+        Reply::Listed { at, entries } => return listed_text(text, *at, entries.as_slice()),
+        Reply::Begun { number, at } => push_begun(&mut text, *number, *at)?,
+        Reply::Export(ticket) => push_header(&mut text, ticket)?,
         Reply::Denied { at, lack } => push_stamped(&mut text, b"denied @", *at, lack)?,
         Reply::Refused { at, lack } => push_refusal(&mut text, *at, lack)?,
-        Reply::Idle => {}
+        Reply::Abandoned { number } => {
+            push_number_in(&mut text, b"checkpoint ", *number, b" abandoned\n")?
+        }
+        Reply::Idle | Reply::Stepped { .. } | Reply::Finished { .. } => {}
     }
     Ok(text)
 }

@@ -24,11 +24,11 @@
 //! ```
 //!
 //! A table is found by its name in constant time, by a hash, however many tables there are. So
-//! `len`, `is_empty`, `name_at`, `owner`, `columns`, `row_count` and `inserted` take constant time,
-//! and `create` and `insert` too, but for a growth now and then that moves what is there. `column`
-//! goes over the table's columns. `select` and `delete` go once over the rows of the table and
-//! `update` twice, with the filter at each row; to that `select` adds the copies of the values that
-//! it gives, and `update` one copy of the assignments for each chosen row. `create`, `insert`,
+//! `len`, `is_empty`, `name_at`, `at`, `owner`, `columns`, `row_count` and `inserted` take constant
+//! time, and `create` and `insert` too, but for a growth now and then that moves what is there.
+//! `column` goes over the table's columns. `select` and `delete` go once over the rows of the table
+//! and `update` twice, with the filter at each row; to that `select` adds the copies of the values
+//! that it gives, and `update` one copy of the assignments for each chosen row. `create`, `insert`,
 //! `select` and `update` take memory, and no other call does.
 #![tactic(auto)]
 
@@ -38,7 +38,8 @@ mod table;
 mod tables;
 
 pub use laws::{look_ups_after_changes, numbers_rise};
-pub use tables::Tables;
+pub use rows::NumberedRow;
+pub use tables::{TableView, Tables};
 
 #[cfg(test)]
 mod tests;

@@ -60,6 +60,13 @@ impl Table {
         self.inserted
     }
 
+    /// The rows, in the order of their numbers.
+    pub fn rows(&self) -> &[NumberedRow]
+        ensures { result.now ≡ self.now.rows }
+    {
+        &self.rows
+    }
+
     /// Appends a row under the next number.
     pub fn insert(&mut self, row: Row) -> Result<(), NoMemory>
         requires { self.old.inserted < 2 ^ 63 }

@@ -3,11 +3,24 @@ ghost use Rattle.std.specs.Prelude.{◌≡◌, ◌<◌, ◌^◌, ◌↔◌, ◌+
 ghost use Rattle.std.specs.Option.{option_copied, option_map_or};
 ghost use Rattle.tables_core.specs.Contents.{opened, with_row, deleted, updated, selected, table_of, column_of, with_change};
 
+use crate::rows::NumberedRow;
 use crate::table::Table;
 use base_core::{Assignment, Column, Condition, Name, NoMemory, Row, Sequence, User, place_of};
 use indexmap::IndexMap;
 use std::alloc::Global;
 use std::marker::Model;
+
+/// One of several tables, to look at. It is `Copy`.
+#[derive(Clone, Copy, Debug)]
+pub struct TableView<'a> {
+    pub name: Name,
+    pub owner: User,
+    pub columns: &'a [Column],
+    /// How many rows were ever inserted: the number of the next one.
+    pub inserted: u64,
+    /// The rows that the table has, each with its number, in the order of these.
+    pub rows: &'a [NumberedRow],
+}
 
 /// Tables in the order of their creation. Contracts see the list of them, each with its name.
 #[derive(Drop)]
@@ -58,6 +71,21 @@ impl Tables {
     {
         let (name, _) = self.tables.get_index(index)?;
         Some(*name)
+    }
+
+    /// The table at this place in the order of creation, counted from 0. None from the number of
+    /// tables on. With it all tables can be gone through, row by row.
+    pub fn at(&self, index: usize) -> Option<TableView<'_>>
+        ensures { option_map (λ v. (v.name, record { owner = v.owner; columns = v.columns.now; inserted = v.inserted; rows = v.rows.now })) result ≡ slice_get self.now index }
+    {
+        let (name, table) = self.tables.get_index(index)?;
+        Some(TableView {
+            name: *name,
+            owner: table.owner(),
+            columns: table.columns(),
+            inserted: table.inserted(),
+            rows: table.rows(),
+        })
     }
 
     /// The owner of the table of this name. None where there is no such table.

@@ -2,7 +2,7 @@
 ghost use Rattle.std.specs.Prelude.{◌≡◌, ◌≤◌, IfOk, length};
 ghost use Rattle.std.specs.List.{list_all};
 ghost use Rattle.lexer_core.specs.Lexing.{is_blank};
-ghost use Rattle.system_core.specs.Script.{addressed, addressed_by, first_word};
+ghost use Rattle.system_core.specs.Script.{addressed, addressed_by};
 
 use base_core::{Name, User};
 use lexer_core::{Code, MAX_LINE, MAX_NAME, byte_at, is_blank, word_len};
@@ -11,14 +11,6 @@ fn is_blank_line(line: &[u8]) -> bool
     ensures { result ≡ list_all is_blank line.now }
 {
     line.iter().all(|byte| is_blank(*byte))
-}
-
-/// The byte at which the first word stands, after blanks.
-pub fn first_word(line: &[u8]) -> usize
-    ensures byte { result ≡ first_word line.now }
-    ensures within { result ≤ length line.now }
-{
-    line.iter().take_while(|byte| is_blank(**byte)).count()
 }
 
 /// The user whose word of so many bytes stands at the front, and the place behind its colon.

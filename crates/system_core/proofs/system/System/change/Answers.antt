@@ -1,24 +1,11 @@
-use Rattle.std.proofs.Common.{◌≡◌, ℕ, Ok, ap, sym, subst, ◌∙◌, length}
-use Rattle.system_core.specs.Journal.{verdict_at, change_of}
-use Rattle.system_core.specs.Carrying.{CanCarry, rights_after}
-use Rattle.system_core.proofs.Keeping.{CanCarry-stands, Stands-more, Stands-left}
+use Rattle.std.proofs.Common.{sym, subst}
+use Rattle.system_core.specs.Standing.{Accepted, Holds}
+use Rattle.system_core.proofs.Holding.{holds-entered, by_result}
 use Rattle.system_core.proofs.system.System.change.Goals as goal
 
-pub carry_out-requires-clause-can : goal.carry_out-requires-clause-can
-carry_out-requires-clause-can c =
-    let ok : verdict_at c.self.inside.limits c.self.inside.journal.items c.args.entry.user c.args.entry.statement ≡ Ok tt = rw (← c.self.view_is) at c.requires.allowed in
-    let moment : c.count-moment.result ≡ length c.self.inside.journal.items = c.count-moment.ensures ∙ ap length (c.deref.ensures.value ∙ c.in_ok-reserve.ensures.items) in
-    let At : ℕ → Type 0 = λ m. CanCarry c.self.inside.tables c.self.inside.rights m c.args.entry.user c.args.entry.statement in
-    subst At (sym moment) (CanCarry-stands c.self.inside.chunk c.self.inside.limits c.self.inside.journal.items c.self.inside.tables c.self.inside.rights c.self.invariant c.args.entry.user c.args.entry.statement c.requires.change ok)
-
-pub invariant_of-self-in_err-carry_out : goal.invariant_of-self-in_err-carry_out
-invariant_of-self-in_err-carry_out c =
-    let ok : verdict_at c.self.inside.limits c.self.inside.journal.items c.args.entry.user c.args.entry.statement ≡ Ok tt = rw (← c.self.view_is) at c.requires.allowed in
-    rw c.in_ok-reserve.ensures.items (Stands-left c.self.inside.chunk c.self.inside.limits c.self.inside.journal.items c.self.inside.tables c.self.inside.rights c.self.invariant c.carry_out.new.tables c.carry_out.new.rights c.args.entry ok c.in_err-carry_out.ensures.same c.in_err-carry_out.ensures.leaves)
-
-pub invariant_of-self-2 : goal.invariant_of-self-2
-invariant_of-self-2 c =
-    let ok : verdict_at c.self.inside.limits c.self.inside.journal.items c.args.entry.user c.args.entry.statement ≡ Ok tt = rw (← c.self.view_is) at c.requires.allowed in
-    let moment : c.count-moment.result ≡ length c.self.inside.journal.items = c.count-moment.ensures ∙ ap length (c.deref.ensures.value ∙ c.in_ok-reserve.ensures.items) in
-    rw (c.enter.ensures, c.in_ok-reserve.ensures.items) (Stands-more c.self.inside.chunk c.self.inside.limits c.self.inside.journal.items c.self.inside.tables c.self.inside.rights c.self.invariant c.carry_out.new.tables c.carry_out.new.rights c.args.entry ok c.requires.change
-    c.in_ok-carry_out.ensures.tables (c.in_ok-carry_out.ensures.rights ∙ ap (λ m. rights_after c.self.inside.rights m (change_of c.self.inside.tables c.args.entry.user c.args.entry.statement)) moment) c.in_ok-carry_out.ensures.narrow c.in_ok-carry_out.ensures.few)
+pub invariant_of-self : goal.invariant_of-self
+invariant_of-self c =
+    let At : Accepted → Type 0 = λ l. Holds c.self.inside.chunk l c.self.inside.capture c.self.inside.catalogue in
+    by_result c.change.result c.change.ensures.ok c.change.ensures.err
+    (λ e. subst At (sym e) (holds-entered c.self.inside.chunk c.self.inside.ledger c.self.inside.capture c.self.inside.catalogue c.args.entry c.self.invariant))
+    (λ e. subst At (sym e) c.self.invariant)

@@ -1,5 +1,5 @@
 use Rattle.std.proofs.Common.{◌≡◌, ◌++◌}
-use Rattle.system_core.specs.World.{Run}
+use Rattle.system_core.specs.Step.{Run}
 use Rattle.system_core.proofs.system.System.run.Given as goal
 
 -- the events so far were done, and the others are left

@@ -1,0 +1,5 @@
+pub mod Image
+pub mod Capturing
+pub mod Laws
+pub use Rattle.tables_core.specs.Contents
+pub use Rattle.grants_core.specs.Content

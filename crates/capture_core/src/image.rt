@@ -1,0 +1,78 @@
+//! What a checkpoint keeps.
+ghost use Rattle.std.specs.Prelude.{◌≡◌, false, find};
+ghost use Rattle.std.specs.List.{list_any};
+ghost use Rattle.std.specs.Option.{option_copied};
+ghost use Rattle.base_core.specs.Words.{same_name};
+ghost use Rattle.grants_core.specs.Content.{gives};
+ghost use Rattle.capture_core.specs.Image as images;
+
+use base_core::{Atom, Column, Moment, Name, Row, Sequence, User};
+use grants_core::Grant;
+
+/// A table as it stood at a checkpoint's point.
+#[derive(Debug, Drop)]
+pub struct TableImage {
+    pub name: Name,
+    pub owner: User,
+    pub columns: Sequence<Column>,
+    /// In the order in which they were inserted.
+    pub rows: Sequence<Row>,
+}
+
+/// The state at a checkpoint's point.
+#[derive(Debug, Drop)]
+pub struct Image {
+    /// The number of the checkpoint, from 1 on.
+    pub number: u64,
+    /// The moment of the state: how many changes were accepted before it was begun.
+    pub point: Moment,
+    /// All tables, in the order of their creation.
+    pub tables: Sequence<TableImage>,
+    /// The grants in force, in the order of their numbers.
+    pub grants: Sequence<Grant>,
+}
+
+fn any_gives(grants: &[Grant], user: &User, atom: &Atom) -> bool
+    ensures { result ≡ list_any (gives user.now atom.now) grants.now }
+{
+    grants.iter().any(|grant| grant.gives(user, atom))
+}
+
+impl Image {
+    fn table(&self, name: &Name) -> Option<&TableImage>
+        ensures { option_copied result ≡ find (λ t. same_name name.now t.name) self.now.tables }
+    {
+        self.tables
+            .as_slice()
+            .iter()
+            .find(|table| *name == table.name)
+    }
+
+    /// Whether a table of this name stood at the point. It takes no memory.
+    pub fn has(&self, name: &Name) -> bool
+        ensures { result ≡ images.has self.now name.now }
+    {
+        self.tables
+            .as_slice()
+            .iter()
+            .any(|table| *name == table.name)
+    }
+
+    #[tactic(auto, unfolding(crate::specs::Image::owns))]
+    fn owns(&self, user: &User, atom: &Atom) -> bool
+        ensures { result ≡ images.owns self.now user.now atom.now }
+    {
+        match self.table(&atom.table) {
+            Some(table) => table.owner == *user,
+            None => false,
+        }
+    }
+
+    /// Whether the user held the atom at the point: he owned its table, or a grant that was in force
+    /// gave it to him (Griffiths and Wade 1976). It takes no memory.
+    pub fn holds(&self, user: User, atom: &Atom) -> bool
+        ensures { result ≡ images.holds self.now user atom.now }
+    {
+        self.owns(&user, atom) || any_gives(self.grants.as_slice(), &user, atom)
+    }
+}

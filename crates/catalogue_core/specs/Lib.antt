@@ -1,0 +1,2 @@
+pub mod Kept
+pub use Rattle.capture_core.specs.Image

@@ -1,0 +1,10 @@
+mod CsvLaw
+mod Fields
+mod PlainNames
+mod Places
+mod Giving
+mod WalkLemmas
+mod Alone
+mod Issuing
+mod Listing
+mod WorkedExamples

@@ -1,0 +1,67 @@
+-- The definitions on worked examples, computed.
+use Rattle.std.proofs.Common.{◌≡◌, ℕ, pos, true, false, List, [], ◌∷◌, None, Some, codes, refl}
+use Rattle.std.specs.Fmt.{digits}
+use Rattle.base_core.specs.declared.name.User.{User}
+use Rattle.base_core.specs.declared.value.Row.{Row}
+use Rattle.base_core.specs.declared.value.ColType.TheVariants.{Integer}
+use Rattle.base_core.specs.declared.value.Value.TheVariants as values
+use Rattle.grants_core.specs.declared.grant.Grant.{Grant}
+use Rattle.grants_core.specs.Owners.{owns}
+use Rattle.grants_core.specs.Content.{Content, gives}
+use Rattle.capture_core.specs.Image.{owns as owned}
+use Rattle.capture_core.specs.declared.image.Image.{Image}
+use Rattle.capture_core.specs.declared.image.TableImage.{TableImage}
+use Rattle.export_core.specs.Export.{export, to_select}
+
+-- users, the table and its column are named by one letter
+abbrev o : User
+o = record { 0 = codes "o" }
+
+abbrev u : User
+u = record { 0 = codes "u" }
+
+abbrev row : ℕ → Row
+row n = record { values = values.Int (pos n) ∷ [] }
+
+-- the table t of o, with the column v
+abbrev table : List Row → TableImage
+table rows = record { name = codes "t"; owner = o; columns = record { name = codes "v"; ty = Integer } ∷ []; rows = rows }
+
+-- o granted SELECT of t to u
+abbrev grant : Grant
+grant = record { number = 0; moment = record { 0 = 3 }; atom = to_select (codes "t"); grantor = o; grantee = u; option = false }
+
+abbrev rights : List Grant → Content
+rights grants = record { owners = record { table = codes "t"; owner = o; granted = true } ∷ []; in_force = grants; made = 1 }
+
+abbrev image : List TableImage → List Grant → Image
+image tables grants = record { number = 1; point = record { 0 = 4 }; tables = tables; grants = grants }
+
+kept_value : export (image (table (row 1 ∷ row 2 ∷ row 3 ∷ []) ∷ []) []) (rights []) o None
+    ≡ codes "table,t,v\n" ∷ codes "row,1\n" ∷ codes "row,2\n" ∷ codes "row,3\n" ∷ codes "end 1\n" ∷ []
+unfolding owns gives owned digits
+kept_value = refl
+
+-- revoked after the point
+captured_grants : export (image (table (row 7 ∷ []) ∷ []) (grant ∷ [])) (rights []) u None ≡ codes "withheld,t,now\n" ∷ codes "end 1\n" ∷ []
+unfolding owns gives owned digits
+captured_grants = refl
+
+-- and granted again
+granted_again : export (image (table (row 7 ∷ []) ∷ []) (grant ∷ [])) (rights (grant ∷ [])) u (Some (codes "t"))
+    ≡ codes "table,t,v\n" ∷ codes "row,7\n" ∷ codes "end 1\n" ∷ []
+unfolding owns gives owned digits
+granted_again = refl
+
+granted_after_point : export (image (table (row 7 ∷ []) ∷ []) []) (rights (grant ∷ [])) u None ≡ codes "withheld,t,point\n" ∷ codes "end 1\n" ∷ []
+unfolding owns gives owned digits
+granted_after_point = refl
+
+held_at_neither : export (image (table (row 7 ∷ []) ∷ []) []) (rights []) u None ≡ codes "withheld,t,point\n" ∷ codes "end 1\n" ∷ []
+unfolding owns gives owned digits
+held_at_neither = refl
+
+-- a checkpoint of nothing
+nothing_but_the_end : export (image [] []) (rights []) u None ≡ codes "end 1\n" ∷ []
+unfolding digits
+nothing_but_the_end = refl

@@ -1,0 +1,39 @@
+-- How a ticket's fields stand for an export on its way.
+use Rattle.std.specs.Prelude.{◌≡◌, ℕ, ◌+◌, ◌<◌, ◌≤◌, true, if◌then◌else◌, List, [], ◌∷◌, ◌++◌, length, take, drop, zip, flat_map, slice_get, None, MatchOption}
+use Rattle.std.specs.Arc.{arc_value}
+use Rattle.capture_core.specs.declared.image.TableImage.{TableImage}
+use Rattle.export_core.specs.Export.{told, end_line}
+use Rattle.export_core.specs.Ticket.{Exporting}
+use Rattle.export_core.specs.declared.judgement.Judgement.{Judgement}
+use Rattle.export_core.specs.declared.ticket.Ticket.TheInside.{Inside}
+
+-- a table and how it was judged
+abbrev pub told_of : TableImage × Judgement → List (List ℕ)
+told_of pair = told pair.1 pair.0
+
+-- the tables of the export, each with its judgement
+abbrev pub judged : Inside → List (TableImage × Judgement)
+judged t = zip (drop t.first (arc_value t.image).tables) t.judgements.items
+
+abbrev pub all_records : Inside → List (List ℕ)
+all_records t = flat_map told_of (judged t) ++ end_line (arc_value t.image).number ∷ []
+
+-- how many of them were given
+abbrev pub count_given : Inside → ℕ
+count_given t = length (flat_map told_of (take t.told (judged t))) + t.lines + (if t.ended then 1 else 0)
+
+abbrev pub exporting : Inside → Exporting
+exporting t = record {
+  number = (arc_value t.image).number;
+  point = (arc_value t.image).point;
+  at = t.at;
+  given = take (count_given t) (all_records t);
+  to_come = drop (count_given t) (all_records t);
+}
+
+-- the judgements are of tables of the image; the next line is one of the table after those that were
+-- told whole, or the end
+pub record IsUnderWay (t : Inside) : Type 0 where
+  pub fits : t.first + length t.judgements.items ≤ length (arc_value t.image).tables
+  pub next : MatchOption (slice_get (judged t) t.told) (t.lines ≡ 0) (λ pair. t.lines < length (told_of pair))
+  pub end : t.ended ≡ true → slice_get (judged t) t.told ≡ None

@@ -1,0 +1,64 @@
+//! Exports: what a user is told of a checkpoint, record by record.
+//!
+//! An export goes over the tables of a checkpoint's [`Image`](capture_core::Image) in the order of their
+//! creation. A table is listed, with its columns and its rows, where the user held SELECT of it at the
+//! checkpoint's point, by the owners and grants captured there, and holds it at the request, by those in
+//! force then. Else it is withheld, and one record says so and names the moment at which SELECT was
+//! missing: the point, or now; the point where it was missing at both. The last record has the number of
+//! the checkpoint. An export of one table alone tells that table and the end.
+//!
+//! ```text
+//! table,pay,name,wage
+//! row,"Bo, jr",-5
+//! withheld,tax,point
+//! withheld,log,now
+//! end 1
+//! ```
+//!
+//! A [`Ticket`] stands for an export on its way: the numbers of its header, the records given so far, and
+//! those to come. The one contract: [`Ticket::issue`] judges each table once and fixes the records to
+//! come, and from then on each call moves records from those to come to those given, the next ones in
+//! order, and hands out or writes exactly these. What is granted or revoked later changes nothing in an
+//! export that was issued. `specs/Export.antt` says what the records are, and `specs/Ticket.antt` what
+//! the calls do.
+//!
+//! ```text
+//! let mut ticket = Ticket::issue(alloc, &image, ann, &rights, None, Moment(6))?;
+//! ticket.next_record()?;            // Some: table,t,v
+//! ticket.write_to(&mut writer)?;    // row,1 and what follows, up to the end
+//! ticket.next_record()?;            // None
+//! ```
+//!
+//! # Records
+//!
+//! A record is a line of at least two fields with commas between them. A field is in quotes exactly where
+//! it has a comma or a quote, and a quote inside is doubled; the line ends with a line feed. It is
+//! written by `csv`, whose text of fields without control characters is this one; names, texts and
+//! numbers have none. Rows that follow each other are written by one writer of `csv`, since its buffer
+//! costs more than a row's text. The last record of an export alone is of another form: two words.
+//! [`write_rows`] and [`write_record`] are there for other lists of records too.
+//!
+//! # Cost
+//!
+//! A ticket keeps the image's `Arc`, one judgement a table, and where it is; nothing of the image is
+//! copied. To issue one looks up two rights for each of its tables, and takes memory for the judgements
+//! and for another owner of the image. A record costs its own bytes; at `next_record` it costs a buffer of
+//! `csv` too, at `write_to` and `write_rows` one buffer serves many rows. `write_to` makes each record
+//! after it has written the one before, and keeps the text of at most 128 rows.
+#![tactic(auto)]
+
+mod fault;
+mod judgement;
+pub mod laws;
+mod lines;
+mod record;
+mod rows;
+mod ticket;
+
+pub use fault::ExportFault;
+pub use record::{Field, write_record};
+pub use rows::write_rows;
+pub use ticket::Ticket;
+
+#[cfg(test)]
+mod tests;

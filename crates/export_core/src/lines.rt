@@ -1,0 +1,96 @@
+//! The lines of an export.
+ghost use Rattle.std.specs.Prelude.{◌≡◌, ◌+◌, ◌<◌, length, slice_get, IfOk, MatchOption};
+ghost use Rattle.export_core.specs.Export as lines;
+ghost use Rattle.export_core.specs.Export.{told};
+ghost use Rattle.export_core.specs.Record.{IsPlain, row_line};
+
+use crate::judgement::Judgement;
+use crate::record::{Field, begin, end, finish, put_field, put_fields, write_record, writer_after};
+use base_core::{Name, NoMemory, Row};
+use capture_core::TableImage;
+use itoa::Buffer;
+use std::alloc::Global;
+
+fn table_line(alloc: Global, table: &TableImage) -> Result<Vec<u8>, NoMemory>
+    ensures { IfOk result (λ line. line.items ≡ lines.table_line table.now) }
+{
+    let mut writer = writer_after(Vec::new(alloc));
+    begin(&mut writer, b"table")?;
+    table.name.put(&mut writer)?;
+    put_fields(&mut writer, table.columns.as_slice())?;
+    end(&mut writer)?;
+    finish(writer)
+}
+
+fn withheld_line(alloc: Global, table: &Name, missing: &[u8]) -> Result<Vec<u8>, NoMemory>
+    requires { IsPlain missing.now }
+    ensures { IfOk result (λ line. line.items ≡ lines.withheld_line table.now missing.now) }
+{
+    let mut writer = writer_after(Vec::new(alloc));
+    begin(&mut writer, b"withheld")?;
+    table.put(&mut writer)?;
+    put_field(&mut writer, missing)?;
+    end(&mut writer)?;
+    finish(writer)
+}
+
+/// The last line, with the number of the checkpoint.
+pub fn end_line(alloc: Global, number: u64) -> Result<Vec<u8>, NoMemory>
+    ensures { IfOk result (λ line. line.items ≡ lines.end_line number) }
+{
+    let mut digits = Buffer::new();
+    let mut line = Vec::new(alloc);
+    line.extend_from_slice(b"end ")?;
+    line.extend_from_slice(digits.format(number).as_bytes())?;
+    line.push(b'\n')?;
+    Ok(line)
+}
+
+/// The row whose line is the one at `index` of a listed table. None where that is the table's own.
+pub fn row_at(table: &TableImage, index: usize) -> Option<&Row>
+    requires { index < length (lines.listed table.now) }
+    ensures { MatchOption result (index ≡ 0) (λ row. slice_get (lines.listed table.now) index ≡ Some (row_line row.now.values)) }
+{
+    if index == 0 {
+        return None;
+    }
+    Some(&table.rows.as_slice()[index - 1])
+}
+
+fn listed_line(alloc: Global, table: &TableImage, index: usize) -> Result<Vec<u8>, NoMemory>
+    requires { index < length (lines.listed table.now) }
+    ensures { IfOk result (λ line. slice_get (lines.listed table.now) index ≡ Some line.items) }
+{
+    match row_at(table, index) {
+        None => table_line(alloc, table),
+        Some(row) => write_record(Vec::new(alloc), b"row", row.values.as_slice()),
+    }
+}
+
+/// The line at `index` of those that are told of the table.
+pub fn told_line(
+    alloc: Global,
+    table: &TableImage,
+    judgement: Judgement,
+    index: usize,
+) -> Result<Vec<u8>, NoMemory>
+    requires { index < length (told judgement table.now) }
+    ensures { IfOk result (λ line. slice_get (told judgement table.now) index ≡ Some line.items) }
+{
+    match judgement {
+        Judgement::Listed => listed_line(alloc, table, index),
+        Judgement::WithheldThen => withheld_line(alloc, &table.name, b"point"),
+        Judgement::WithheldNow => withheld_line(alloc, &table.name, b"now"),
+    }
+}
+
+/// The index of the line after the one at `index`. None where that is the last that is told of the table.
+pub fn next_index(table: &TableImage, judgement: Judgement, index: usize) -> Option<usize>
+    requires { index < length (told judgement table.now) }
+    ensures { MatchOption result (index + 1 ≡ length (told judgement table.now)) (λ next. (next ≡ index + 1) × (next < length (told judgement table.now))) }
+{
+    match judgement {
+        Judgement::Listed if index < table.rows.len() => Some(index + 1),
+        Judgement::Listed | Judgement::WithheldThen | Judgement::WithheldNow => None,
+    }
+}

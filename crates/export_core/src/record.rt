@@ -1,0 +1,159 @@
+//! Records at the end of a text.
+ghost use Rattle.std.specs.Prelude.{◌≡◌, ◌<◌, ◌++◌, ◌∷◌, [], ℕ, List, length, map, codes, decimal, IfOk, OnOk};
+ghost use Rattle.csv.specs.Writing.{writer_pending};
+ghost use Rattle.export_core.specs.Record.{IsBegun, IsBetween, IsPlain, comma, field_text, more_text, record_line, text_in};
+
+use base_core::{Column, Name, NoMemory};
+use csv::{Terminator, Writer, WriterBuilder};
+use itoa::Buffer;
+
+/// What stands in a record as a field.
+pub trait Field {
+    // Its bytes.
+    ghost bytes: { Self → List ℕ };
+
+    /// Writes it as a further field.
+    fn put(&self, writer: &mut Writer<Vec<u8>>) -> Result<(), NoMemory>
+        requires { IsBegun writer.old }
+        ensures text { OnOk result (text_in writer.new ≡ text_in writer.old ++ comma ∷ field_text (bytes self.now)) }
+        ensures begun { OnOk result (IsBegun writer.new) };
+}
+
+/// Numbers in plain decimal.
+impl Field for u64 {
+    ghost bytes = { decimal };
+
+    fn put(&self, writer: &mut Writer<Vec<u8>>) -> Result<(), NoMemory> {
+        let mut digits = Buffer::new();
+        put_field(writer, digits.format(*self).as_bytes())
+    }
+}
+
+/// Names as they are.
+impl Field for Name {
+    ghost bytes = { λ name. name };
+
+    fn put(&self, writer: &mut Writer<Vec<u8>>) -> Result<(), NoMemory> {
+        put_field(writer, self.as_bytes())
+    }
+}
+
+/// Columns by their names.
+impl Field for Column {
+    ghost bytes = { λ column. column.name };
+
+    fn put(&self, writer: &mut Writer<Vec<u8>>) -> Result<(), NoMemory> {
+        self.name.put(writer)
+    }
+}
+
+/// The text with the line of a record at its end: the fields with commas between them, and a line
+/// feed. A field is in quotes exactly where it has a comma or a quote, and a quote inside is doubled.
+/// The first field has to have a byte, and none below 32. `NoMemory` where a request for memory was
+/// refused.
+pub fn write_record<F: Field>(
+    text: Vec<u8>,
+    first: &[u8],
+    fields: &[F],
+) -> Result<Vec<u8>, NoMemory>
+    requires some { 0 < length first.now }
+    requires plain { IsPlain first.now }
+    ensures { IfOk result (λ longer. longer.items ≡ text.items ++ record_line (first.now ∷ map F.bytes fields.now)) }
+{
+    let mut writer = writer_after(text);
+    put_record(&mut writer, first, fields)?;
+    finish(writer)
+}
+
+/// A writer of records after this text. Records of one writer may differ in length.
+pub fn writer_after(text: Vec<u8>) -> Writer<Vec<u8>>
+    ensures text { text_in result ≡ text.items }
+    ensures between { IsBetween result }
+    ensures pending { writer_pending result ≡ [] }
+{
+    WriterBuilder::new()
+        .terminator(Terminator::Any(b'\n'))
+        .flexible(true)
+        .from_writer(text)
+}
+
+/// Writes the line of a record: the first field, which has to have a byte, and the further ones.
+pub fn put_record<F: Field>(
+    writer: &mut Writer<Vec<u8>>,
+    first: &[u8],
+    fields: &[F],
+) -> Result<(), NoMemory>
+    requires between { IsBetween writer.old }
+    requires some { 0 < length first.now }
+    requires plain { IsPlain first.now }
+    ensures text { OnOk result (text_in writer.new ≡ text_in writer.old ++ record_line (first.now ∷ map F.bytes fields.now)) }
+    ensures between { OnOk result (IsBetween writer.new) }
+{
+    begin(writer, first)?;
+    put_fields(writer, fields)?;
+    end(writer)
+}
+
+/// Writes the first field of a record.
+pub fn begin(writer: &mut Writer<Vec<u8>>, first: &[u8]) -> Result<(), NoMemory>
+    requires between { IsBetween writer.old }
+    requires some { 0 < length first.now }
+    requires plain { IsPlain first.now }
+    ensures text { OnOk result (text_in writer.new ≡ text_in writer.old ++ field_text first.now) }
+    ensures begun { OnOk result (IsBegun writer.new) }
+{
+    match writer.write_field(first) {
+        Ok(()) => {}
+        Err(_) => return Err(NoMemory),
+    }
+    Ok(())
+}
+
+/// Writes a further field, of bytes from 32 up.
+pub fn put_field(writer: &mut Writer<Vec<u8>>, field: &[u8]) -> Result<(), NoMemory>
+    requires begun { IsBegun writer.old }
+    requires plain { IsPlain field.now }
+    ensures text { OnOk result (text_in writer.new ≡ text_in writer.old ++ comma ∷ field_text field.now) }
+    ensures begun { OnOk result (IsBegun writer.new) }
+{
+    match writer.write_field(field) {
+        Ok(()) => {}
+        Err(_) => return Err(NoMemory),
+    }
+    Ok(())
+}
+
+/// Writes further fields.
+pub fn put_fields<F: Field>(writer: &mut Writer<Vec<u8>>, fields: &[F]) -> Result<(), NoMemory>
+    requires { IsBegun writer.old }
+    ensures text { OnOk result (text_in writer.new ≡ text_in writer.old ++ more_text (map F.bytes fields.now)) }
+    ensures begun { OnOk result (IsBegun writer.new) }
+{
+    for field in fields {
+        field.put(writer)?;
+    }
+    Ok(())
+}
+
+/// Ends the record.
+pub fn end(writer: &mut Writer<Vec<u8>>) -> Result<(), NoMemory>
+    requires { IsBegun writer.old }
+    ensures text { OnOk result (text_in writer.new ≡ text_in writer.old ++ codes "\n") }
+    ensures between { OnOk result (IsBetween writer.new) }
+{
+    match writer.end_record() {
+        Ok(()) => {}
+        Err(_) => return Err(NoMemory),
+    }
+    Ok(())
+}
+
+/// The text with the records at its end.
+pub fn finish(writer: Writer<Vec<u8>>) -> Result<Vec<u8>, NoMemory>
+    ensures { IfOk result (λ text. text.items ≡ text_in writer) }
+{
+    match writer.into_inner() {
+        Ok(text) => Ok(text),
+        Err(_) => Err(NoMemory),
+    }
+}
