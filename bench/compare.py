@@ -1,6 +1,6 @@
 """Runs statements through the built program and, where sqlite3 is installed, through `sqlite3 :memory:`.
 
-Prints statements a second of both, their ratio, and the peak memory of both, each the best of three runs.
+Prints statements a second of both, the best of three runs, their ratio, and the peak memory of both.
 """
 import os
 import random
@@ -36,36 +36,54 @@ def mix():
             yield f"DELETE FROM t WHERE amount = {chosen}"
 
 
-def measured(words, path, count, out):
-    best, peak = None, 0
+def took(words, path, out):
+    """The time of a run on this input, in seconds, the best of three."""
+    times = []
     for _ in range(3):
         with open(path, "rb") as given, open(out, "wb") as sink:
             start = time.monotonic()
-            child = subprocess.Popen(words, stdin=given, stdout=sink)
-            _, status, usage = os.wait4(child.pid, 0)
-            took = time.monotonic() - start
-        assert status == 0, status
-        best = took if best is None else min(best, took)
-        peak = max(peak, usage.ru_maxrss * 1024)
-    return count / best, peak
+            subprocess.run(words, stdin=given, stdout=sink, check=True)
+            times.append(time.monotonic() - start)
+    return min(times)
+
+
+def peak(words, path, out):
+    """The most memory that a run has at a time, in bytes.
+
+    It is read from the process while it runs: what the system tells of a child that has ended begins with the
+    memory of its parent.
+    """
+    most = 0
+    with open(path, "rb") as given, open(out, "wb") as sink:
+        child = subprocess.Popen(words, stdin=given, stdout=sink)
+        while child.poll() is None:
+            with open(f"/proc/{child.pid}/status") as status:
+                for line in status:
+                    if line.startswith("VmHWM:"):
+                        most = max(most, int(line.split()[1]) * 1024)
+            time.sleep(0.001)
+    return most
 
 
 def main():
-    statements = list({"inserts": inserts, "mix": mix}[sys.argv[2]]())
-    count = len(statements)
+    kind = {"inserts": inserts, "mix": mix}[sys.argv[2]]
     with tempfile.TemporaryDirectory() as work:
         ours, theirs, out = (os.path.join(work, name) for name in ("ours", "theirs", "out"))
-        with open(ours, "w") as file:
-            file.writelines(f"ann: {statement}\n" for statement in statements)
-        with open(theirs, "w") as file:
-            file.writelines(f"{statement};\n" for statement in statements)
-        rate, peak = measured([sys.argv[1], "run"], ours, count, out)
-        print(f"sysr:    {rate:>12,.0f} statements/s, peak {peak:,} bytes, {peak / count:.0f} for each statement")
+        count = 0
+        with open(ours, "w") as script, open(theirs, "w") as sql:
+            for statement in kind():
+                script.write(f"ann: {statement}\n")
+                sql.write(f"{statement};\n")
+                count += 1
+        words = [sys.argv[1], "run"]
+        rate, memory = count / took(words, ours, out), peak(words, ours, out)
+        print(f"sysr:    {rate:>12,.0f} statements/s, peak {memory:,} bytes, {memory / count:.0f} for each statement")
         sqlite = shutil.which("sqlite3")
         if sqlite is None:
             print("sqlite3: not installed")
             return
-        other, memory = measured([sqlite, ":memory:"], theirs, count, out)
+        words = [sqlite, ":memory:"]
+        other, memory = count / took(words, theirs, out), peak(words, theirs, out)
         print(f"sqlite3: {other:>12,.0f} statements/s, peak {memory:,} bytes")
         print(f"ratio:   {rate / other:.2f}")
 
