@@ -7,6 +7,8 @@ mod calls;
 #[cfg(test)]
 mod checkpoints;
 #[cfg(test)]
+mod examples;
+#[cfg(test)]
 mod grants;
 #[cfg(test)]
 mod scripts;

@@ -18,8 +18,8 @@
 //! ```
 //!
 //! [`Source`] and [`Sink`] are the readers and writers of the whole workspace: their ghost members
-//! say which bytes are left or were taken, and whether an error came, so that contracts above can
-//! name the bytes.
+//! say which bytes are left, were taken or were handed on, and whether an error came, so that
+//! contracts above can name the bytes.
 //!
 //! A name is `Copy`, and its comparison and hash go over its bytes. A look-up by name in a row goes
 //! over the columns. Copies of rows and texts take memory for each of their values.

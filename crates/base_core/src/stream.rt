@@ -3,7 +3,7 @@ ghost use Rattle.std.specs.Prelude.{◌≡◌, ◌≤◌, ◌<◌, ℕ, Bool, tr
 ghost use Rattle.std.specs.Io.KnownBytes.{Appends, Consumes, Keeps, IsAtEnd, ReadConsumes, WriteAppends};
 ghost use Rattle.base_core.specs.Streams.{WritesFront};
 
-use std::io::{Read, Write};
+use std::io::{BufWriter, Read, Write};
 
 /// A failed read or write.
 #[derive(Clone, Copy, Debug, PartialEq, Eq)]
@@ -20,7 +20,8 @@ pub trait Source {
     fn read(&mut self, into: &mut [u8]) -> Result<usize, Broken>
         requires { failed self.old ≡ false }
         ensures count { IfOk result (λ n. n ≤ length into.new) }
-        ensures failed { MatchResult result (λ _. failed self.new ≡ false) (λ _. failed self.new ≡ true) }
+        ensures failed { MatchResult result (λ _. failed self.new ≡ false)
+            (λ _. failed self.new ≡ true) }
         ensures bytes { ReadConsumes (left self.old) (left self.new) result into.new };
 }
 
@@ -30,23 +31,30 @@ pub trait Sink {
     ghost failed: { Self → Bool };
     // The bytes that were taken, where they are known.
     ghost taken: { Self → Option (List ℕ) };
-    // Nothing was taken since the last flush.
-    ghost settled: { Self → Bool };
+    // Those of them that were handed on, where they are known.
+    ghost handed_on: { Self → Option (List ℕ) };
+    // Nothing that was taken waits in a buffer.
+    ghost flushed: { Self → Bool };
 
     /// Takes some of the bytes, at least one where there is one.
     fn write(&mut self, bytes: &[u8]) -> Result<usize, Broken>
         requires { failed self.old ≡ false }
         ensures count { IfOk result (λ n. n ≤ length bytes.now) }
         ensures some { 0 < length bytes.now → IfOk result (λ n. 0 < n) }
-        ensures failed { MatchResult result (λ _. failed self.new ≡ false) (λ _. failed self.new ≡ true) }
+        ensures failed { MatchResult result (λ _. failed self.new ≡ false)
+            (λ _. failed self.new ≡ true) }
         ensures bytes { WriteAppends (taken self.old) (taken self.new) result bytes.now };
 
     /// Hands on what was taken and waits in a buffer.
     fn flush(&mut self) -> Result<(), Broken>
         requires { failed self.old ≡ false }
-        ensures failed { MatchResult result (λ _. failed self.new ≡ false) (λ _. failed self.new ≡ true) }
-        ensures settled { OnOk result (settled self.new ≡ true) }
+        ensures failed { MatchResult result (λ _. failed self.new ≡ false)
+            (λ _. failed self.new ≡ true) }
+        ensures flushed { OnOk result (flushed self.new ≡ true) }
         ensures bytes { Keeps (taken self.old) (taken self.new) };
+
+    // A sink that is flushed, be it after a write, has handed on all that it took.
+    ghost flushed_hands_on: { (sink : Self) → flushed sink ≡ true → handed_on sink ≡ taken sink };
 }
 
 /// A reader of `std`.
@@ -84,46 +92,53 @@ impl<R: Read> Source for StdSource<R> {
     }
 }
 
-/// A writer of `std`, which may have a buffer. To take none of some bytes is an error.
+/// A writer of `std` with a buffer. To take none of some bytes is an error.
 #[derive(Drop)]
-pub struct StdSink<W> {
-    writer: W,
+pub struct StdSink<W: Write + Drop> {
+    writer: BufWriter<W>,
     failed: bool,
-    settled: bool,
 }
 
-impl<W: Write> StdSink<W> {
-    pub fn new(writer: W) -> Self
+impl<W: Write + Drop> StdSink<W> {
+    ghost use Rattle.std.specs.Io.Buffered.{writer_buffer, writer_inner};
+
+    pub fn new(writer: BufWriter<W>) -> Self
         ensures writer { result.writer ≡ writer }
         ensures failed { result.failed ≡ false }
-        ensures settled { result.settled ≡ true }
     {
         StdSink {
             writer,
             failed: false,
-            settled: true,
         }
     }
-}
 
-impl<W: Write + Drop> StdSink<W> {
-    pub fn into_inner(self) -> W
-        ensures { result ≡ self.writer }
+    /// The writer behind the buffer, and the bytes that wait in the buffer.
+    pub fn into_parts(self) -> (W, Vec<u8>)
+        ensures inner { result.0 ≡ writer_inner self.writer }
+        ensures waiting { result.1.items ≡ writer_buffer self.writer }
     {
         let StdSink { writer, .. } = self;
-        writer
+        writer.into_parts()
     }
 }
 
-impl<W: Write> Sink for StdSink<W> {
+impl<W: Write + Drop> Sink for StdSink<W> {
+    ghost use Rattle.std.specs.Prelude.{nat_eq, Some, None, []};
+    ghost use Rattle.std.specs.Io.Buffered.{writer_buffer, writer_contents, writer_inner};
+    ghost use Rattle.std.specs.Io.KnownBytes.{append_known};
+    ghost use Rattle.std.proofs.Common.{refl, sym, ap, subst, append-nil};
+    ghost use Rattle.std.proofs.lemmas.Bool.{eqb-true};
+    ghost use Rattle.std.proofs.lemmas.List.{nil_from_length};
+
     ghost failed = { λ s. s.failed };
 
-    ghost taken = { λ s. W.contents s.writer };
+    ghost taken = { λ s. writer_contents W.contents s.writer };
 
-    ghost settled = { λ s. s.settled };
+    ghost handed_on = { λ s. W.contents (writer_inner s.writer) };
+
+    ghost flushed = { λ s. nat_eq (length (writer_buffer s.writer)) 0 };
 
     fn write(&mut self, bytes: &[u8]) -> Result<usize, Broken> {
-        self.settled = false;
         match self.writer.write(bytes) {
             Ok(n) if n > 0 || bytes.is_empty() => Ok(n),
             _ => {
@@ -135,22 +150,28 @@ impl<W: Write> Sink for StdSink<W> {
 
     fn flush(&mut self) -> Result<(), Broken> {
         match self.writer.flush() {
-            Ok(()) => {
-                self.settled = true;
-                Ok(())
-            }
+            Ok(()) => Ok(()),
             Err(_) => {
                 self.failed = true;
                 Err(Broken)
             }
         }
     }
+
+    ghost flushed_hands_on = { λ s empty.
+        let known = W.contents (writer_inner s.writer) in
+        let none_waits : (bytes : Option (List ℕ)) → bytes ≡ append_known bytes [] =
+        elim [ None ↦ refl | Some xs ↦ ap (λ (ys : List ℕ). Some ys) (sym (append-nil xs)) ] in
+        let waiting = writer_buffer s.writer in
+        let is_nil : waiting ≡ [] = nil_from_length waiting (eqb-true (length waiting) 0 empty) in
+        subst (λ (xs : List ℕ). known ≡ append_known known xs) (sym is_nil) (none_waits known) };
 }
 
 /// Writes all of the bytes. On an `Err` the writer took some front of them.
 pub fn write_all<W: Sink>(writer: &mut W, bytes: &[u8]) -> Result<(), Broken>
     requires { W.failed writer.old ≡ false }
-    ensures failed { MatchResult result (λ _. W.failed writer.new ≡ false) (λ _. W.failed writer.new ≡ true) }
+    ensures failed { MatchResult result (λ _. W.failed writer.new ≡ false)
+        (λ _. W.failed writer.new ≡ true) }
     ensures ok { OnOk result (Appends (W.taken writer.old) (W.taken writer.new) bytes.now) }
     ensures err { OnErr result (WritesFront (W.taken writer.old) (W.taken writer.new) bytes.now) }
 {

@@ -37,9 +37,9 @@ abbrev pub has : Image → Name → Bool
 has image name = list_any (λ t. same_name name t.name) image.tables
 
 -- whether the user owns the atom's table there
-unfoldable pub owns : Image → User → Atom → Bool
-owns image user atom = option_map_or (λ t. same_user t.owner user) (find (λ t. same_name atom.table t.name) image.tables) false
+unfoldable pub owns_in_image : Image → User → Atom → Bool
+owns_in_image image user atom = option_map_or (λ t. same_user t.owner user) (find (λ t. same_name atom.table t.name) image.tables) false
 
 -- whether he holds the atom there: he owns its table, or a grant of the image gives it to him
-abbrev pub holds : Image → User → Atom → Bool
-holds image user atom = owns image user atom || list_any (gives user atom) image.grants
+abbrev pub holds_in_image : Image → User → Atom → Bool
+holds_in_image image user atom = owns_in_image image user atom || list_any (gives user atom) image.grants

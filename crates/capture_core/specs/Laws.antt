@@ -9,7 +9,7 @@ use Rattle.base_core.specs.declared.privilege.Atom.{Atom}
 use Rattle.base_core.specs.declared.value.Moment.{Moment}
 use Rattle.tables_core.specs.Contents.{Contents, table_of}
 use Rattle.grants_core.specs.Content.{Content, gives}
-use Rattle.capture_core.specs.Image.{image, has, holds}
+use Rattle.capture_core.specs.Image.{image, has, holds_in_image}
 
 -- an image has a table exactly where the tables have one of that name
 abbrev pub HasAsTables : Type 0
@@ -20,5 +20,5 @@ HasAsTables = (number : ℕ) (point : Moment) (tables : List (Name × Contents))
 -- to him
 abbrev pub HoldsAsRights : Type 0
 HoldsAsRights = (number : ℕ) (point : Moment) (tables : List (Name × Contents)) (rights : Content) (user : User) (atom : Atom)
-    → holds (image number point tables rights) user atom
+    → holds_in_image (image number point tables rights) user atom
     ≡ (option_map_or (λ t. same_user t.owner user) (table_of tables atom.table) false || list_any (gives user atom) rights.in_force)

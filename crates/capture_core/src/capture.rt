@@ -3,7 +3,7 @@ ghost use Rattle.std.specs.Prelude.{◌≡◌, ◌+◌, ◌^◌, ◌<◌, length
 ghost use Rattle.std.specs.Arc.{arc_value};
 ghost use Rattle.base_core.specs.declared.lack.Lack.TheVariants as lacks;
 ghost use Rattle.capture_core.specs.Image.{image, records, row_total};
-ghost use Rattle.capture_core.specs.Capturing.{begin_lack, after_begin, after_step, after_abandon, Tells};
+ghost use Rattle.capture_core.specs.Capturing.{begin_lack, after_begin, after_step, after_abandon, TellsProgress};
 
 use crate::image::Image;
 use crate::progress::Progress;
@@ -140,7 +140,7 @@ impl Capture {
         _rights: &A,
         k: usize,
     ) -> Result<Progress, NoMemory>
-        ensures tells { IfOk result (λ progress. Tells k self.old.active progress) }
+        ensures tells { IfOk result (λ progress. TellsProgress k self.old.active progress) }
         ensures ok { OnOk result (self.new ≡ after_step k self.old) }
         ensures no_memory { OnErr result (self.new ≡ self.old) }
     {

@@ -58,9 +58,9 @@ impl Image {
             .any(|table| *name == table.name)
     }
 
-    #[tactic(auto, unfolding(crate::specs::Image::owns))]
+    #[tactic(auto, unfolding(crate::specs::Image::owns_in_image))]
     fn owns(&self, user: &User, atom: &Atom) -> bool
-        ensures { result ≡ images.owns self.now user.now atom.now }
+        ensures { result ≡ images.owns_in_image self.now user.now atom.now }
     {
         match self.table(&atom.table) {
             Some(table) => table.owner == *user,
@@ -71,7 +71,7 @@ impl Image {
     /// Whether the user held the atom at the point: he owned its table, or a grant that was in force
     /// gave it to him (Griffiths and Wade 1976). It takes no memory.
     pub fn holds(&self, user: User, atom: &Atom) -> bool
-        ensures { result ≡ images.holds self.now user atom.now }
+        ensures { result ≡ images.holds_in_image self.now user atom.now }
     {
         self.owns(&user, atom) || any_gives(self.grants.as_slice(), &user, atom)
     }

@@ -4,8 +4,8 @@ use Rattle.base_core.specs.declared.value.Moment.{Moment}
 use Rattle.capture_core.specs.declared.image.Image.{Image}
 
 -- the last eight
-abbrev pub last_eight : List Image → List Image
-last_eight images = drop (length images - 8) images
+abbrev pub last_eight : {X : Type 0} → List X → List X
+last_eight xs = drop (length xs - 8) xs
 
 -- the oldest of eight
 abbrev pub pushed_out : List Image → Option Image
@@ -20,5 +20,5 @@ abbrev pub newest : List Image → ℕ → Option Image
 newest images number = find (bears number) (reverse images)
 
 -- the number and the point of an image
-abbrev pub entry : Image → ℕ × Moment
-entry image = (image.number, image.point)
+abbrev pub number_and_point : Image → ℕ × Moment
+number_and_point image = (image.number, image.point)

@@ -2,7 +2,7 @@
 ghost use Rattle.std.specs.Prelude.{◌≡◌, ◌++◌, ◌∷◌, [], find, map, reverse, option_map, IfOk};
 ghost use Rattle.std.specs.Arc.{arc_value};
 ghost use Rattle.std.specs.Option.{option_copied};
-ghost use Rattle.catalogue_core.specs.Kept.{last_eight, pushed_out, bears, newest, entry};
+ghost use Rattle.catalogue_core.specs.Kept.{last_eight, pushed_out, bears, newest, number_and_point};
 
 use base_core::{Moment, NoMemory};
 use capture_core::Image;
@@ -47,7 +47,7 @@ fn newest(images: &HeapCircularBuffer<Arc<Image>>, number: u64) -> Option<&Arc<I
 }
 
 fn entry(image: &Arc<Image>) -> (u64, Moment)
-    ensures { result ≡ entry (arc_value image.now) }
+    ensures { result ≡ number_and_point (arc_value image.now) }
 {
     (image.number, image.point)
 }
@@ -56,7 +56,7 @@ fn entries(
     alloc: Global,
     images: &HeapCircularBuffer<Arc<Image>>,
 ) -> Result<Vec<(u64, Moment)>, NoMemory>
-    ensures { IfOk result (λ listed. listed.items ≡ map (λ arc. entry (arc_value arc)) images.now.items) }
+    ensures { IfOk result (λ listed. listed.items ≡ map (λ arc. number_and_point (arc_value arc)) images.now.items) }
 {
     let listed = images.iter().map(entry).collect(alloc)?;
     Ok(listed)
@@ -91,7 +91,7 @@ impl Catalogue {
     /// The checkpoint number and the point of each image, the oldest first. `NoMemory` where a request
     /// for memory was refused.
     pub fn list(&self) -> Result<Vec<(u64, Moment)>, NoMemory>
-        ensures { IfOk result (λ listed. listed.items ≡ map entry self.now) }
+        ensures { IfOk result (λ listed. listed.items ≡ map number_and_point self.now) }
     {
         entries(self.alloc, &self.images)
     }

@@ -9,7 +9,7 @@ use Rattle.base_core.specs.declared.name.User.{User}
 use Rattle.grants_core.specs.Content.{Content}
 use Rattle.capture_core.specs.declared.image.Image.{Image}
 use Rattle.capture_core.specs.declared.image.TableImage.{TableImage}
-use Rattle.export_core.specs.Export.{told, judgement, held_then, holds_now, listed, end_line}
+use Rattle.export_core.specs.Export.{told, judgement, held_then, holds_now, listed_lines, end_line}
 use Rattle.export_core.specs.Laws.{ListsAlone}
 use Rattle.export_core.specs.declared.judgement.Judgement.TheVariants.{Listed, WithheldThen, WithheldNow}
 
@@ -40,5 +40,5 @@ lists_alone image now user name (has, held, holds) =
       found,
       ap (λ o. flat_map (λ u. told (judgement image now user u.name) u) (option_to_list o) ++ end_line image.number ∷ []) found
           ∙ ap (λ j. (told j t ++ []) ++ end_line image.number ∷ []) judged
-          ∙ ap (λ l. l ++ end_line image.number ∷ []) (append-nil (listed t)),
+          ∙ ap (λ l. l ++ end_line image.number ∷ []) (append-nil (listed_lines t)),
     )

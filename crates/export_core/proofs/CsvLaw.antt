@@ -9,24 +9,24 @@ use Rattle.csv.specs.declared.writer.WriterBuilder.{WriterBuilder}
 use Rattle.csv.specs.declared.writer.QuoteStyle.TheVariants as style
 use Rattle.csv.specs.Quoting.{needs_byte}
 use Rattle.csv.specs.Writing.{escaped, needs_quotes, next_sep, field_text as csv_field_text}
-use Rattle.export_core.specs.Record.{is_mark, doubled_byte, field_text, record_writer, IsPlain}
+use Rattle.export_core.specs.Record.{forces_quotes, doubled_byte, field_text, record_writer, IsPlain}
 
 or-false : (a : Bool) → (a || false) ≡ a
 or-false true = refl
 or-false false = refl
 
-needs_byte-plain : (b : ℕ) → 32 ≤ b → needs_byte record_writer b ≡ is_mark b
+needs_byte-plain : (b : ℕ) → 32 ≤ b → needs_byte record_writer b ≡ forces_quotes b
 needs_byte-plain b h =
     let cr : (b == 13) ≡ false = ne_eqb b 13 (λ e. omega arith) in
     let lf : (b == 10) ≡ false = ne_eqb b 10 (λ e. omega arith) in
     rw (cr, lf) (or-false _ ∙ or-false _ ∙ or-false _)
 
-needs_quotes-plain : (field : List ℕ) → IsPlain field → needs_quotes record_writer field ≡ list_any is_mark field
+needs_quotes-plain : (field : List ℕ) → IsPlain field → needs_quotes record_writer field ≡ list_any forces_quotes field
 needs_quotes-plain [] h = refl
 needs_quotes-plain (b ∷ rest) h =
     let first = needs_byte-plain b (All-head (λ c. 32 ≤ c) b rest h) in
     let others = needs_quotes-plain rest (All-tail (λ c. 32 ≤ c) b rest h) in
-    ap (λ t. t || needs_quotes record_writer rest) first ∙ ap (λ t. is_mark b || t) others
+    ap (λ t. t || needs_quotes record_writer rest) first ∙ ap (λ t. forces_quotes b || t) others
 
 escaped-doubled : (field : List ℕ) → escaped record_writer field ≡ flat_map doubled_byte field
 unfolding escaped
@@ -44,7 +44,7 @@ field_text-plain field h = rw (needs_quotes-plain field h, escaped-doubled field
 
 -- a field with a byte has a text with one
 pub field_text-some : (field : List ℕ) → 0 < length field → 0 < length (field_text field)
-field_text-some field h = by (list_any is_mark field)
+field_text-some field h = by (list_any forces_quotes field)
   where
     by : (t : Bool) → 0 < length (if t then 34 ∷ (flat_map doubled_byte field ++ 34 ∷ []) else field)
     by true = omega arith

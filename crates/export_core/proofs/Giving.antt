@@ -9,7 +9,7 @@ use Rattle.std.proofs.lemmas.Option.{none-some, slice_get_within}
 use Rattle.base_core.specs.Streams.{WritesFront}
 use Rattle.export_core.specs.declared.fault.ExportFault.{ExportFault}
 use Rattle.export_core.specs.declared.fault.ExportFault.TheVariants as faults
-use Rattle.export_core.specs.Ticket.{Exporting, after_giving, finished, Writes, Breaks, Stops}
+use Rattle.export_core.specs.Ticket.{Exporting, after_giving, finished, WritesRecords, BreaksRecord, Stops}
 use Rattle.export_core.proofs.Places.{slice_get-drop}
 
 take-add : {X : Type 0} (n m : ℕ) (xs : List X) → take (n + m) xs ≡ take n xs ++ take m (drop n xs)
@@ -39,10 +39,10 @@ giving_more n m e =
 pub giving_keeps : (n : ℕ) (e : Exporting) → (after_giving n e).given ++ (after_giving n e).to_come ≡ e.given ++ e.to_come
 giving_keeps n e = append_assoc e.given (take n e.to_come) (drop n e.to_come) ∙ ap (λ l. e.given ++ l) (take-append-drop n e.to_come)
 
-pub writes_none : (e : Exporting) (w : Option (List ℕ)) → Writes 0 e e w w
+pub writes_none : (e : Exporting) (w : Option (List ℕ)) → WritesRecords 0 e e w w
 writes_none e w = record { gave = sym (giving_none e); wrote = Appends-nil w }
 
-module _ (n : ℕ) (a b : Exporting) (v w : Option (List ℕ)) (so_far : Writes n a b v w) where
+module _ (n : ℕ) (a b : Exporting) (v w : Option (List ℕ)) (so_far : WritesRecords n a b v w) where
   rest : b.to_come ≡ drop n a.to_come
   rest = ap (λ e. e.to_come) so_far.gave
 
@@ -55,13 +55,13 @@ module _ (n : ℕ) (a b : Exporting) (v w : Option (List ℕ)) (so_far : Writes 
   gives : (m : ℕ) (c : Exporting) → c ≡ after_giving m b → c ≡ after_giving (n + m) a
   gives m c gave = gave ∙ ap (after_giving m) so_far.gave ∙ giving_more n m a
 
-  pub writes_more : (m : ℕ) (c : Exporting) (x : Option (List ℕ)) → Writes m b c w x → Writes (n + m) a c v x
+  pub writes_more : (m : ℕ) (c : Exporting) (x : Option (List ℕ)) → WritesRecords m b c w x → WritesRecords (n + m) a c v x
   writes_more m c x next = record {
     gave = gives m c next.gave;
     wrote = subst (Appends v x) (front m) (Appends-trans _ _ _ _ _ so_far.wrote next.wrote);
   }
 
-  pub breaks_more : (m : ℕ) (c : Exporting) (x : Option (List ℕ)) → Breaks m b c w x → Breaks (n + m) a c v x
+  pub breaks_more : (m : ℕ) (c : Exporting) (x : Option (List ℕ)) → BreaksRecord m b c w x → BreaksRecord (n + m) a c v x
   breaks_more m c x next =
       let further : n + (m + 1) ≡ n + m + 1 = omega arith in
       record {
@@ -100,19 +100,19 @@ pub none_left : (xs : List (List ℕ)) → slice_get xs 0 ≡ None → xs ≡ []
 none_left [] none = refl
 none_left (x ∷ xs) none = cc
 
-pub writes_one : (old new : Exporting) (line : List ℕ) (v w : Option (List ℕ)) → slice_get old.to_come 0 ≡ Some line → new ≡ after_giving 1 old → Appends v w line → Writes 1 old new v w
+pub writes_one : (old new : Exporting) (line : List ℕ) (v w : Option (List ℕ)) → slice_get old.to_come 0 ≡ Some line → new ≡ after_giving 1 old → Appends v w line → WritesRecords 1 old new v w
 writes_one old new line v w found gave wrote = record {
   gave = gave;
   wrote = subst (Appends v w) (sym (ap concat (first_one old.to_come line found) ∙ append-nil line)) wrote;
 }
 
-pub writes_end : (old new : Exporting) (w : Option (List ℕ)) → slice_get old.to_come 0 ≡ None → new ≡ after_giving 1 old → Writes 1 old new w w
+pub writes_end : (old new : Exporting) (w : Option (List ℕ)) → slice_get old.to_come 0 ≡ None → new ≡ after_giving 1 old → WritesRecords 1 old new w w
 writes_end old new w none gave = record {
   gave = gave;
   wrote = subst (Appends w w) (sym (ap (λ l. concat (take 1 l)) (none_left old.to_come none))) (Appends-nil w);
 }
 
-pub breaks_one : (old new : Exporting) (line : List ℕ) (v w : Option (List ℕ)) → slice_get old.to_come 0 ≡ Some line → new ≡ after_giving 1 old → WritesFront v w line → Breaks 0 old new v w
+pub breaks_one : (old new : Exporting) (line : List ℕ) (v w : Option (List ℕ)) → slice_get old.to_come 0 ≡ Some line → new ≡ after_giving 1 old → WritesFront v w line → BreaksRecord 0 old new v w
 breaks_one old new line v w found gave wrote = record {
   front = wrote.part;
   unwritten = wrote.unwritten;

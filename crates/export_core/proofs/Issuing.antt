@@ -7,7 +7,7 @@ use Rattle.base_core.specs.declared.name.User.{User}
 use Rattle.grants_core.specs.Content.{Content}
 use Rattle.capture_core.specs.declared.image.Image.{Image}
 use Rattle.capture_core.specs.declared.image.TableImage.{TableImage}
-use Rattle.export_core.specs.Export.{export, chosen, judgement, told, end_line}
+use Rattle.export_core.specs.Export.{image_export, chosen, judgement, told, end_line}
 use Rattle.export_core.specs.Walk.{told_of}
 use Rattle.export_core.specs.declared.judgement.Judgement.{Judgement}
 use Rattle.export_core.proofs.Places.{zip-map_take}
@@ -15,7 +15,7 @@ use Rattle.export_core.proofs.Places.{zip-map_take}
 -- each of the export's tables beside its judgement
 pub issued_records : (image : Image) (now : Content) (user : User) (only : Option Name) (first : ℕ) (part : List TableImage) (judgements : List Judgement)
     → part ≡ chosen image.tables only → part ≡ take (length part) (drop first image.tables) → judgements ≡ map (λ t. judgement image now user t.name) part
-    → flat_map told_of (zip (drop first image.tables) judgements) ++ end_line image.number ∷ [] ≡ export image now user only
+    → flat_map told_of (zip (drop first image.tables) judgements) ++ end_line image.number ∷ [] ≡ image_export image now user only
 issued_records image now user only first part judgements is within judged =
     let j : TableImage → Judgement = λ t. judgement image now user t.name in
     let tables = drop first image.tables in

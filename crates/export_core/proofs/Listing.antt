@@ -6,13 +6,13 @@ use Rattle.std.proofs.lemmas.Option.{slice_get-map}
 use Rattle.std.proofs.lemmas.List.{length-map}
 use Rattle.base_core.specs.declared.value.Row.{Row}
 use Rattle.capture_core.specs.declared.image.TableImage.{TableImage}
-use Rattle.export_core.specs.Export.{listed}
+use Rattle.export_core.specs.Export.{listed_lines}
 use Rattle.export_core.specs.Record.{row_line}
 use Rattle.export_core.proofs.Places.{slice_get-index}
 
 -- behind the first line stand those of the rows
-pub listed_row : (t : TableImage) (index : ℕ) (row : Row) → index ≢ 0 → index < length (listed t) → row ≡ get_or t.rows (index - 1) row
-    → slice_get (listed t) index ≡ Some (row_line row.values)
+pub listed_row : (t : TableImage) (index : ℕ) (row : Row) → index ≢ 0 → index < length (listed_lines t) → row ≡ get_or t.rows (index - 1) row
+    → slice_get (listed_lines t) index ≡ Some (row_line row.values)
 listed_row t zero row some within read = absurd (some refl)
 listed_row t (suc i) row some within read =
     let before : suc i - 1 ≡ i = omega arith in

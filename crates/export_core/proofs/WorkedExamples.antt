@@ -8,10 +8,10 @@ use Rattle.base_core.specs.declared.value.Value.TheVariants as values
 use Rattle.grants_core.specs.declared.grant.Grant.{Grant}
 use Rattle.grants_core.specs.Owners.{owns}
 use Rattle.grants_core.specs.Content.{Content, gives}
-use Rattle.capture_core.specs.Image.{owns as owned}
+use Rattle.capture_core.specs.Image.{owns_in_image as owned}
 use Rattle.capture_core.specs.declared.image.Image.{Image}
 use Rattle.capture_core.specs.declared.image.TableImage.{TableImage}
-use Rattle.export_core.specs.Export.{export, to_select}
+use Rattle.export_core.specs.Export.{image_export, to_select}
 
 -- users, the table and its column are named by one letter
 abbrev o : User
@@ -37,31 +37,31 @@ rights grants = record { owners = record { table = codes "t"; owner = o; granted
 abbrev image : List TableImage → List Grant → Image
 image tables grants = record { number = 1; point = record { 0 = 4 }; tables = tables; grants = grants }
 
-kept_value : export (image (table (row 1 ∷ row 2 ∷ row 3 ∷ []) ∷ []) []) (rights []) o None
+kept_value : image_export (image (table (row 1 ∷ row 2 ∷ row 3 ∷ []) ∷ []) []) (rights []) o None
     ≡ codes "table,t,v\n" ∷ codes "row,1\n" ∷ codes "row,2\n" ∷ codes "row,3\n" ∷ codes "end 1\n" ∷ []
 unfolding owns gives owned digits
 kept_value = refl
 
 -- revoked after the point
-captured_grants : export (image (table (row 7 ∷ []) ∷ []) (grant ∷ [])) (rights []) u None ≡ codes "withheld,t,now\n" ∷ codes "end 1\n" ∷ []
+captured_grants : image_export (image (table (row 7 ∷ []) ∷ []) (grant ∷ [])) (rights []) u None ≡ codes "withheld,t,now\n" ∷ codes "end 1\n" ∷ []
 unfolding owns gives owned digits
 captured_grants = refl
 
 -- and granted again
-granted_again : export (image (table (row 7 ∷ []) ∷ []) (grant ∷ [])) (rights (grant ∷ [])) u (Some (codes "t"))
+granted_again : image_export (image (table (row 7 ∷ []) ∷ []) (grant ∷ [])) (rights (grant ∷ [])) u (Some (codes "t"))
     ≡ codes "table,t,v\n" ∷ codes "row,7\n" ∷ codes "end 1\n" ∷ []
 unfolding owns gives owned digits
 granted_again = refl
 
-granted_after_point : export (image (table (row 7 ∷ []) ∷ []) []) (rights (grant ∷ [])) u None ≡ codes "withheld,t,point\n" ∷ codes "end 1\n" ∷ []
+granted_after_point : image_export (image (table (row 7 ∷ []) ∷ []) []) (rights (grant ∷ [])) u None ≡ codes "withheld,t,point\n" ∷ codes "end 1\n" ∷ []
 unfolding owns gives owned digits
 granted_after_point = refl
 
-held_at_neither : export (image (table (row 7 ∷ []) ∷ []) []) (rights []) u None ≡ codes "withheld,t,point\n" ∷ codes "end 1\n" ∷ []
+held_at_neither : image_export (image (table (row 7 ∷ []) ∷ []) []) (rights []) u None ≡ codes "withheld,t,point\n" ∷ codes "end 1\n" ∷ []
 unfolding owns gives owned digits
 held_at_neither = refl
 
 -- a checkpoint of nothing
-nothing_but_the_end : export (image [] []) (rights []) u None ≡ codes "end 1\n" ∷ []
+nothing_but_the_end : image_export (image [] []) (rights []) u None ≡ codes "end 1\n" ∷ []
 unfolding digits
 nothing_but_the_end = refl

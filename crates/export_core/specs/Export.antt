@@ -19,7 +19,7 @@ to_select table = record { table = table; kind = Select }
 
 -- whether the user held SELECT of the table at the image's point, by its owners and grants
 abbrev pub held_then : Image → User → Name → Bool
-held_then image user table = images.holds image user (to_select table)
+held_then image user table = images.holds_in_image image user (to_select table)
 
 -- whether he holds it now, by the owners and the grants in force
 abbrev pub holds_now : Content → User → Name → Bool
@@ -44,12 +44,12 @@ abbrev pub end_line : ℕ → List ℕ
 end_line number = codes "end " ++ decimal number ++ codes "\n"
 
 -- a table and its rows
-abbrev pub listed : TableImage → List (List ℕ)
-listed t = table_line t ∷ map (λ row. row_line row.values) t.rows
+abbrev pub listed_lines : TableImage → List (List ℕ)
+listed_lines t = table_line t ∷ map (λ row. row_line row.values) t.rows
 
 -- what is told of a table that was judged so
 abbrev pub told : Judgement → TableImage → List (List ℕ)
-told Listed t = listed t
+told Listed t = listed_lines t
 told WithheldThen t = withheld_line t.name (codes "point") ∷ []
 told WithheldNow t = withheld_line t.name (codes "now") ∷ []
 
@@ -59,8 +59,8 @@ chosen tables None = tables
 chosen tables (Some name) = option_to_list (find (λ t. same_name name t.name) tables)
 
 -- the records of an export to the user: what is told of each of its tables, and the end
-abbrev pub export : Image → Content → User → Option Name → List (List ℕ)
-export image now user only =
+abbrev pub image_export : Image → Content → User → Option Name → List (List ℕ)
+image_export image now user only =
     flat_map (λ t. told (judgement image now user t.name) t) (chosen image.tables only) ++ end_line image.number ∷ []
 
 -- who asks for one table alone may have it: it is in the image, and he held SELECT of it then and holds

@@ -7,7 +7,7 @@ use Rattle.base_core.specs.declared.name.User.{User}
 use Rattle.base_core.specs.declared.value.Moment.{Moment}
 use Rattle.grants_core.specs.Content.{Content}
 use Rattle.capture_core.specs.declared.image.Image.{Image}
-use Rattle.export_core.specs.Export.{export}
+use Rattle.export_core.specs.Export.{image_export}
 use Rattle.export_core.specs.declared.fault.ExportFault.{ExportFault}
 use Rattle.export_core.specs.declared.fault.ExportFault.TheVariants as faults
 
@@ -23,7 +23,7 @@ pub record Exporting : Type 0 where
 -- an export of which nothing was given yet
 abbrev pub issued : Image → Content → User → Option Name → Moment → Exporting
 issued image now user only at =
-    record { number = image.number; point = image.point; at = at; given = []; to_come = export image now user only }
+    record { number = image.number; point = image.point; at = at; given = []; to_come = image_export image now user only }
 
 -- the line that goes before the records
 abbrev pub header_line : Exporting → List ℕ
@@ -39,13 +39,13 @@ abbrev pub finished : Exporting → Exporting
 finished e = record e { given = e.given ++ e.to_come; to_come = [] }
 
 -- the next n records were given and written
-pub record Writes (n : ℕ) (old new : Exporting) (before after : Option (List ℕ)) : Type 0 where
+pub record WritesRecords (n : ℕ) (old new : Exporting) (before after : Option (List ℕ)) : Type 0 where
   pub gave : new ≡ after_giving n old
   pub wrote : Appends before after (concat (take n old.to_come))
 
 -- the next n records were given and written, and of the one behind them, which counts as given, a front
 -- was written
-pub record Breaks (n : ℕ) (old new : Exporting) (before after : Option (List ℕ)) : Type 0 where
+pub record BreaksRecord (n : ℕ) (old new : Exporting) (before after : Option (List ℕ)) : Type 0 where
   pub front : List ℕ
   pub unwritten : List ℕ
   pub broken : slice_get old.to_come n ≡ Some (front ++ unwritten)
@@ -55,5 +55,5 @@ pub record Breaks (n : ℕ) (old new : Exporting) (before after : Option (List �
 -- where the writing stopped before the end: without memory for a record, which comes next, or in the
 -- middle of one
 abbrev pub Stops : ExportFault → Exporting → Exporting → Option (List ℕ) → Option (List ℕ) → Type 0
-Stops faults.NoMemory old new before after = (n : ℕ) × (n < length old.to_come) × Writes n old new before after
-Stops faults.Write old new before after = (n : ℕ) × Breaks n old new before after
+Stops faults.NoMemory old new before after = (n : ℕ) × (n < length old.to_come) × WritesRecords n old new before after
+Stops faults.Write old new before after = (n : ℕ) × BreaksRecord n old new before after

@@ -12,15 +12,15 @@ abbrev pub told_of : TableImage × Judgement → List (List ℕ)
 told_of pair = told pair.1 pair.0
 
 -- the tables of the export, each with its judgement
-abbrev pub judged : Inside → List (TableImage × Judgement)
-judged t = zip (drop t.first (arc_value t.image).tables) t.judgements.items
+abbrev pub judged_tables : Inside → List (TableImage × Judgement)
+judged_tables t = zip (drop t.first (arc_value t.image).tables) t.judgements.items
 
 abbrev pub all_records : Inside → List (List ℕ)
-all_records t = flat_map told_of (judged t) ++ end_line (arc_value t.image).number ∷ []
+all_records t = flat_map told_of (judged_tables t) ++ end_line (arc_value t.image).number ∷ []
 
 -- how many of them were given
 abbrev pub count_given : Inside → ℕ
-count_given t = length (flat_map told_of (take t.told (judged t))) + t.lines + (if t.ended then 1 else 0)
+count_given t = length (flat_map told_of (take t.told (judged_tables t))) + t.lines + (if t.ended then 1 else 0)
 
 abbrev pub exporting : Inside → Exporting
 exporting t = record {
@@ -35,5 +35,5 @@ exporting t = record {
 -- told whole, or the end
 pub record IsUnderWay (t : Inside) : Type 0 where
   pub fits : t.first + length t.judgements.items ≤ length (arc_value t.image).tables
-  pub next : MatchOption (slice_get (judged t) t.told) (t.lines ≡ 0) (λ pair. t.lines < length (told_of pair))
-  pub end : t.ended ≡ true → slice_get (judged t) t.told ≡ None
+  pub next : MatchOption (slice_get (judged_tables t) t.told) (t.lines ≡ 0) (λ pair. t.lines < length (told_of pair))
+  pub end : t.ended ≡ true → slice_get (judged_tables t) t.told ≡ None

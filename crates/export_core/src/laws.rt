@@ -1,11 +1,11 @@
 //! Laws of exports, each a contract.
-ghost use Rattle.export_core.specs.Laws.{KeepsRecords, GoesOn, ListsAlone};
+ghost use Rattle.export_core.specs.Laws.{KeepsRecords, GivesTogether, ListsAlone};
 
 /// Whatever calls a ticket answers, the records that it gave and those to come are together the ones
 /// that it was issued with; and to give some and then more is to give as many at once.
 pub fn records_are_given_in_order()
     ensures kept { KeepsRecords }
-    ensures on { GoesOn }
+    ensures on { GivesTogether }
 {}
 
 /// An export of one table alone, which the user may have, lists that table.

@@ -48,8 +48,8 @@ pub fn end_line(alloc: Global, number: u64) -> Result<Vec<u8>, NoMemory>
 
 /// The row whose line is the one at `index` of a listed table. None where that is the table's own.
 pub fn row_at(table: &TableImage, index: usize) -> Option<&Row>
-    requires { index < length (lines.listed table.now) }
-    ensures { MatchOption result (index ≡ 0) (λ row. slice_get (lines.listed table.now) index ≡ Some (row_line row.now.values)) }
+    requires { index < length (lines.listed_lines table.now) }
+    ensures { MatchOption result (index ≡ 0) (λ row. slice_get (lines.listed_lines table.now) index ≡ Some (row_line row.now.values)) }
 {
     if index == 0 {
         return None;
@@ -58,8 +58,8 @@ pub fn row_at(table: &TableImage, index: usize) -> Option<&Row>
 }
 
 fn listed_line(alloc: Global, table: &TableImage, index: usize) -> Result<Vec<u8>, NoMemory>
-    requires { index < length (lines.listed table.now) }
-    ensures { IfOk result (λ line. slice_get (lines.listed table.now) index ≡ Some line.items) }
+    requires { index < length (lines.listed_lines table.now) }
+    ensures { IfOk result (λ line. slice_get (lines.listed_lines table.now) index ≡ Some line.items) }
 {
     match row_at(table, index) {
         None => table_line(alloc, table),

@@ -8,7 +8,7 @@ ghost use Rattle.csv.specs.Writing.{writer_pending};
 ghost use Rattle.export_core.specs.Record.{IsBetween, row_line};
 ghost use Rattle.export_core.specs.Export as exports;
 ghost use Rattle.export_core.specs.Export.{IsAllowed};
-ghost use Rattle.export_core.specs.Ticket.{issued, after_giving, finished, Writes, Stops};
+ghost use Rattle.export_core.specs.Ticket.{issued, after_giving, finished, WritesRecords, Stops};
 
 use crate::fault::ExportFault;
 use crate::judgement::{Judgement, judgements};
@@ -202,7 +202,7 @@ impl Ticket {
         requires { W.failed writer.old ≡ false }
         ensures write { IsErrOf result ExportFault.Write ↔ (W.failed writer.new ≡ true) }
         ensures more { IfOk result (λ more. more ≡ is_some (slice_get self.old.to_come 0)) }
-        ensures ok { OnOk result (Writes 1 self.old self.new (W.taken writer.old) (W.taken writer.new)) }
+        ensures ok { OnOk result (WritesRecords 1 self.old self.new (W.taken writer.old) (W.taken writer.new)) }
         ensures err { IfErr result (λ fault. Stops fault self.old self.new (W.taken writer.old) (W.taken writer.new)) }
     {
         let Ok(next) = self.next_record() else {
@@ -228,7 +228,7 @@ impl Ticket {
         requires between { IsBetween records.old }
         requires pending { writer_pending records.old ≡ [] }
         ensures write { IsErrOf result ExportFault.Write ↔ (W.failed writer.new ≡ true) }
-        ensures ok { IfOk result (λ row. Writes (if row then 1 else 0) self.old self.new (W.taken writer.old) (W.taken writer.new)) }
+        ensures ok { IfOk result (λ row. WritesRecords (if row then 1 else 0) self.old self.new (W.taken writer.old) (W.taken writer.new)) }
         ensures between { OnOk result (IsBetween records.new) }
         ensures pending { OnOk result (writer_pending records.new ≡ []) }
         ensures err { IfErr result (λ fault. Stops fault self.old self.new (W.taken writer.old) (W.taken writer.new)) }
@@ -251,7 +251,7 @@ impl Ticket {
     fn write_rows<W: Sink>(&mut self, writer: &mut W) -> Result<(), ExportFault>
         requires { W.failed writer.old ≡ false }
         ensures write { IsErrOf result ExportFault.Write ↔ (W.failed writer.new ≡ true) }
-        ensures ok { OnOk result ((n : ℕ) × Writes n self.old self.new (W.taken writer.old) (W.taken writer.new)) }
+        ensures ok { OnOk result ((n : ℕ) × WritesRecords n self.old self.new (W.taken writer.old) (W.taken writer.new)) }
         ensures err { IfErr result (λ fault. Stops fault self.old self.new (W.taken writer.old) (W.taken writer.new)) }
     {
         let mut records = writer_after(Vec::new(*self.judgements.allocator()));

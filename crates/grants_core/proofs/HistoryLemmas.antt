@@ -1,10 +1,10 @@
 -- What one more change leaves in force.
-use Rattle.std.proofs.Common.{◌≡◌, ℕ, ◌+◌, ◌<◌, ◌≤◌, Bool, true, false, not, ◌||◌, ◌&&◌, cond, ltb, List, [], ◌∷◌, ◌++◌, length, refl, sym, ap, ◌∙◌, append_assoc, add_assoc, add-zero, arith, map}
+use Rattle.std.proofs.Common.{◌≡◌, ℕ, ◌+◌, ◌<◌, ◌≤◌, Bool, true, false, not, ◌||◌, ◌&&◌, cond, ltb, List, [], ◌∷◌, ◌++◌, length, refl, sym, ap, subst, ◌∙◌, append_assoc, add_assoc, add-zero, arith, map, ⊎_elim}
 use Rattle.std.specs.List.{AllByRecursion, All, filter, list_any}
-use Rattle.std.proofs.lemmas.Bool.{lt-ltb, le-ltb, or_from, or_parts, and_left, cond-true}
+use Rattle.std.proofs.lemmas.Bool.{lt-ltb, le-ltb, or_from, or_parts, and_left, cond-true, cond-false, cases_Bool}
 use Rattle.std.proofs.lemmas.List.{append-nil}
 use Rattle.std.proofs.lemmas.List.Sums.{fold-append}
-use Rattle.std.proofs.lemmas.List.Elements.{filter-append, filter_agree, recursion_from_All}
+use Rattle.std.proofs.lemmas.List.Elements.{filter-append, filter_agree, recursion_from_All, All-from_recursion}
 use Rattle.base_core.specs.Words.{same_name}
 use Rattle.base_core.specs.declared.name.Name.{Name}
 use Rattle.base_core.specs.declared.name.User.{User}
@@ -17,7 +17,7 @@ use Rattle.grants_core.specs.declared.grant.Change.{Change}
 use Rattle.grants_core.specs.declared.grant.Change.TheVariants as change
 use Rattle.grants_core.specs.Owners.{owns, with_owner, with_granted, was_granted}
 use Rattle.grants_core.specs.Valid.{valid, AreSupported}
-use Rattle.grants_core.specs.Content.{may_grant, names, without, singles, after_create, after_grant, after_revoke}
+use Rattle.grants_core.specs.Content.{Content, may_grant, names, without, singles, after_create, after_grant, after_revoke}
 use Rattle.grants_core.specs.History.{made_by, made_by_all, grants_of, is_struck_by, owners_with, granted_from, granted, is_granted, is_struck_from, is_struck, owners_after, unstruck_after, in_force_after, content_after}
 use Rattle.grants_core.specs.Made.{AreMarked, unstruck, newly}
 use Rattle.grants_core.proofs.ValidLemmas.{valid-filter_valid, valid-append}
@@ -30,7 +30,7 @@ pub made_by_all-more : (cs : List Change) (c : Change) → made_by_all (cs ++ c 
 made_by_all-more [] c = omega arith
 made_by_all-more (x ∷ xs) c = let rest = made_by_all-more xs c in omega (arith, rest)
 
-or_assoc : (a b c : Bool) → ((a || b) || c) ≡ (a || (b || c))
+pub or_assoc : (a b c : Bool) → ((a || b) || c) ≡ (a || (b || c))
 or_assoc true b c = refl
 or_assoc false b c = refl
 
@@ -176,7 +176,7 @@ in_force-alike cs table owner alike =
 pub in_force-create : (cs : List Change) (table : Name) (owner : User) → was_granted (owners_after cs) table ≡ false → AreMarked (owners_after cs) (unstruck_after cs) → in_force_after (cs ++ change.Create table owner ∷ []) ≡ in_force_after cs
 in_force-create cs table owner fresh marked = in_force-alike cs table owner (alike-with_owner table owner (owners_after cs) (unstruck_after cs) fresh marked)
 
-none_of : (p : Grant → Bool) (gs : List Grant) → list_any p gs ≡ false → AllByRecursion (λ g. p g ≡ false) gs
+pub none_of : (p : Grant → Bool) (gs : List Grant) → list_any p gs ≡ false → AllByRecursion (λ g. p g ≡ false) gs
 none_of p [] h = tt
 none_of p (g ∷ gs) h = let parts = or_parts _ _ h in (parts.0, none_of p gs parts.1)
 
@@ -231,3 +231,45 @@ kept-revoke gs m by atoms whom early =
     ∙ filter_alike (λ g. not (ltb g.moment.0 m && names by atoms whom g)) (λ g. not (names by atoms whom g)) gs
     (All-implied (λ g. g.moment.0 < m) (λ g. not (ltb g.moment.0 m && names by atoms whom g) ≡ not (names by atoms whom g)) gs
     (λ g lt. ap (λ b. not (b && names by atoms whom g)) (lt-ltb _ _ lt)) (recursion_from_All (λ g. g.moment.0 < m) gs early)))
+
+valid_again : (o : List Ownership) (grants : List Grant) → valid o (valid o grants) ≡ valid o grants
+valid_again o grants =
+    let keep_all : (gs : List Grant) → gs ≡ filter (λ g. true) gs = λ gs. kept-idle gs ∙ append-nil (filter (λ g. true) gs) in
+    ap (valid o) (keep_all (valid o grants)) ∙ valid-filter_valid o (λ g. true) grants ∙ ap (valid o) (sym (keep_all grants))
+
+-- what a filter keeps passes
+filter_passes : (p : Grant → Bool) (xs : List Grant) → AllByRecursion (λ g. p g ≡ true) (filter p xs)
+filter_passes p [] = tt
+filter_passes p (x ∷ xs) =
+    ⊎_elim
+    (λ (pass : p x ≡ true).
+    let P : List Grant → Type 0 = λ k. AllByRecursion (λ g. p g ≡ true) k in
+    subst P (sym (cond-true (p x) (x ∷ filter p xs) (filter p xs) pass)) (pass, filter_passes p xs))
+    (λ (fail : p x ≡ false).
+    let P : List Grant → Type 0 = λ k. AllByRecursion (λ g. p g ≡ true) k in
+    subst P (sym (cond-false (p x) (x ∷ filter p xs) (filter p xs) fail)) (filter_passes p xs))
+    (cases_Bool (p x))
+
+not_true : (b : Bool) → not b ≡ true → b ≡ false
+not_true true h = cc
+not_true false h = refl
+
+-- **a revocation leaves everything as it was exactly where it names no grant in force**
+pub revoke-unnamed : (cs : List Change) (by : User) (atoms : List Atom) (whom : List User) → All (λ g. names by atoms whom g ≡ false) (in_force_after cs) → after_revoke (content_after cs) by atoms whom ≡ content_after cs
+revoke-unnamed cs by atoms whom none =
+    let o : List Ownership = owners_after cs in
+    let Unnamed : Grant → Type 0 = λ g. names by atoms whom g ≡ false in
+    let all : without by atoms whom (in_force_after cs) ≡ in_force_after cs =
+    filter_all (λ g. not (names by atoms whom g)) (in_force_after cs)
+    (All-implied Unnamed (λ g. not (names by atoms whom g) ≡ true) (in_force_after cs) (λ g e. ap not e) (recursion_from_All Unnamed (in_force_after cs) none)) in
+    same_content _ _ _ _ _ _ refl (ap (valid o) all ∙ valid_again o (unstruck_after cs)) refl
+
+pub revoke-named : (cs : List Change) (by : User) (atoms : List Atom) (whom : List User) → after_revoke (content_after cs) by atoms whom ≡ content_after cs → All (λ g. names by atoms whom g ≡ false) (in_force_after cs)
+revoke-named cs by atoms whom same =
+    let Unnamed : Grant → Type 0 = λ g. names by atoms whom g ≡ false in
+    let Passes : Grant → Type 0 = λ g. not (names by atoms whom g) ≡ true in
+    let left : List Grant = without by atoms whom (in_force_after cs) in
+    let passes : AllByRecursion Passes (valid (owners_after cs) left) = All-valid Passes (owners_after cs) left (filter_passes (λ g. not (names by atoms whom g)) (in_force_after cs)) in
+    let All_pass : List Grant → Type 0 = λ k. AllByRecursion Passes k in
+    let is : valid (owners_after cs) left ≡ in_force_after cs = ap (λ (c : Content). c.in_force) same in
+    All-from_recursion Unnamed (in_force_after cs) (All-implied Passes Unnamed (in_force_after cs) (λ g e. not_true _ e) (subst All_pass is passes))

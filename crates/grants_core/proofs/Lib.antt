@@ -3,7 +3,9 @@ pub mod SameLemmas
 pub mod ValidLemmas
 pub mod OwnersLemmas
 pub mod SinglesLemmas
+pub mod NumberLemmas
 pub mod GrantLemmas
 pub mod MadeLemmas
 pub mod HistoryLemmas
+pub mod MarkLemmas
 pub mod SameGrant

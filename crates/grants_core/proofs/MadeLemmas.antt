@@ -15,7 +15,9 @@ use Rattle.grants_core.specs.Owners.{with_owner, with_granted, was_granted}
 use Rattle.grants_core.specs.Valid.{is_supported, kept_with, valid, AreSupported}
 use Rattle.grants_core.specs.Content.{Content, may_grant, names, without, singles}
 use Rattle.grants_core.specs.Made.{grants_in, unstruck, standing, newly, AreMarked, IsReplayed}
+use Rattle.grants_core.specs.Numbers.{IsNumbered}
 use Rattle.grants_core.proofs.SinglesLemmas.{length-singles}
+use Rattle.grants_core.proofs.NumberLemmas.{IsNumbered-added, IsNumbered-filter, IsNumbered-valid}
 use Rattle.grants_core.proofs.OwnersLemmas.{valid-owners, alike-with_owner, alike-with_granted, AreMarked-with_owner, AreMarked-with_granted, AllByRecursion-append}
 use Rattle.grants_core.proofs.GrantLemmas.{singles-supported, singles-marked, All-valid, All-filtered}
 use Rattle.grants_core.proofs.ValidLemmas.{valid-push, valid-append, valid-filter_valid}
@@ -131,10 +133,13 @@ pub IsReplayed-with_owner : (table : Name) (owner : User) (os : List Ownership) 
 IsReplayed-with_owner table owner os made fresh h = record {
   valid_stand = h.valid_stand ∙ sym (valid-owners os (with_owner table owner os) (unstruck made) (alike-with_owner table owner os (unstruck made) fresh h.marked));
   marked = AreMarked-with_owner table owner os (unstruck made) h.marked;
+  numbered = h.numbered;
 }
 
-pub IsReplayed-added : (os : List Ownership) (made : List Made) (first : ℕ) (at : Moment) (by : User) (atoms : List Atom) (whom : List User) (option : Bool) → IsReplayed os made → All (λ atom. may_grant os (standing made) by atom ≡ true) atoms → All (λ g. g.moment.0 < at.0) (standing made) → IsReplayed (with_granted atoms os) (made ++ map newly (singles first at by atoms whom option))
-IsReplayed-added os made first at by atoms whom option h may later =
+pub IsReplayed-added : (os : List Ownership) (made : List Made) (at : Moment) (by : User) (atoms : List Atom) (whom : List User) (option : Bool) → IsReplayed os made → All (λ atom. may_grant os (standing made) by atom ≡ true) atoms → All (λ g. g.moment.0 < at.0) (standing made) → IsReplayed (with_granted atoms os) (made ++ map newly (singles (length made) at by atoms whom option))
+IsReplayed-added os made at by atoms whom option h may later =
+    let first : ℕ = length made in
+    let count : ℕ = length atoms * length whom in
     let gs : List Grant = singles first at by atoms whom option in
     let marks : List Ownership = with_granted atoms os in
     let may_each : AllByRecursion (λ atom. may_grant os (standing made) by atom ≡ true) atoms = recursion_from_All (λ atom. may_grant os (standing made) by atom ≡ true) atoms may in
@@ -144,25 +149,38 @@ IsReplayed-added os made first at by atoms whom option h may later =
     let all_valid : valid os (unstruck made ++ gs) ≡ standing made ++ gs = valid-append os (unstruck made) gs (subst P h.valid_stand supported) ∙ ap (λ v. v ++ gs) (sym h.valid_stand) in
     let Marked : List Grant → Type 0 = λ k. AreMarked marks k in
     let S : List Grant → Type 0 = λ v. AreMarked os v in
+    let Numbered : List Grant → Type 0 = λ k. IsNumbered (first + count) k in
+    let Below : ℕ → Type 0 = λ n. IsNumbered n (unstruck (made ++ map newly gs)) in
     record {
       valid_stand = standing-added made gs ∙ sym all_valid ∙ sym (valid-owners os marks (unstruck made ++ gs) (alike-with_granted atoms os (unstruck made ++ gs))) ∙ ap (valid marks) (sym (unstruck-added made gs));
       marked = subst Marked (sym (unstruck-added made gs)) (AllByRecursion-append (λ g. was_granted marks g.atom.table ≡ true) (unstruck made) gs
           (AreMarked-with_granted atoms os (unstruck made) h.marked)
           (singles-marked os (standing made) first at by atoms whom option (subst S (sym h.valid_stand) (All-valid (λ g. was_granted os g.atom.table ≡ true) os (unstruck made) h.marked)) may_each));
+      numbered = subst Below (sym (length-added made first at by atoms whom option))
+          (subst Numbered (sym (unstruck-added made gs)) (IsNumbered-added first (unstruck made) at by atoms whom option h.numbered));
     }
 
 -- a revocation: what is struck, and what a refold then lets stand
-pub IsReplayed-struck : (os : List Ownership) (before after : List Made) (by : User) (atoms : List Atom) (whom : List User) → IsReplayed os before → unstruck after ≡ without by atoms whom (unstruck before) → standing after ≡ valid os (unstruck after) → IsReplayed os after
-IsReplayed-struck os before after by atoms whom h left stand =
+pub IsReplayed-struck : (os : List Ownership) (before after : List Made) (by : User) (atoms : List Atom) (whom : List User) → IsReplayed os before → unstruck after ≡ without by atoms whom (unstruck before) → standing after ≡ valid os (unstruck after) → length after ≡ length before → IsReplayed os after
+IsReplayed-struck os before after by atoms whom h left stand count =
     let P : List Grant → Type 0 = λ v. AreMarked os v in
+    let Numbered : List Grant → Type 0 = λ v. IsNumbered (length before) v in
+    let Below : ℕ → Type 0 = λ n. IsNumbered n (unstruck after) in
     record {
       valid_stand = stand;
       marked = subst P (sym left) (All-filtered (λ g. was_granted os g.atom.table ≡ true) (λ g. not (names by atoms whom g)) (unstruck before) h.marked);
+      numbered = subst Below (sym count) (subst Numbered (sym left) (IsNumbered-filter (length before) (λ g. not (names by atoms whom g)) (unstruck before) h.numbered));
     }
 
 pub standing-struck : (os : List Ownership) (before : List Made) (by : User) (atoms : List Atom) (whom : List User) → IsReplayed os before → valid os (without by atoms whom (unstruck before)) ≡ valid os (without by atoms whom (standing before))
 standing-struck os before by atoms whom h =
     sym (valid-filter_valid os (λ g. not (names by atoms whom g)) (unstruck before)) ∙ ap (λ v. valid os (without by atoms whom v)) (sym h.valid_stand)
+
+-- those that stand are numbered so
+pub IsNumbered-standing : (os : List Ownership) (made : List Made) → IsReplayed os made → IsNumbered (length made) (standing made)
+IsNumbered-standing os made h =
+    let Numbered : List Grant → Type 0 = λ v. IsNumbered (length made) v in
+    subst Numbered (sym h.valid_stand) (IsNumbered-valid (length made) os (unstruck made) h.numbered)
 
 pub same_content : (os ps : List Ownership) (gs hs : List Grant) (n m : ℕ) → os ≡ ps → gs ≡ hs → n ≡ m → content_of os gs n ≡ content_of ps hs m
 same_content os ps gs hs n m e f g = cc

@@ -250,3 +250,15 @@ fold-all_supported o kept (g ∷ gs) h =
 -- **grants that the valid ones support follow them**
 pub valid-append : (o : List Ownership) (grants more : List Grant) → AreSupported o (valid o grants) more → valid o (grants ++ more) ≡ valid o grants ++ more
 valid-append o grants more h = fold-append (kept_with o) [] grants more ∙ fold-all_supported o (valid o grants) more h
+
+fold-part : (o : List Ownership) (kept before grants : List Grant) → IsPart kept before → IsPart (fold (kept_with o) kept grants) (before ++ grants)
+fold-part o kept before [] h = rw (append-nil before) h
+fold-part o kept before (g ∷ gs) h =
+    let one : IsPart (kept_with o kept g) (before ++ g ∷ []) =
+    elim (is_supported o kept g) as (λ b. IsPart (cond b (kept ++ g ∷ []) kept) (before ++ g ∷ [])) [ true ↦ part-both kept before g h | false ↦ part-more kept before g h ] in
+    let more : IsPart (fold (kept_with o) (kept_with o kept g) gs) ((before ++ g ∷ []) ++ gs) = fold-part o (kept_with o kept g) (before ++ g ∷ []) gs one in
+    rw (append_assoc before (g ∷ []) gs) at more
+
+-- **the valid grants of a list are a part of it**
+pub valid-part : (o : List Ownership) (grants : List Grant) → IsPart (valid o grants) grants
+valid-part o grants = fold-part o [] [] grants nothing

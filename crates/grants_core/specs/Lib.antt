@@ -1,6 +1,8 @@
 pub mod Same
 pub mod Owners
 pub mod Valid
+pub mod Numbers
 pub mod Content
 pub mod History
+pub mod Marks
 pub mod Made

@@ -1,11 +1,12 @@
 -- The grants that were made, each with whether it was struck and whether it stands.
-use Rattle.std.specs.Prelude.{◌≡◌, Bool, true, false, not, ◌&&◌, ◌==◌, List, map, filter}
+use Rattle.std.specs.Prelude.{◌≡◌, Bool, true, false, not, ◌&&◌, ◌==◌, List, length, map, filter}
 use Rattle.std.specs.Bool.{beq}
 use Rattle.std.specs.List.{AllByRecursion}
 use Rattle.base_core.specs.Users.{same_user}
 use Rattle.grants_core.specs.Same.{same_atom}
 use Rattle.grants_core.specs.Owners.{was_granted}
 use Rattle.grants_core.specs.Valid.{valid}
+use Rattle.grants_core.specs.Numbers.{IsNumbered}
 use Rattle.grants_core.specs.declared.grant.Grant.{Grant}
 use Rattle.grants_core.specs.declared.grant.Ownership.{Ownership}
 use Rattle.grants_core.specs.declared.made.Made.{Made}
@@ -29,10 +30,12 @@ newly g = record { grant = g; struck = false; stands = true }
 abbrev pub AreMarked : List Ownership → List Grant → Type 0
 AreMarked owners grants = AllByRecursion (λ g. was_granted owners g.atom.table ≡ true) grants
 
--- exactly the valid ones of those that were not struck stand, and the table of each is marked
+-- exactly the valid ones of those that were not struck stand; the table of each is marked,
+-- and their numbers rise
 pub record IsReplayed (owners : List Ownership) (made : List Made) : Type 0 where
   pub valid_stand : standing made ≡ valid owners (unstruck made)
   pub marked : AreMarked owners (unstruck made)
+  pub numbered : IsNumbered (length made) (unstruck made)
 
 -- whether two grants are the same, field by field
 abbrev pub same_grant : Grant → Grant → Bool

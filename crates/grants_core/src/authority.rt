@@ -1,5 +1,6 @@
 //! What keeps the grants in force.
 ghost use Rattle.std.specs.Prelude.{◌≡◌, ◌+◌, ◌*◌, ◌^◌, ◌<◌, ◌≤◌, ◌↔◌, true, false, length, All, IsTrue, OnOk, OnErr, IfOk};
+ghost use Rattle.grants_core.specs.Numbers.{IsNumbered};
 ghost use Rattle.grants_core.specs.Owners.{was_granted};
 ghost use Rattle.grants_core.specs.Content.{Content, after_create, after_grant, after_revoke, holds, may_grant, has_made, count_of};
 
@@ -57,9 +58,10 @@ pub trait Authority {
     fn room(&self, atom: &Atom, more: u64, limit: u64) -> bool
         ensures { IsTrue result ↔ (count_of (content self.now).in_force atom.now + more ≤ limit) };
 
-    /// The grants in force, in the order of their numbers.
+    /// The grants in force, in the order of their numbers, each of which is below `made`.
     fn live(&self) -> Result<Vec<Grant>, NoMemory>
-        ensures { IfOk result (λ grants. grants.items ≡ (content self.now).in_force) };
+        ensures in_force { IfOk result (λ grants. grants.items ≡ (content self.now).in_force) }
+        ensures numbered { IsNumbered (content self.now).made (content self.now).in_force };
 
     /// How many single grants were ever made.
     fn made(&self) -> u64

@@ -1,5 +1,6 @@
 //! Laws of the grants in force, each the contract of a function that does nothing.
-ghost use Rattle.std.specs.Prelude.{◌≡◌, ℕ, ◌+◌, ◌++◌, ◌∷◌, [], Bool, true, false, List, filter, length, All};
+ghost use Rattle.std.specs.Prelude.{◌≡◌, ℕ, ◌+◌, ◌++◌, ◌∷◌, [], Bool, true, false, List, filter, map, length, All, ◌↔◌};
+ghost use Rattle.std.specs.List.{range_with_len};
 ghost use Rattle.base_core.specs.declared.name.Name.{Name};
 ghost use Rattle.base_core.specs.declared.name.User.{User};
 ghost use Rattle.base_core.specs.declared.privilege.Atom.{Atom};
@@ -7,8 +8,10 @@ ghost use Rattle.grants_core.specs.declared.grant.Grant.{Grant};
 ghost use Rattle.grants_core.specs.declared.grant.Ownership.{Ownership};
 ghost use Rattle.grants_core.specs.declared.grant.Change.{Change};
 ghost use Rattle.grants_core.specs.Valid.{valid, is_supported, IsPart, IsInOrder, AreSupported};
-ghost use Rattle.grants_core.specs.Content.{may_grant, after_create, after_grant, after_revoke};
-ghost use Rattle.grants_core.specs.History.{is_granted, owners_after, in_force_after, content_after};
+ghost use Rattle.grants_core.specs.Content.{may_grant, names, after_create, after_grant, after_revoke};
+ghost use Rattle.grants_core.specs.Numbers.{IsNumbered};
+ghost use Rattle.grants_core.specs.History.{granted, made_by_all, is_granted, owners_after, in_force_after, content_after};
+ghost use Rattle.grants_core.specs.Marks.{is_marked, is_granted_once_created, is_granted_uncreated, AreToSomebody, AreGrantable};
 
 /// Whatever is valid in a part of a list of grants is valid in the list: more grants make none fall.
 pub fn valid_of_a_part()
@@ -55,4 +58,45 @@ pub fn after_a_revocation()
 /// Another change leaves everything as it was.
 pub fn after_another_change()
     ensures { (changes : List Change) → content_after (changes ++ Change.Other ∷ []) ≡ content_after changes }
+{}
+
+/// The grants that were made are numbered from 0, in order. So the numbers of those in force rise,
+/// and each is below how many were ever made.
+pub fn numbers_rise()
+    ensures granted { (changes : List Change)
+        → map (λ g. g.number) (granted changes) ≡ range_with_len 0 (made_by_all changes) }
+    ensures in_force { (changes : List Change)
+        → IsNumbered (content_after changes).made (content_after changes).in_force }
+{}
+
+/// A table is marked exactly where a grant of an atom of it, even to nobody, came after its first
+/// creation. So where each such grant is to somebody, single grants were made on each marked table;
+/// and each table on which one was made is marked, where no grant came before its creation. None
+/// does where each is by a user who may grant it at that point: then a table is marked exactly where
+/// a grant on it was ever made.
+pub fn marked_where_granted()
+    ensures marked { (changes : List Change) (table : Name)
+        → is_marked changes table ≡ is_granted_once_created changes table }
+    ensures made { (changes : List Change) (table : Name)
+        → AreToSomebody changes table
+        → is_marked changes table ≡ true
+        → is_granted changes table ≡ true }
+    ensures noted { (changes : List Change) (table : Name)
+        → is_granted_uncreated changes table ≡ false
+        → is_granted changes table ≡ true
+        → is_marked changes table ≡ true }
+    ensures created { (changes : List Change) (table : Name)
+        → AreGrantable changes
+        → is_granted_uncreated changes table ≡ false }
+    ensures lawful { (changes : List Change) (table : Name)
+        → AreGrantable changes
+        → AreToSomebody changes table
+        → is_marked changes table ≡ is_granted changes table }
+{}
+
+/// A revocation changes nothing exactly where it names no grant in force.
+pub fn unnamed_is_needless()
+    ensures { (changes : List Change) (by : User) (atoms : List Atom) (whom : List User)
+        → (after_revoke (content_after changes) by atoms whom ≡ content_after changes)
+        ↔ All (λ g. names by atoms whom g ≡ false) (in_force_after changes) }
 {}

@@ -13,3 +13,7 @@ pub mod FirstToken
 pub mod Shortness
 pub mod FirstFault
 pub mod Lines
+pub mod EachMark
+pub mod EachChar
+pub mod EachFront
+pub mod EachLine

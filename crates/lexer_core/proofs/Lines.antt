@@ -52,7 +52,7 @@ module _ (line : List ℕ) where
         (subst (λ (z : ℕ). Reads line (n + z) (ts ++ record { kind = kind_of l; start = n; end = n + z } ∷ []) k vs) (sym e.1)
         (subst (λ (z : Lexeme). Reads line (n + q) (ts ++ record { kind = kind_of z; start = n; end = n + q } ∷ []) k vs) (sym e.0) s)) x y
 
-first_is : {A : Type 0} (line : List ℕ) (n : ℕ) (test : ℕ → A) (a : A) → test (slice_index line n) ≡ a → test (slice_index (drop n line) 0) ≡ a
+pub first_is : {A : Type 0} (line : List ℕ) (n : ℕ) (test : ℕ → A) (a : A) → test (slice_index line n) ≡ a → test (slice_index (drop n line) 0) ≡ a
 first_is line n test a e = ap test (get_or-drop n line 0 0 ∙ ap (λ (m : ℕ). get_or line m 0) (let z : n + 0 ≡ n = omega arith in z)) ∙ e
 
 apart_at : (line : List ℕ) (n : ℕ) (l : Lexeme) (k : ℕ) → is_blank (slice_index line n) ≡ true → Begins (drop n line) l k → ⊥

@@ -23,7 +23,7 @@ written_all cs = flat_map written cs
 abbrev pub BeginsWithNoPlain : List ℕ → Type 0
 BeginsWithNoPlain bytes = (c : ℕ) (rest : List ℕ) → IsScalar c → is_printable c ≡ true → bytes ≢ encode_utf8 c ++ rest
 
--- the bytes begin with a character of n bytes that may stand in a text, and is no quote or stands for one
+-- the bytes begin with a character, of n bytes, that may stand in a text
 pub record BeginsWithPlain (bytes : List ℕ) (n : ℕ) : Type 0 where
   pub char : ℕ
   pub rest : List ℕ

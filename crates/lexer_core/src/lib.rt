@@ -18,8 +18,8 @@
 //! tokens(alloc, b"a = 'x")       // Err: OpenText at 4
 //! ```
 //!
-//! That a line says one thing, has one list of tokens and one fault, and never both, are laws, each on
-//! an empty function.
+//! That each line says something or has a fault, never both, never two things, two lists of tokens or
+//! two faults, are laws, each on an empty function.
 //!
 //! Reading goes over the bytes of a line once, and over those of a word or a number once more, to
 //! say which it is. [`tokens`] takes memory for its vector: once for a usual line, of at most 16
@@ -39,7 +39,7 @@ mod word;
 pub use base_core::MAX_NAME;
 pub use bytes::byte_at;
 pub use fault::{Code, ReadFault};
-pub use laws::{one_fault, one_list_of_tokens, one_reading, said_or_faulty};
+pub use laws::{one_fault, one_list_of_tokens, one_reading, reading_or_fault, said_or_faulty};
 pub use lexer::{MAX_LINE, is_blank, tokens};
 pub use text::unquoted;
 pub use token::{Kind, Mark, Token};

@@ -30,7 +30,7 @@ Check = Result (Unit {0}) Lack
 
 -- passed where the test holds
 abbrev pub require : Bool → Lack → Check
-require holds lack = if holds then Ok tt else Err lack
+require test lack = if test then Ok tt else Err lack
 
 -- the first of the checks that fails
 abbrev pub first_lack : List Check → Check
@@ -70,15 +70,15 @@ table_stands s table = require (is_table s.tables table) (NoTable table)
 abbrev pub table_is_new : State → Name → Check
 table_is_new s table = require (not (is_table s.tables table)) (TableExists table)
 
-abbrev pub holds : State → User → Atom → Check
-holds s user atom = require (rights.holds s.rights.owners s.rights.in_force user atom) (NoPrivilege user atom)
+abbrev pub holds_privilege : State → User → Atom → Check
+holds_privilege s user atom = require (rights.holds s.rights.owners s.rights.in_force user atom) (NoPrivilege user atom)
 
-abbrev pub may_grant : State → User → Atom → Check
-may_grant s user atom = require (rights.may_grant s.rights.owners s.rights.in_force user atom) (NoGrantOption user atom)
+abbrev pub holds_grant_option : State → User → Atom → Check
+holds_grant_option s user atom = require (rights.may_grant s.rights.owners s.rights.in_force user atom) (NoGrantOption user atom)
 
 -- a grant of the atom by the one to the other is in force
-abbrev pub has_made : State → User → Atom → User → Check
-has_made s by atom to = require (rights.has_made s.rights.in_force by to atom) (NoGrant by to atom)
+abbrev pub made_grant : State → User → Atom → User → Check
+made_grant s by atom to = require (rights.has_made s.rights.in_force by to atom) (NoGrant by to atom)
 
 abbrev pub count_is_right : State → Name → List Value → Check
 count_is_right s table values = require (length values == length (columns_of s.tables table)) (WrongCount (length values) (length (columns_of s.tables table)))
@@ -126,17 +126,17 @@ abbrev pub checks : State → User → Statement → List Check
 checks s user (statements.CreateTable table columns) =
     table_is_new s table ∷ room_for_change s ∷ room_for_table s ∷ []
 checks s user (statements.Insert table values) =
-    table_stands s table ∷ holds s user (of_table table kinds.Insert) ∷ count_is_right s table values ∷ types_are_right s table values ∷ room_for_change s ∷ []
+    table_stands s table ∷ holds_privilege s user (of_table table kinds.Insert) ∷ count_is_right s table values ∷ types_are_right s table values ∷ room_for_change s ∷ []
 checks s user (statements.Select list table filter) =
-    table_stands s table ∷ list_stands s table list ∷ each filter (λ c. column_stands s table c.column) ∷ holds s user (of_table table kinds.Select) ∷ each filter (λ c. column_takes s table c.column c.literal) ∷ []
+    table_stands s table ∷ list_stands s table list ∷ each filter (λ c. column_stands s table c.column) ∷ holds_privilege s user (of_table table kinds.Select) ∷ each filter (λ c. column_takes s table c.column c.literal) ∷ []
 checks s user (statements.Delete table filter) =
-    table_stands s table ∷ each filter (λ c. column_stands s table c.column) ∷ holds s user (of_table table kinds.Delete) ∷ with_filter filter (holds s user (of_table table kinds.Select)) ∷ each filter (λ c. column_takes s table c.column c.literal) ∷ room_for_change s ∷ []
+    table_stands s table ∷ each filter (λ c. column_stands s table c.column) ∷ holds_privilege s user (of_table table kinds.Delete) ∷ with_filter filter (holds_privilege s user (of_table table kinds.Select)) ∷ each filter (λ c. column_takes s table c.column c.literal) ∷ room_for_change s ∷ []
 checks s user (statements.Update table sets filter) =
-    table_stands s table ∷ each sets (λ a. column_stands s table a.column) ∷ each filter (λ c. column_stands s table c.column) ∷ each sets (λ a. holds s user (to_update table a.column)) ∷ with_filter filter (holds s user (of_table table kinds.Select)) ∷ each sets (λ a. column_takes s table a.column a.value) ∷ each filter (λ c. column_takes s table c.column c.literal) ∷ room_for_change s ∷ []
+    table_stands s table ∷ each sets (λ a. column_stands s table a.column) ∷ each filter (λ c. column_stands s table c.column) ∷ each sets (λ a. holds_privilege s user (to_update table a.column)) ∷ with_filter filter (holds_privilege s user (of_table table kinds.Select)) ∷ each sets (λ a. column_takes s table a.column a.value) ∷ each filter (λ c. column_takes s table c.column c.literal) ∷ room_for_change s ∷ []
 checks s user (statements.Grant privileges table users option) =
-    table_stands s table ∷ listed_columns_stand s table privileges ∷ each (atoms_at s.tables table privileges) (may_grant s user) ∷ room_for_change s ∷ each (atoms_at s.tables table privileges) (room_for_grants s users) ∷ []
+    table_stands s table ∷ listed_columns_stand s table privileges ∷ each (atoms_at s.tables table privileges) (holds_grant_option s user) ∷ room_for_change s ∷ each (atoms_at s.tables table privileges) (room_for_grants s users) ∷ []
 checks s user (statements.Revoke privileges table users) =
-    table_stands s table ∷ listed_columns_stand s table privileges ∷ each (atoms_at s.tables table privileges) (λ atom. each users (has_made s user atom)) ∷ room_for_change s ∷ []
+    table_stands s table ∷ listed_columns_stand s table privileges ∷ each (atoms_at s.tables table privileges) (λ atom. each users (made_grant s user atom)) ∷ room_for_change s ∷ []
 checks s user statements.Checkpoint = []
 checks s user statements.Checkpoints = []
 checks s user (statements.Export number None) = []

@@ -3,7 +3,7 @@ ghost use Rattle.std.specs.Prelude.{◌≡◌, ℕ, ◌∷◌, [], ◌≤◌, na
 ghost use Rattle.base_core.specs.declared.name.User.{User};
 ghost use Rattle.base_core.specs.declared.privilege.Kind.TheVariants as kinds;
 ghost use Rattle.reader_core.specs.declared.statement.Statement.TheVariants as statements;
-ghost use Rattle.monitor_core.specs.Verdict.{verdict, first_lack, holds, each, column_stands, column_takes, table_stands, table_is_new, with_filter, list_stands, room_for_change, room_for_table, listed_columns_stand, atoms_at, may_grant, has_made, has_room, room_for_grants};
+ghost use Rattle.monitor_core.specs.Verdict.{verdict, first_lack, holds_privilege, each, column_stands, column_takes, table_stands, table_is_new, with_filter, list_stands, room_for_change, room_for_table, listed_columns_stand, atoms_at, holds_grant_option, made_grant, has_room, room_for_grants};
 ghost use Rattle.monitor_core.specs.Atoms.{to_update, columns_listed};
 
 use crate::checks::{Literal, columns_of, each_takes, is_table, require, takes};
@@ -42,7 +42,7 @@ struct Held<'a, A: Authority> {
 }
 
 impl<'a, A: Authority> AtomCheck for Held<'a, A> {
-    ghost check_of = { λ c atom. holds c.judge.now c.user atom };
+    ghost check_of = { λ c atom. holds_privilege c.judge.now c.user atom };
 
     fn check(&self, atom: Atom) -> Result<(), Lack> {
         self.judge.may(&self.user, atom)
@@ -57,7 +57,7 @@ struct Grantable<'a, A: Authority> {
 }
 
 impl<'a, A: Authority> AtomCheck for Grantable<'a, A> {
-    ghost check_of = { λ c atom. may_grant c.judge.now c.user atom };
+    ghost check_of = { λ c atom. holds_grant_option c.judge.now c.user atom };
 
     fn check(&self, atom: Atom) -> Result<(), Lack> {
         self.judge.may_grant(&self.user, atom)
@@ -89,7 +89,7 @@ struct Granted<'a, A: Authority> {
 }
 
 impl<'a, A: Authority> AtomCheck for Granted<'a, A> {
-    ghost check_of = { λ c atom. each c.users.now (has_made c.judge.now c.by atom) };
+    ghost check_of = { λ c atom. each c.users.now (made_grant c.judge.now c.by atom) };
 
     fn check(&self, atom: Atom) -> Result<(), Lack> {
         self.judge.has_made_each(&self.by, self.users, &atom)
@@ -104,7 +104,7 @@ impl<A: Authority> Judge<'_, A> {
     }
 
     fn may(&self, user: &User, atom: Atom) -> Result<(), Lack>
-        ensures { result ≡ holds self.now user.now atom }
+        ensures { result ≡ holds_privilege self.now user.now atom }
     {
         let may = self.rights.holds(*user, &atom);
         require(may, Lack::NoPrivilege { user: *user, atom })
@@ -113,7 +113,7 @@ impl<A: Authority> Judge<'_, A> {
     /// With a filter the user needs this too.
     #[tactic(auto, unfolding(crate::specs::Verdict::with_filter))]
     fn may_filter(&self, user: &User, atom: Atom, filter: &[Condition]) -> Result<(), Lack>
-        ensures { result ≡ with_filter filter.now (holds self.now user.now atom) }
+        ensures { result ≡ with_filter filter.now (holds_privilege self.now user.now atom) }
     {
         match filter {
             [] => Ok(()),
@@ -122,7 +122,7 @@ impl<A: Authority> Judge<'_, A> {
     }
 
     fn may_update(&self, user: &User, table: Name, sets: &[Assignment]) -> Result<(), Lack>
-        ensures { result ≡ each sets.now (λ a. holds self.now user.now (to_update table a.column)) }
+        ensures { result ≡ each sets.now (λ a. holds_privilege self.now user.now (to_update table a.column)) }
     {
         let held = Held {
             judge: self,
@@ -132,14 +132,14 @@ impl<A: Authority> Judge<'_, A> {
     }
 
     fn may_grant(&self, user: &User, atom: Atom) -> Result<(), Lack>
-        ensures { result ≡ may_grant self.now user.now atom }
+        ensures { result ≡ holds_grant_option self.now user.now atom }
     {
         let may = self.rights.may_grant(*user, &atom);
         require(may, Lack::NoGrantOption { user: *user, atom })
     }
 
     fn has_made(&self, by: &User, to: &User, atom: &Atom) -> Result<(), Lack>
-        ensures { result ≡ has_made self.now by.now atom.now to.now }
+        ensures { result ≡ made_grant self.now by.now atom.now to.now }
     {
         let made = self.rights.has_made(*by, *to, atom);
         let Atom { table, kind } = *atom;
@@ -152,7 +152,7 @@ impl<A: Authority> Judge<'_, A> {
     }
 
     fn has_made_each(&self, by: &User, users: &[User], atom: &Atom) -> Result<(), Lack>
-        ensures { result ≡ each users.now (has_made self.now by.now atom.now) }
+        ensures { result ≡ each users.now (made_grant self.now by.now atom.now) }
     {
         for to in users {
             if let Err(lack) = self.has_made(by, to, atom) {

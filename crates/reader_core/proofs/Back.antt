@@ -233,7 +233,7 @@ proper_of (Number z) bytes p = p.fits
 proper_of (Text t) bytes p = quoted_text t bytes p
 proper_of (Sign m) bytes p = tt
 
-proper_lexed : (line : List ℕ) (n : ℕ) (ts : List tokens.Token) (said : List Lexeme) → Lexed line n ts said → All IsProper said
+pub proper_lexed : (line : List ℕ) (n : ℕ) (ts : List tokens.Token) (said : List Lexeme) → Lexed line n ts said → All IsProper said
 proper_lexed line _ _ _ start = All-nil IsProper
 proper_lexed line _ _ _ (blank {n} {ts} {ls} m h b) = proper_lexed line n ts ls m
 proper_lexed line _ _ _ (token {n} {k} {ts} {ls} {l} m b) = All-push IsProper ls l (proper_lexed line n ts ls m) (proper_of l _ b.spelled)

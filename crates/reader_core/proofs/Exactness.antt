@@ -12,13 +12,13 @@ use Rattle.reader_core.specs.declared.statement.Statement.TheVariants as stateme
 use Rattle.reader_core.specs.Grammar.{Fault}
 use Rattle.reader_core.specs.Matches.{IsFault, IsWhole}
 use Rattle.reader_core.specs.Language.{statement, statement_says, SaysStatement, Spells, IsReadFault, lexical, nothing, ungrammatical, IsReadFaultOf, UnlessNoMemory}
-use Rattle.reader_core.proofs.Theory.{sound, judge_from_whole, judge_from_fault, one_fault as one_grammar_fault}
+use Rattle.reader_core.proofs.Theory.{sound, first_fault_from_whole, first_fault_from_fault, one_fault as one_grammar_fault}
 use Rattle.lexer_core.proofs.Lines.{says_once as one_reading, tokens_once as one_list_of_tokens, says_no_fault as said_or_faulty, fault_once as one_lexical_fault}
 use Rattle.reader_core.proofs.Whole.{says_whole, ending, ended}
 use Rattle.reader_core.proofs.Once.{said_once}
 
 -- ---- the kinds of tokens are those of what they say
-lexed_kinds : (line : List ℕ) (n : ℕ) (ts : List tokens.Token) (said : List Lexeme) → Lexed line n ts said → map (λ t. t.kind) ts ≡ map kind_of said
+pub lexed_kinds : (line : List ℕ) (n : ℕ) (ts : List tokens.Token) (said : List Lexeme) → Lexed line n ts said → map (λ t. t.kind) ts ≡ map kind_of said
 lexed_kinds line _ _ _ start = refl
 lexed_kinds line _ _ _ (blank {n} {ts} {ls} m h b) = lexed_kinds line n ts ls m
 lexed_kinds line _ _ _ (token {n} {k} {ts} {ls} {l} m b) =
@@ -63,7 +63,7 @@ spelled_no_fault line s _ _ p (ungrammatical {code} {offset} {t} {ts} a f) =
     let same : p.says.tokens_of ≡ t ∷ ts = one_list_of_tokens line p.says.tokens_of (t ∷ ts) (tokens_of line p.said p.says) a in
     let kinds : map kind_of p.said ≡ map (λ x. x.kind) (t ∷ ts) = sym (lexed_kinds line (length line) p.says.tokens_of p.said p.says.lexed) ∙ ap (map (λ x. x.kind)) same in
     let whole = subst (λ (ks : List Kind). IsWhole statement ks) kinds (says_whole p.said s p.lawful p.statement_of) in
-    no_fault (code, offset) (sym (judge_from_whole statement (length line) (t ∷ ts) sound whole) ∙ judge_from_fault statement (length line) (t ∷ ts) (code, offset) sound f)
+    no_fault (code, offset) (sym (first_fault_from_whole statement (length line) (t ∷ ts) sound whole) ∙ first_fault_from_fault statement (length line) (t ∷ ts) (code, offset) sound f)
 
 abbrev Agree : Code → ℕ → Code → ℕ → Type 0
 Agree code offset other place = (code ≡ other) × (offset ≡ place)

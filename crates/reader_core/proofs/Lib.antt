@@ -16,3 +16,7 @@ pub mod Proper
 pub mod Writing
 pub mod Back
 pub mod Choices
+pub mod Fronts
+pub mod Said
+pub mod EachStatement
+pub mod EachLine

@@ -9,10 +9,10 @@ use Rattle.lexer_core.specs.declared.fault.Code.TheVariants as codes
 use Rattle.lexer_core.specs.declared.fault.ReadFault.{ReadFault}
 use Rattle.lexer_core.specs.declared.fault.ReadFault.TheVariants as faults
 use Rattle.reader_core.specs.declared.statement.Statement.{Statement}
-use Rattle.reader_core.specs.Grammar.{Fault, judge}
-use Rattle.reader_core.specs.Cursor.{Cursor, Takes, Faults, judged, fault_of, left_says}
+use Rattle.reader_core.specs.Grammar.{Fault, first_fault}
+use Rattle.reader_core.specs.Cursor.{Cursor, Takes, Faults, fault_left, fault_of, left_says}
 use Rattle.reader_core.specs.Language.{statement, body, finish, statement_says, SaysStatement, IsFinished, IsLawful, Spells, IsReadFault, lexical, nothing, ungrammatical, IsReadFaultOf}
-use Rattle.reader_core.proofs.Theory.{sound, fault_from_judge}
+use Rattle.reader_core.proofs.Theory.{sound, fault_from_first_fault}
 
 -- ---- what the reader answers
 pub exit_err : {V : Type 0} (P : ReadFault → Type 0) (r : Result V ReadFault) (e : ReadFault) → IsErrAnd r (λ y. y ≡ e) → P e → IfErr r P
@@ -26,13 +26,13 @@ lexical_fault line (faults.At code offset) h = lexical h
 apart : (code : Code) (offset : ℕ) → faults.At code offset ≢ faults.NoMemory
 apart code offset w = cc
 
-grammar_fault : (line : List ℕ) (ts : List tokens.Token) (f : Fault) → AreTokens line ts → (ts ≡ [] → ⊥) → judge (length line) statement ts ≡ Some f → IsReadFault line f.0 f.1
+grammar_fault : (line : List ℕ) (ts : List tokens.Token) (f : Fault) → AreTokens line ts → (ts ≡ [] → ⊥) → first_fault (length line) statement ts ≡ Some f → IsReadFault line f.0 f.1
 grammar_fault line [] f a some e = absurd (some refl)
-grammar_fault line (t ∷ ts) f a some e = ungrammatical a (fault_from_judge statement (length line) (t ∷ ts) f sound e)
+grammar_fault line (t ∷ ts) f a some e = ungrammatical a (fault_from_first_fault statement (length line) (t ∷ ts) f sound e)
 
-pub judged_so : (line : List ℕ) (ts : List tokens.Token) (e : ReadFault) → AreTokens line ts → (ts ≡ [] → ⊥) → (e ≢ faults.NoMemory → judge (length line) statement ts ≡ fault_of e) → IsReadFaultOf line e
-judged_so line ts faults.NoMemory a some h = tt
-judged_so line ts (faults.At code offset) a some h = grammar_fault line ts (code, offset) a some (h (apart code offset))
+pub fault_so : (line : List ℕ) (ts : List tokens.Token) (e : ReadFault) → AreTokens line ts → (ts ≡ [] → ⊥) → (e ≢ faults.NoMemory → first_fault (length line) statement ts ≡ fault_of e) → IsReadFaultOf line e
+fault_so line ts faults.NoMemory a some h = tt
+fault_so line ts (faults.At code offset) a some h = grammar_fault line ts (code, offset) a some (h (apart code offset))
 
 -- the body's tokens, and what is behind them
 pub says_statement : (said rest : List Lexeme) (s : Statement) → said ≡ statement_says s ++ rest → IsFinished rest → SaysStatement said s
@@ -47,10 +47,10 @@ module _ (line : List ℕ) (ts deref : List tokens.Token) (first : Cursor) (star
   here = starts ∙ ap (at line) same
 
   pub body_fault : (e : ReadFault) → Faults body e first → IsReadFaultOf line e
-  body_fault e f = judged_so line ts e tokens_are some (λ ne. ap (λ (c : Cursor). judged statement c) (sym here) ∙ f.judges ne finish)
+  body_fault e f = fault_so line ts e tokens_are some (λ ne. ap (λ (c : Cursor). fault_left statement c) (sym here) ∙ f.fault ne finish)
 
-  pub end_fault : (mid : Cursor) (said : List Lexeme) (e : ReadFault) → Takes body (λ k. k) said first mid → judged finish mid ≡ fault_of e → IsReadFaultOf line e
-  end_fault mid said e t f = judged_so line ts e tokens_are some (λ ne. ap (λ (c : Cursor). judged statement c) (sym here) ∙ t.judges finish ∙ f)
+  pub end_fault : (mid : Cursor) (said : List Lexeme) (e : ReadFault) → Takes body (λ k. k) said first mid → fault_left finish mid ≡ fault_of e → IsReadFaultOf line e
+  end_fault mid said e t f = fault_so line ts e tokens_are some (λ ne. ap (λ (c : Cursor). fault_left statement c) (sym here) ∙ t.fault finish ∙ f)
 
   pub spelled_so : (mid : Cursor) (s : Statement) → Says line (map (λ t. (heard line t).lexeme) ts) → Takes body (λ k. k) (statement_says s) first mid → IsFinished (left_says mid) → IsLawful s → Spells line s
   spelled_so mid s says t ends lawful = record {

@@ -11,10 +11,10 @@ use Rattle.lexer_core.specs.declared.fault.ReadFault.{ReadFault}
 use Rattle.lexer_core.specs.declared.fault.ReadFault.TheVariants as faults
 use Rattle.lexer_core.specs.declared.fault.Code.{Code}
 use Rattle.lexer_core.specs.declared.fault.Code.TheVariants as codes
-use Rattle.reader_core.specs.Grammar.{Grammar, Class, Rule, Items, More, One, Case, judge, fits, mark_of, marked, step, followed_by, can_end, same, mark_from, AreFine}
-use Rattle.reader_core.specs.Cursor.{Cursor, Takes, Faults, fault_of, judged, left_says, next_kind, next_lexeme, next_is, offset_at}
+use Rattle.reader_core.specs.Grammar.{Grammar, Class, Rule, Items, More, One, Case, first_fault, fits, mark_of, marked, step, followed_by, can_end, same, mark_from, AreFine}
+use Rattle.reader_core.specs.Cursor.{Cursor, Takes, Faults, fault_of, fault_left, left_says, next_kind, next_lexeme, next_is, offset_at}
 use Rattle.reader_core.specs.Language.{listed}
-use Rattle.reader_core.proofs.Theory.{judge_nil, judge_none, judge_some}
+use Rattle.reader_core.proofs.Theory.{first_fault_nil, first_fault_none, first_fault_some}
 use Rattle.reader_core.proofs.Taking.{says_taken, at_line}
 
 step_item : (r : Rule) (s : List Kind) (c : Class) (i k : Grammar) (x y : Kind) (m : Option Code) → y ≡ x → fits c x ≡ true → mark_of r s x ≡ m → step (Items r s (One c i) k) y ≡ Some (m, followed_by i (More r (s ++ x ∷ []) (One c i) k))
@@ -28,33 +28,33 @@ step_misfit r s c i k y f = ap (λ b. marked (mark_of r s y) (if b then Some (fo
 
 -- ---- the first token of an item
 module _ (at : Cursor) (r : Rule) (s : List Kind) (c : Class) (i k : Grammar) where
-  pub item_bad : (x : Kind) (code : Code) → next_kind at ≡ Some x → fits c x ≡ true → mark_of r s x ≡ Some code → judged (Items r s (One c i) k) at ≡ Some (code, offset_at at)
+  pub item_bad : (x : Kind) (code : Code) → next_kind at ≡ Some x → fits c x ≡ true → mark_of r s x ≡ Some code → fault_left (Items r s (One c i) k) at ≡ Some (code, offset_at at)
   item_bad x code is f m = go at.rest is
     where
-      go : (ts : List tokens.Token) → next_kind (at_line at.line ts) ≡ Some x → judged (Items r s (One c i) k) (at_line at.line ts) ≡ Some (code, offset_at (at_line at.line ts))
+      go : (ts : List tokens.Token) → next_kind (at_line at.line ts) ≡ Some x → fault_left (Items r s (One c i) k) (at_line at.line ts) ≡ Some (code, offset_at (at_line at.line ts))
       go [] e = cc
-      go (t ∷ ts) e = judge_some (length at.line) _ t ts (Some code) _ (step_item r s c i k x t.kind (Some code) (cc) f m)
+      go (t ∷ ts) e = first_fault_some (length at.line) _ t ts (Some code) _ (step_item r s c i k x t.kind (Some code) (cc) f m)
 
-  pub item_misfit : next_is c at ≡ false → judged (Items r s (One c i) k) at ≡ Some (codes.Expected, offset_at at)
+  pub item_misfit : next_is c at ≡ false → fault_left (Items r s (One c i) k) at ≡ Some (codes.Expected, offset_at at)
   item_misfit is = go at.rest is
     where
-      go : (ts : List tokens.Token) → next_is c (at_line at.line ts) ≡ false → judged (Items r s (One c i) k) (at_line at.line ts) ≡ Some (codes.Expected, offset_at (at_line at.line ts))
-      go [] e = judge_nil (length at.line) (Items r s (One c i) k)
-      go (t ∷ ts) e = judge_none (length at.line) _ t ts (step_misfit r s c i k t.kind e)
+      go : (ts : List tokens.Token) → next_is c (at_line at.line ts) ≡ false → fault_left (Items r s (One c i) k) (at_line at.line ts) ≡ Some (codes.Expected, offset_at (at_line at.line ts))
+      go [] e = first_fault_nil (length at.line) (Items r s (One c i) k)
+      go (t ∷ ts) e = first_fault_none (length at.line) _ t ts (step_misfit r s c i k t.kind e)
 
 pub item_misfit_at : (old : Cursor) (r : Rule) (s : List Kind) (c : Class) (i : Grammar) (e : ReadFault) → e ≡ faults.At codes.Expected (offset_at old) → next_is c old ≡ false → Faults (λ k. Items r s (One c i) k) e old
-item_misfit_at old r s c i e same h = record { judges = λ ne k. item_misfit old r s c i k h ∙ sym (ap fault_of same) }
+item_misfit_at old r s c i e same h = record { fault = λ ne k. item_misfit old r s c i k h ∙ sym (ap fault_of same) }
 
 -- an item past the limit, where items may repeat
 pub item_bad_at : (old : Cursor) (r : Rule) (s : List Kind) (c : Class) (i : Grammar) (code : Code) (e : ReadFault) → r.distinct ≡ false → next_is c old ≡ true → mark_from false (length s) r.limit ≡ Some code → e ≡ faults.At code (offset_at old) → Faults (λ k. Items r s (One c i) k) e old
-item_bad_at old r s c i code e any is m fault = record { judges = λ ne k. go k old.rest is ∙ sym (ap fault_of fault) }
+item_bad_at old r s c i code e any is m fault = record { fault = λ ne k. go k old.rest is ∙ sym (ap fault_of fault) }
   where
     at_any : (t : Kind) → mark_of r s t ≡ Some code
     at_any t = ap (λ b. mark_from (b && list_any (λ x. same x t) s) (length s) r.limit) any ∙ m
 
-    go : (k : Grammar) (ts : List tokens.Token) → next_is c (at_line old.line ts) ≡ true → judged (Items r s (One c i) k) (at_line old.line ts) ≡ Some (code, offset_at (at_line old.line ts))
+    go : (k : Grammar) (ts : List tokens.Token) → next_is c (at_line old.line ts) ≡ true → fault_left (Items r s (One c i) k) (at_line old.line ts) ≡ Some (code, offset_at (at_line old.line ts))
     go k [] e = cc
-    go k (t ∷ ts) e = judge_some (length old.line) _ t ts (Some code) _ (step_item r s c i k t.kind t.kind (Some code) refl e (at_any t.kind))
+    go k (t ∷ ts) e = first_fault_some (length old.line) _ t ts (Some code) _ (step_item r s c i k t.kind t.kind (Some code) refl e (at_any t.kind))
 
 -- a look at the next token that found none of the class
 pub item_misfit_so : {V : Type 0} (old : Cursor) (r : Rule) (s : List Kind) (c : Class) (i : Grammar) (e : ReadFault) → ◌≡◌ {A = Result V ReadFault} (Err e) (Err (faults.At codes.Expected (offset_at old))) × (next_is c old ≡ false) → Faults (λ k. Items r s (One c i) k) e old
@@ -65,22 +65,22 @@ pub item_taken : {old new : Cursor} (r : Rule) (s : List Kind) (c : Class) (i : 
 item_taken {old} {new} r s c i x l is says f m rest line = record {
   says = says_taken old new l says rest line;
   line = line;
-  judges = λ k. go k old.rest is ∙ ap (λ (ts : List tokens.Token). judge (length old.line) (followed_by i (More r (s ++ x ∷ []) (One c i) k)) ts) (sym rest) ∙ ap (λ (b : List ℕ). judge (length b) (followed_by i (More r (s ++ x ∷ []) (One c i) k)) new.rest) (sym line);
+  fault = λ k. go k old.rest is ∙ ap (λ (ts : List tokens.Token). first_fault (length old.line) (followed_by i (More r (s ++ x ∷ []) (One c i) k)) ts) (sym rest) ∙ ap (λ (b : List ℕ). first_fault (length b) (followed_by i (More r (s ++ x ∷ []) (One c i) k)) new.rest) (sym line);
 }
   where
-    go : (k : Grammar) (ts : List tokens.Token) → next_kind (at_line old.line ts) ≡ Some x → judge (length old.line) (Items r s (One c i) k) ts ≡ judge (length old.line) (followed_by i (More r (s ++ x ∷ []) (One c i) k)) (drop 1 ts)
+    go : (k : Grammar) (ts : List tokens.Token) → next_kind (at_line old.line ts) ≡ Some x → first_fault (length old.line) (Items r s (One c i) k) ts ≡ first_fault (length old.line) (followed_by i (More r (s ++ x ∷ []) (One c i) k)) (drop 1 ts)
     go k [] e = cc
-    go k (t ∷ ts) e = judge_some (length old.line) _ t ts None _ (step_item r s c i k x t.kind None (cc) f m)
+    go k (t ∷ ts) e = first_fault_some (length old.line) _ t ts None _ (step_item r s c i k x t.kind None (cc) f m)
 
 -- ---- behind an item
-more_on : (end : ℕ) (line : List ℕ) (ts : List tokens.Token) (r : Rule) (s : List Kind) (i k : Grammar) → next_is r.separator (at_line line ts) ≡ true → judge end (More r s i k) ts ≡ judge end (Items r s i k) (drop 1 ts)
+more_on : (end : ℕ) (line : List ℕ) (ts : List tokens.Token) (r : Rule) (s : List Kind) (i k : Grammar) → next_is r.separator (at_line line ts) ≡ true → first_fault end (More r s i k) ts ≡ first_fault end (Items r s i k) (drop 1 ts)
 more_on end line [] r s i k e = cc
-more_on end line (t ∷ ts) r s i k e = judge_some end _ t ts None (Items r s i k) (ap (λ b. if b then Some (None, Items r s i k) else step k t.kind) e)
+more_on end line (t ∷ ts) r s i k e = first_fault_some end _ t ts None (Items r s i k) (ap (λ b. if b then Some (None, Items r s i k) else step k t.kind) e)
 
-more_done : (end : ℕ) (line : List ℕ) (ts : List tokens.Token) (r : Rule) (s : List Kind) (i k : Grammar) → next_is r.separator (at_line line ts) ≡ false → judge end (More r s i k) ts ≡ judge end k ts
-unfolding judge
+more_done : (end : ℕ) (line : List ℕ) (ts : List tokens.Token) (r : Rule) (s : List Kind) (i k : Grammar) → next_is r.separator (at_line line ts) ≡ false → first_fault end (More r s i k) ts ≡ first_fault end k ts
+unfolding first_fault
 more_done end line [] r s i k e = refl
-more_done end line (t ∷ ts) r s i k e = ap (λ b. elim (if b then Some (None, Items r s i k) else step k t.kind) [ None ↦ Some ((if can_end k then codes.Trailing else codes.Expected), t.start) | Some s ↦ elim s.0 [ None ↦ judge end s.1 ts | Some code ↦ Some (code, t.start) ] ]) e
+more_done end line (t ∷ ts) r s i k e = ap (λ b. elim (if b then Some (None, Items r s i k) else step k t.kind) [ None ↦ Some ((if can_end k then codes.Trailing else codes.Expected), t.start) | Some s ↦ elim s.0 [ None ↦ first_fault end s.1 ts | Some code ↦ Some (code, t.start) ] ]) e
 
 -- the items, each behind a separator
 abbrev pub behind_each : {A : Type 0} → Lexeme → (A → List Lexeme) → List A → List Lexeme
@@ -96,7 +96,7 @@ each_listed separator says (y ∷ ys) x = refl
 -- A list in the midst, before an item.
 pub record SoFar {A : Type 0} (r : Rule) (separator : Lexeme) (i : Grammar) (first : A → Kind) (says : A → List Lexeme) (IsItem : A → Type 0) (xs : List A) (old here : Cursor) : Type 0 where
   pub line : here.line ≡ old.line
-  pub judges : (k : Grammar) → judged (Items r [] i k) old ≡ judged (Items r (map first xs) i k) here
+  pub fault : (k : Grammar) → fault_left (Items r [] i k) old ≡ fault_left (Items r (map first xs) i k) here
   pub said : separator ∷ left_says old ≡ behind_each separator says xs ++ separator ∷ left_says here
   pub fine : AreFine r [] (map first xs)
   pub lawful : All IsItem xs
@@ -115,7 +115,7 @@ firsts_length first [] = refl
 firsts_length first (x ∷ xs) = ap suc (firsts_length first xs)
 
 pub nothing_yet : {A : Type 0} (r : Rule) (separator : Lexeme) (i : Grammar) (first : A → Kind) (says : A → List Lexeme) (IsItem : A → Type 0) (xs : List A) (here : Cursor) → xs ≡ [] → SoFar r separator i first says IsItem xs here here
-nothing_yet {A} r separator i first says IsItem xs here e = subst (λ (ys : List A). SoFar r separator i first says IsItem ys here here) (sym e) (record { line = refl; judges = λ k. refl; said = refl; fine = tt; lawful = All-nil IsItem })
+nothing_yet {A} r separator i first says IsItem xs here e = subst (λ (ys : List A). SoFar r separator i first says IsItem ys here here) (sym e) (record { line = refl; fault = λ k. refl; said = refl; fine = tt; lawful = All-nil IsItem })
 
 module _ {A : Type 0} {r : Rule} {separator : Lexeme} {i : Grammar} {first : A → Kind} {says : A → List Lexeme} {IsItem : A → Type 0} {xs : List A} {old here mid : Cursor} (x : A)
     (so_far : SoFar r separator i first says IsItem xs old here) (t : Takes (λ k. Items r (map first xs) i k) (λ k. More r (map first (xs ++ x ∷ [])) i k) (says x) here mid) (m : mark_of r (map first xs) (first x) ≡ None) (is_item : IsItem x) where
@@ -130,9 +130,9 @@ module _ {A : Type 0} {r : Rule} {separator : Lexeme} {i : Grammar} {first : A �
       let said = says_taken mid new separator heard rest line in
       record {
         line = line ∙ t.line ∙ so_far.line;
-        judges = λ k. so_far.judges k ∙ t.judges k ∙ more_on (length mid.line) mid.line mid.rest r (map first (xs ++ x ∷ [])) i k is
-            ∙ ap (λ (ts : List tokens.Token). judge (length mid.line) (Items r (map first (xs ++ x ∷ [])) i k) ts) (sym rest)
-            ∙ ap (λ (b : List ℕ). judge (length b) (Items r (map first (xs ++ x ∷ [])) i k) new.rest) (sym line);
+        fault = λ k. so_far.fault k ∙ t.fault k ∙ more_on (length mid.line) mid.line mid.rest r (map first (xs ++ x ∷ [])) i k is
+            ∙ ap (λ (ts : List tokens.Token). first_fault (length mid.line) (Items r (map first (xs ++ x ∷ [])) i k) ts) (sym rest)
+            ∙ ap (λ (b : List ℕ). first_fault (length b) (Items r (map first (xs ++ x ∷ [])) i k) new.rest) (sym line);
         said = so_far.said ∙ ap (λ z. behind_each separator says xs ++ separator ∷ z) (t.says ∙ ap (λ z. says x ++ z) said) ∙ sym (each_push separator says xs x (separator ∷ left_says new));
         fine = fine_on;
         lawful = lawful_on;
@@ -141,7 +141,7 @@ module _ {A : Type 0} {r : Rule} {separator : Lexeme} {i : Grammar} {first : A �
   pub list_done : next_is r.separator mid ≡ false → Takes (λ k. Items r [] i k) (λ k. k) (listed separator says (xs ++ x ∷ [])) old mid
   list_done is = record {
     line = t.line ∙ so_far.line;
-    judges = λ k. so_far.judges k ∙ t.judges k ∙ more_done (length mid.line) mid.line mid.rest r (map first (xs ++ x ∷ [])) i k is;
+    fault = λ k. so_far.fault k ∙ t.fault k ∙ more_done (length mid.line) mid.line mid.rest r (map first (xs ++ x ∷ [])) i k is;
     says =
         let e : separator ∷ left_says old ≡ separator ∷ (listed separator says (xs ++ x ∷ []) ++ left_says mid) = so_far.said ∙ ap (λ z. behind_each separator says xs ++ separator ∷ z) t.says ∙ sym (each_push separator says xs x (left_says mid)) ∙ ap (λ z. z ++ left_says mid) (each_listed separator says xs x) in
         cc;
@@ -160,20 +160,20 @@ shorter old mid new c said e is rest =
     go (t ∷ ts) e = omega arith
 
 -- ---- choices
-pub case_yes : (at : Cursor) (c : Class) (a b : Grammar) → next_is c at ≡ true → judged (Case c a b) at ≡ judged (One c a) at
+pub case_yes : (at : Cursor) (c : Class) (a b : Grammar) → next_is c at ≡ true → fault_left (Case c a b) at ≡ fault_left (One c a) at
 case_yes at c a b is = go at.rest is
   where
-    go : (ts : List tokens.Token) → next_is c (at_line at.line ts) ≡ true → judge (length at.line) (Case c a b) ts ≡ judge (length at.line) (One c a) ts
+    go : (ts : List tokens.Token) → next_is c (at_line at.line ts) ≡ true → first_fault (length at.line) (Case c a b) ts ≡ first_fault (length at.line) (One c a) ts
     go [] e = cc
-    go (t ∷ ts) e = judge_some (length at.line) _ t ts None a (ap (λ x. if x then Some (None, a) else step b t.kind) e) ∙ sym (judge_some (length at.line) _ t ts None a (ap (λ x. if x then Some (None, a) else None) e))
+    go (t ∷ ts) e = first_fault_some (length at.line) _ t ts None a (ap (λ x. if x then Some (None, a) else step b t.kind) e) ∙ sym (first_fault_some (length at.line) _ t ts None a (ap (λ x. if x then Some (None, a) else None) e))
 
-pub case_no : (at : Cursor) (c : Class) (a b : Grammar) → next_is c at ≡ false → judged (Case c a b) at ≡ judged b at
-unfolding judge
+pub case_no : (at : Cursor) (c : Class) (a b : Grammar) → next_is c at ≡ false → fault_left (Case c a b) at ≡ fault_left b at
+unfolding first_fault
 case_no at c a b is = go at.rest is
   where
-    go : (ts : List tokens.Token) → next_is c (at_line at.line ts) ≡ false → judge (length at.line) (Case c a b) ts ≡ judge (length at.line) b ts
+    go : (ts : List tokens.Token) → next_is c (at_line at.line ts) ≡ false → first_fault (length at.line) (Case c a b) ts ≡ first_fault (length at.line) b ts
     go [] e = refl
-    go (t ∷ ts) e = ap (λ x. elim (if x then Some (None, a) else step b t.kind) [ None ↦ Some ((if can_end b then codes.Trailing else codes.Expected), t.start) | Some s ↦ elim s.0 [ None ↦ judge (length at.line) s.1 ts | Some code ↦ Some (code, t.start) ] ]) e
+    go (t ∷ ts) e = ap (λ x. elim (if x then Some (None, a) else step b t.kind) [ None ↦ Some ((if can_end b then codes.Trailing else codes.Expected), t.start) | Some s ↦ elim s.0 [ None ↦ first_fault (length at.line) s.1 ts | Some code ↦ Some (code, t.start) ] ]) e
 
 -- names that stand earlier
 pub any_first : {A : Type 0} (first : A → Kind) (xs : List A) (t : Kind) → list_any (λ x. same x t) (map first xs) ≡ list_any (λ x. same (first x) t) xs

@@ -20,10 +20,10 @@ use Rattle.lexer_core.specs.declared.token.Token as tokens
 use Rattle.lexer_core.specs.declared.fault.Code.TheVariants as codes
 use Rattle.lexer_core.specs.declared.fault.ReadFault.{ReadFault}
 use Rattle.lexer_core.specs.declared.fault.ReadFault.TheVariants as faults
-use Rattle.reader_core.specs.Grammar.{Grammar, Class, End, One, Key, Sign, AnyType, AnyLiteral, AnyTest, fits, judge, keyword_number, mark_number}
-use Rattle.reader_core.specs.Cursor.{Cursor, Takes, Faults, judged, left_says, next_kind, next_lexeme, next_is, offset_at, fault_of}
+use Rattle.reader_core.specs.Grammar.{Grammar, Class, End, One, Key, Sign, AnyType, AnyLiteral, AnyTest, fits, first_fault, keyword_number, mark_number}
+use Rattle.reader_core.specs.Cursor.{Cursor, Takes, Faults, fault_left, left_says, next_kind, next_lexeme, next_is, offset_at, fault_of}
 use Rattle.reader_core.specs.Language.{type_lexeme, value_lexeme, comparison_mark}
-use Rattle.reader_core.proofs.Theory.{judge_nil, judge_none, judge_some}
+use Rattle.reader_core.proofs.Theory.{first_fault_nil, first_fault_none, first_fault_some}
 
 -- what is left is heard too
 pub AreHeard-drop : (line : List ℕ) (ts : List tokens.Token) → AreHeard line ts → AreHeard line (drop 1 ts)
@@ -60,23 +60,23 @@ pub one_taken : (old new : Cursor) (c : Class) (l : Lexeme) → next_is c old �
 one_taken old new c l is says rest line = record {
   says = says_taken old new l says rest line;
   line = line;
-  judges = λ g. go g old.rest is ∙ ap (λ (x : List tokens.Token). judge (length old.line) g x) (sym rest) ∙ ap (λ (x : List ℕ). judge (length x) g new.rest) (sym line);
+  fault = λ g. go g old.rest is ∙ ap (λ (x : List tokens.Token). first_fault (length old.line) g x) (sym rest) ∙ ap (λ (x : List ℕ). first_fault (length x) g new.rest) (sym line);
 }
   where
-    go : (g : Grammar) (ts : List tokens.Token) → next_is c (at_line old.line ts) ≡ true → judge (length old.line) (One c g) ts ≡ judge (length old.line) g (drop 1 ts)
+    go : (g : Grammar) (ts : List tokens.Token) → next_is c (at_line old.line ts) ≡ true → first_fault (length old.line) (One c g) ts ≡ first_fault (length old.line) g (drop 1 ts)
     go g [] e = cc
-    go g (t ∷ ts) e = judge_some (length old.line) (One c g) t ts None g (ap (λ b. if b then Some (None, g) else None) e)
+    go g (t ∷ ts) e = first_fault_some (length old.line) (One c g) t ts None g (ap (λ b. if b then Some (None, g) else None) e)
 
 -- no token of the class comes
-pub one_missing : (old : Cursor) (c : Class) (g : Grammar) → next_is c old ≡ false → judged (One c g) old ≡ Some (codes.Expected, offset_at old)
+pub one_missing : (old : Cursor) (c : Class) (g : Grammar) → next_is c old ≡ false → fault_left (One c g) old ≡ Some (codes.Expected, offset_at old)
 one_missing old c g e = go old.rest e
   where
-    go : (ts : List tokens.Token) → next_is c (at_line old.line ts) ≡ false → judged (One c g) (at_line old.line ts) ≡ Some (codes.Expected, offset_at (at_line old.line ts))
-    go [] e = judge_nil (length old.line) (One c g)
-    go (t ∷ ts) e = judge_none (length old.line) (One c g) t ts (ap (λ b. if b then Some (None, g) else None) e)
+    go : (ts : List tokens.Token) → next_is c (at_line old.line ts) ≡ false → fault_left (One c g) (at_line old.line ts) ≡ Some (codes.Expected, offset_at (at_line old.line ts))
+    go [] e = first_fault_nil (length old.line) (One c g)
+    go (t ∷ ts) e = first_fault_none (length old.line) (One c g) t ts (ap (λ b. if b then Some (None, g) else None) e)
 
 pub missing : (old : Cursor) (c : Class) (e : ReadFault) → next_is c old ≡ false → e ≡ faults.At codes.Expected (offset_at old) → Faults (λ k. One c k) e old
-missing old c e none is = record { judges = λ ne k. one_missing old c k none ∙ sym (ap fault_of is) }
+missing old c e none is = record { fault = λ ne k. one_missing old c k none ∙ sym (ap fault_of is) }
 
 -- a class of one token tells which token comes
 keyword_at : ℕ → Keyword
@@ -192,16 +192,16 @@ pub missing_so : {V : Type 0} (old : Cursor) (c : Class) (e : ReadFault) → ◌
 missing_so {V} old c e h = let same : e ≡ faults.At codes.Expected (offset_at old) = let p = h.0 in cc in missing old c e h.1 same
 
 -- nothing is left, or something behind the end
-pub none_left : (c : Cursor) (next : Option Kind) → next ≡ next_kind c → is_some next ≡ false → (judged End c ≡ None) × (c.rest ≡ [])
+pub none_left : (c : Cursor) (next : Option Kind) → next ≡ next_kind c → is_some next ≡ false → (fault_left End c ≡ None) × (c.rest ≡ [])
 none_left c next e none = go c.rest (ap is_some (sym e) ∙ none)
   where
-    go : (ts : List tokens.Token) → is_some (next_kind (at_line c.line ts)) ≡ false → (judge (length c.line) End ts ≡ None) × (ts ≡ [])
-    go [] h = (judge_nil (length c.line) End, refl)
+    go : (ts : List tokens.Token) → is_some (next_kind (at_line c.line ts)) ≡ false → (first_fault (length c.line) End ts ≡ None) × (ts ≡ [])
+    go [] h = (first_fault_nil (length c.line) End, refl)
     go (t ∷ ts) h = cc
 
-pub some_left : (c : Cursor) (next : Option Kind) → next ≡ next_kind c → is_some next ≡ true → judged End c ≡ Some (codes.Trailing, offset_at c)
+pub some_left : (c : Cursor) (next : Option Kind) → next ≡ next_kind c → is_some next ≡ true → fault_left End c ≡ Some (codes.Trailing, offset_at c)
 some_left c next e some = go c.rest (ap is_some (sym e) ∙ some)
   where
-    go : (ts : List tokens.Token) → is_some (next_kind (at_line c.line ts)) ≡ true → judge (length c.line) End ts ≡ Some (codes.Trailing, offset_at (at_line c.line ts))
+    go : (ts : List tokens.Token) → is_some (next_kind (at_line c.line ts)) ≡ true → first_fault (length c.line) End ts ≡ Some (codes.Trailing, offset_at (at_line c.line ts))
     go [] h = cc
-    go (t ∷ ts) h = judge_none (length c.line) End t ts refl
+    go (t ∷ ts) h = first_fault_none (length c.line) End t ts refl

@@ -1,4 +1,4 @@
--- The judge finds the leftmost fault of the grammar's sentences.
+-- `first_fault` finds the leftmost fault of the grammar's sentences.
 use Rattle.std.proofs.Common.{◌≡◌, ℕ, Bool, true, false, nat_le, pos, List, [], ◌∷◌, ◌++◌, map, Option, Some, None, if◌then◌else◌, ap, sym, subst, ◌∙◌, refl, append_assoc, arith, rules, ◌⊎◌, inl, inr}
 use Rattle.std.proofs.lemmas.List.{append-nil}
 use Rattle.base_core.specs.declared.keyword.Keyword.TheVariants as keywords
@@ -8,9 +8,9 @@ use Rattle.lexer_core.specs.declared.token.Kind.TheVariants as kinds
 use Rattle.lexer_core.specs.declared.token.Token as tokens
 use Rattle.lexer_core.specs.declared.fault.Code.{Code}
 use Rattle.lexer_core.specs.declared.fault.Code.TheVariants as codes
-use Rattle.reader_core.specs.Grammar.{Grammar, End, One, Case, Items, More, Class, Key, Sign, AnyName, AnyLiteral, AnyType, AnyTest, AtLeastOne, fits, mark_of, mark_from, marked, enter, step, can_end, followed_by, Fault, judge}
+use Rattle.reader_core.specs.Grammar.{Grammar, End, One, Case, Items, More, Class, Key, Sign, AnyName, AnyLiteral, AnyType, AnyTest, AtLeastOne, fits, mark_of, mark_from, marked, enter, step, can_end, followed_by, Fault, first_fault}
 use Rattle.reader_core.specs.Language.{statement}
-use Rattle.reader_core.specs.Matches.{Spot, fine, IsNext, Matches, done, one, this, other, item, next, last, IsWhole, Begins, GoesOn, IsWrongAt, IsWrongHere, IsFault}
+use Rattle.reader_core.specs.Matches.{Spot, fine, is_next, Matches, done, one, this, other, item, next, last, IsWhole, Begins, GoesOn, IsWrongAt, IsWrongHere, IsFault}
 
 -- ---- grammars whose items begin with a token of their own, and whose lists are followed by no comma
 abbrev pub BeginsWithToken : Grammar → Type 0
@@ -20,17 +20,17 @@ BeginsWithToken (Case c a b) = BeginsWithToken b
 BeginsWithToken (Items r s i g) = ⊥
 BeginsWithToken (More r s i g) = ⊥
 
-pub judge_nil : (end : ℕ) (g : Grammar) → judge end g [] ≡ (if can_end g then None else Some (codes.Expected, end))
-unfolding judge
-judge_nil end g = refl
+pub first_fault_nil : (end : ℕ) (g : Grammar) → first_fault end g [] ≡ (if can_end g then None else Some (codes.Expected, end))
+unfolding first_fault
+first_fault_nil end g = refl
 
-pub judge_none : (end : ℕ) (g : Grammar) (t : tokens.Token) (ts : List tokens.Token) → step g t.kind ≡ None → judge end g (t ∷ ts) ≡ Some ((if can_end g then codes.Trailing else codes.Expected), t.start)
-unfolding judge
-judge_none end g t ts e = ap (λ st. elim st [ None ↦ Some ((if can_end g then codes.Trailing else codes.Expected), t.start) | Some s ↦ elim s.0 [ None ↦ judge end s.1 ts | Some code ↦ Some (code, t.start) ] ]) e
+pub first_fault_none : (end : ℕ) (g : Grammar) (t : tokens.Token) (ts : List tokens.Token) → step g t.kind ≡ None → first_fault end g (t ∷ ts) ≡ Some ((if can_end g then codes.Trailing else codes.Expected), t.start)
+unfolding first_fault
+first_fault_none end g t ts e = ap (λ st. elim st [ None ↦ Some ((if can_end g then codes.Trailing else codes.Expected), t.start) | Some s ↦ elim s.0 [ None ↦ first_fault end s.1 ts | Some code ↦ Some (code, t.start) ] ]) e
 
-pub judge_some : (end : ℕ) (g : Grammar) (t : tokens.Token) (ts : List tokens.Token) (m : Option Code) (g' : Grammar) → step g t.kind ≡ Some (m, g') → judge end g (t ∷ ts) ≡ elim m [ None ↦ judge end g' ts | Some code ↦ Some (code, t.start) ]
-unfolding judge
-judge_some end g t ts m g' e = ap (λ st. elim st [ None ↦ Some ((if can_end g then codes.Trailing else codes.Expected), t.start) | Some s ↦ elim s.0 [ None ↦ judge end s.1 ts | Some code ↦ Some (code, t.start) ] ]) e
+pub first_fault_some : (end : ℕ) (g : Grammar) (t : tokens.Token) (ts : List tokens.Token) (m : Option Code) (g' : Grammar) → step g t.kind ≡ Some (m, g') → first_fault end g (t ∷ ts) ≡ elim m [ None ↦ first_fault end g' ts | Some code ↦ Some (code, t.start) ]
+unfolding first_fault
+first_fault_some end g t ts m g' e = ap (λ st. elim st [ None ↦ Some ((if can_end g then codes.Trailing else codes.Expected), t.start) | Some s ↦ elim s.0 [ None ↦ first_fault end s.1 ts | Some code ↦ Some (code, t.start) ] ]) e
 
 -- ---- the end
 can_end_yes : (g : Grammar) → can_end g ≡ true → Matches g []
@@ -181,7 +181,7 @@ first _ = kinds.Text
 pub record Sentence (g k : Grammar) : Type 0 where
   pub spots : List Spot
   pub matches : Matches (followed_by g k) spots
-  pub calm : (d : Class) → IsCalm d g → IsNext d spots ≡ false
+  pub calm : (d : Class) → IsCalm d g → is_next d spots ≡ false
   pub rest : List Spot
   pub begins : BeginsWithToken g → spots ≡ fine (first g) ∷ rest
 
@@ -285,8 +285,8 @@ wrong_some {all} {g} before end t ts code g' r h e =
       | inr p ↦ subst (λ (x : Code). IsWrongHere all before end (t ∷ ts) (x, t.start)) (sym p) (subst (λ (x : Code). GoesOn all before t.kind (Some x)) p o, refl)
     ]
 
-judged_fault : (all : Grammar) (end : ℕ) (line : List tokens.Token) (ts before : List tokens.Token) (g : Grammar) (f : Fault) → line ≡ before ++ ts → Reaches all (map (λ x. x.kind) before) g → IsSound g → judge end g ts ≡ Some f → IsFault all end line f
-judged_fault all end line [] before g f split r h e = elim (choose (can_end g) (sym (judge_nil end g) ∙ e)) [
+left_fault : (all : Grammar) (end : ℕ) (line : List tokens.Token) (ts before : List tokens.Token) (g : Grammar) (f : Fault) → line ≡ before ++ ts → Reaches all (map (λ x. x.kind) before) g → IsSound g → first_fault end g ts ≡ Some f → IsFault all end line f
+left_fault all end line [] before g f split r h e = elim (choose (can_end g) (sym (first_fault_nil end g) ∙ e)) [
   | inl p ↦ cc
   | inr p ↦ record {
     before = before;
@@ -296,60 +296,60 @@ judged_fault all end line [] before g f split r h e = elim (choose (can_end g) (
     wrong = (λ w. let z : can_end g ≡ true = can_end_no (at_whole _ r w) in cc, let q : (codes.Expected, end) ≡ f = cc in sym q);
   }
 ]
-judged_fault all end line (t ∷ ts) before g f split r h e =
-    go (step g t.kind) refl (λ g' q. judged_fault all end line ts (before ++ t ∷ []) g' f (split ∙ sym (append_assoc before (t ∷ []) ts))
-    (subst (λ (ks : List Kind). Reaches all ks g') (sym (map_push before t)) (reaches_step _ t.kind r h q)) (sound_step g t.kind h q) (sym (judge_some end g t ts None g' q) ∙ e))
+left_fault all end line (t ∷ ts) before g f split r h e =
+    go (step g t.kind) refl (λ g' q. left_fault all end line ts (before ++ t ∷ []) g' f (split ∙ sym (append_assoc before (t ∷ []) ts))
+    (subst (λ (ks : List Kind). Reaches all ks g') (sym (map_push before t)) (reaches_step _ t.kind r h q)) (sound_step g t.kind h q) (sym (first_fault_some end g t ts None g' q) ∙ e))
   where
     go : (st : Option (Option Code × Grammar)) → step g t.kind ≡ st → ((g' : Grammar) → step g t.kind ≡ Some (None, g') → IsFault all end line f) → IsFault all end line f
-    go None q k = record { before = before; rest = t ∷ ts; split = split; begins = begins_at _ r h; wrong = wrong_none _ end t ts f r h q (sym (judge_none end g t ts q) ∙ e) }
+    go None q k = record { before = before; rest = t ∷ ts; split = split; begins = begins_at _ r h; wrong = wrong_none _ end t ts f r h q (sym (first_fault_none end g t ts q) ∙ e) }
     go (Some (None, g')) q k = k g' q
     go (Some (Some code, g')) q k =
-        let p : (code, t.start) ≡ f = let z : Some (code, t.start) ≡ Some f = sym (judge_some end g t ts (Some code) g' q) ∙ e in cc in
+        let p : (code, t.start) ≡ f = let z : Some (code, t.start) ≡ Some f = sym (first_fault_some end g t ts (Some code) g' q) ∙ e in cc in
         record { before = before; rest = t ∷ ts; split = split; begins = begins_at _ r h; wrong = subst (IsWrongHere all _ end (t ∷ ts)) p (wrong_some _ end t ts code g' r h q) }
 
-judged_whole : (all : Grammar) (end : ℕ) (ts before : List tokens.Token) (g : Grammar) → Reaches all (map (λ x. x.kind) before) g → IsSound g → judge end g ts ≡ None → IsWhole all (map (λ x. x.kind) (before ++ ts))
-judged_whole all end [] before g r h e = elim (choose (can_end g) (sym (judge_nil end g) ∙ e)) [
+left_whole : (all : Grammar) (end : ℕ) (ts before : List tokens.Token) (g : Grammar) → Reaches all (map (λ x. x.kind) before) g → IsSound g → first_fault end g ts ≡ None → IsWhole all (map (λ x. x.kind) (before ++ ts))
+left_whole all end [] before g r h e = elim (choose (can_end g) (sym (first_fault_nil end g) ∙ e)) [
   | inl p ↦ subst (λ (x : List tokens.Token). IsWhole all (map (λ t. t.kind) x)) (sym (append-nil before)) (whole_at _ r (can_end_yes g p.0))
   | inr p ↦ cc
 ]
-judged_whole all end (t ∷ ts) before g r h e =
-    go (step g t.kind) refl (λ g' q. subst (λ (x : List tokens.Token). IsWhole all (map (λ t. t.kind) x)) (append_assoc before (t ∷ []) ts) (judged_whole all end ts (before ++ t ∷ []) g'
-    (subst (λ (ks : List Kind). Reaches all ks g') (sym (map_push before t)) (reaches_step _ t.kind r h q)) (sound_step g t.kind h q) (sym (judge_some end g t ts None g' q) ∙ e)))
+left_whole all end (t ∷ ts) before g r h e =
+    go (step g t.kind) refl (λ g' q. subst (λ (x : List tokens.Token). IsWhole all (map (λ t. t.kind) x)) (append_assoc before (t ∷ []) ts) (left_whole all end ts (before ++ t ∷ []) g'
+    (subst (λ (ks : List Kind). Reaches all ks g') (sym (map_push before t)) (reaches_step _ t.kind r h q)) (sound_step g t.kind h q) (sym (first_fault_some end g t ts None g' q) ∙ e)))
   where
     go : (st : Option (Option Code × Grammar)) → step g t.kind ≡ st → ((g' : Grammar) → step g t.kind ≡ Some (None, g') → IsWhole all (map (λ x. x.kind) (before ++ t ∷ ts))) → IsWhole all (map (λ x. x.kind) (before ++ t ∷ ts))
-    go None q k = let z = sym (judge_none end g t ts q) ∙ e in cc
+    go None q k = let z = sym (first_fault_none end g t ts q) ∙ e in cc
     go (Some (None, g')) q k = k g' q
-    go (Some (Some code, g')) q k = let z = sym (judge_some end g t ts (Some code) g' q) ∙ e in cc
+    go (Some (Some code, g')) q k = let z = sym (first_fault_some end g t ts (Some code) g' q) ∙ e in cc
 
 reaches_start : (all : Grammar) → Reaches all [] all
 reaches_start all = record { to = λ ss m. m; back = λ ss m. m }
 
--- what the judge says is the leftmost fault, or there is none
-pub fault_from_judge : (all : Grammar) (end : ℕ) (ts : List tokens.Token) (f : Fault) → IsSound all → judge end all ts ≡ Some f → IsFault all end ts f
-fault_from_judge all end ts f h e = judged_fault all end ts ts [] all f refl (reaches_start all) h e
+-- what is found is the leftmost fault, or there is none
+pub fault_from_first_fault : (all : Grammar) (end : ℕ) (ts : List tokens.Token) (f : Fault) → IsSound all → first_fault end all ts ≡ Some f → IsFault all end ts f
+fault_from_first_fault all end ts f h e = left_fault all end ts ts [] all f refl (reaches_start all) h e
 
-pub whole_from_judge : (all : Grammar) (end : ℕ) (ts : List tokens.Token) → IsSound all → judge end all ts ≡ None → IsWhole all (map (λ x. x.kind) ts)
-whole_from_judge all end ts h e = judged_whole all end ts [] all (reaches_start all) h e
+pub whole_from_first_fault : (all : Grammar) (end : ℕ) (ts : List tokens.Token) → IsSound all → first_fault end all ts ≡ None → IsWhole all (map (λ x. x.kind) ts)
+whole_from_first_fault all end ts h e = left_whole all end ts [] all (reaches_start all) h e
 
 -- ---- and back: a whole sentence has no fault, and no line has two
-pub judge_from_whole : (g : Grammar) (end : ℕ) (ts : List tokens.Token) → IsSound g → Matches g (map fine (map (λ t. t.kind) ts)) → judge end g ts ≡ None
-judge_from_whole g end [] h m = judge_nil end g ∙ ap (λ b. if b then None else Some (codes.Expected, end)) (can_end_no m)
-judge_from_whole g end (t ∷ ts) h m =
+pub first_fault_from_whole : (g : Grammar) (end : ℕ) (ts : List tokens.Token) → IsSound g → Matches g (map fine (map (λ t. t.kind) ts)) → first_fault end g ts ≡ None
+first_fault_from_whole g end [] h m = first_fault_nil end g ∙ ap (λ b. if b then None else Some (codes.Expected, end)) (can_end_no m)
+first_fault_from_whole g end (t ∷ ts) h m =
     let n = step_of g h m in
-    judge_some end g t ts None n.0 n.1 ∙ judge_from_whole n.0 end ts (sound_step g t.kind h n.1) n.2
+    first_fault_some end g t ts None n.0 n.1 ∙ first_fault_from_whole n.0 end ts (sound_step g t.kind h n.1) n.2
 
 pub record Run (all g : Grammar) (end : ℕ) (done before rest : List tokens.Token) : Type 0 where
   pub left : Grammar
   pub sound : IsSound left
   pub reaches : Reaches all (map (λ t. t.kind) (done ++ before)) left
-  pub judged : judge end g (before ++ rest) ≡ judge end left rest
+  pub fault_left : first_fault end g (before ++ rest) ≡ first_fault end left rest
 
 run : (all g : Grammar) (end : ℕ) (past before rest : List tokens.Token) (ss : List Spot) → IsSound g → Reaches all (map (λ t. t.kind) past) g → Matches g (map fine (map (λ t. t.kind) before) ++ ss) → Run all g end past before rest
-run all g end past [] rest ss h r m = record { left = g; sound = h; reaches = subst (λ (x : List tokens.Token). Reaches all (map (λ t. t.kind) x) g) (sym (append-nil past)) r; judged = refl }
+run all g end past [] rest ss h r m = record { left = g; sound = h; reaches = subst (λ (x : List tokens.Token). Reaches all (map (λ t. t.kind) x) g) (sym (append-nil past)) r; fault_left = refl }
 run all g end past (t ∷ before) rest ss h r m =
     let n = step_of g h m in
     let more = run all n.0 end (past ++ t ∷ []) before rest ss (sound_step g t.kind h n.1) (subst (λ (ks : List Kind). Reaches all ks n.0) (sym (map_push past t)) (reaches_step _ t.kind r h n.1)) n.2 in
-    record { left = more.left; sound = more.sound; reaches = subst (λ (x : List tokens.Token). Reaches all (map (λ t. t.kind) x) more.left) (append_assoc past (t ∷ []) before) more.reaches; judged = judge_some end g t (before ++ rest) None n.0 n.1 ∙ more.judged }
+    record { left = more.left; sound = more.sound; reaches = subst (λ (x : List tokens.Token). Reaches all (map (λ t. t.kind) x) more.left) (append_assoc past (t ∷ []) before) more.reaches; fault_left = first_fault_some end g t (before ++ rest) None n.0 n.1 ∙ more.fault_left }
 
 stuck : {all g : Grammar} (before : List Kind) (t : Kind) → Reaches all before g → IsSound g → ((wrong : Option Code) → GoesOn all before t wrong → ⊥) → step g t ≡ None
 stuck {all} {g} before t r h nowhere = go (step g t) refl
@@ -365,28 +365,28 @@ ends_or_not {all} {g} before r nowhere = go (can_end g) refl
     go true e = absurd (nowhere (whole_at before r (can_end_yes g e)))
     go false e = refl
 
-judge_here : (all g : Grammar) (end : ℕ) (before : List Kind) (rest : List tokens.Token) (f : Fault) → IsSound g → Reaches all before g → IsWrongHere all before end rest f → judge end g rest ≡ Some f
-judge_here all g end before [] f h r w = judge_nil end g ∙ ap (λ b. if b then None else Some (codes.Expected, end)) (ends_or_not before r w.0) ∙ ap (λ (x : Fault). Some x) (sym w.1)
-judge_here all g end before (t ∷ ts) (code, offset) h r w = go code w.0 ∙ ap (λ (n : ℕ). Some (code, n)) (sym w.1)
+first_fault_here : (all g : Grammar) (end : ℕ) (before : List Kind) (rest : List tokens.Token) (f : Fault) → IsSound g → Reaches all before g → IsWrongHere all before end rest f → first_fault end g rest ≡ Some f
+first_fault_here all g end before [] f h r w = first_fault_nil end g ∙ ap (λ b. if b then None else Some (codes.Expected, end)) (ends_or_not before r w.0) ∙ ap (λ (x : Fault). Some x) (sym w.1)
+first_fault_here all g end before (t ∷ ts) (code, offset) h r w = go code w.0 ∙ ap (λ (n : ℕ). Some (code, n)) (sym w.1)
   where
-    marked_so : (c : Code) → GoesOn all before t.kind (Some c) → judge end g (t ∷ ts) ≡ Some (c, t.start)
-    marked_so c o = let n = step_of g h (r.back _ o.1) in judge_some end g t ts (Some c) n.0 n.1
+    marked_so : (c : Code) → GoesOn all before t.kind (Some c) → first_fault end g (t ∷ ts) ≡ Some (c, t.start)
+    marked_so c o = let n = step_of g h (r.back _ o.1) in first_fault_some end g t ts (Some c) n.0 n.1
 
-    go : (c : Code) → IsWrongAt all before t.kind c → judge end g (t ∷ ts) ≡ Some (c, t.start)
-    go codes.Trailing a = judge_none end g t ts (stuck before t.kind r h a.1) ∙ ap (λ b. Some ((if b then codes.Trailing else codes.Expected), t.start)) (can_end_no (at_whole before r a.0))
-    go codes.Expected a = judge_none end g t ts (stuck before t.kind r h a.1) ∙ ap (λ b. Some ((if b then codes.Trailing else codes.Expected), t.start)) (ends_or_not before r a.0)
+    go : (c : Code) → IsWrongAt all before t.kind c → first_fault end g (t ∷ ts) ≡ Some (c, t.start)
+    go codes.Trailing a = first_fault_none end g t ts (stuck before t.kind r h a.1) ∙ ap (λ b. Some ((if b then codes.Trailing else codes.Expected), t.start)) (can_end_no (at_whole before r a.0))
+    go codes.Expected a = first_fault_none end g t ts (stuck before t.kind r h a.1) ∙ ap (λ b. Some ((if b then codes.Trailing else codes.Expected), t.start)) (ends_or_not before r a.0)
     go codes.Duplicate a = marked_so codes.Duplicate a
     go codes.TooMany a = marked_so codes.TooMany a
     go _ a = absurd a
 
-pub judge_from_fault : (all : Grammar) (end : ℕ) (ts : List tokens.Token) (f : Fault) → IsSound all → IsFault all end ts f → judge end all ts ≡ Some f
-judge_from_fault all end ts f h w =
+pub first_fault_from_fault : (all : Grammar) (end : ℕ) (ts : List tokens.Token) (f : Fault) → IsSound all → IsFault all end ts f → first_fault end all ts ≡ Some f
+first_fault_from_fault all end ts f h w =
     let n = run all all end [] w.before w.rest w.begins.0 h (reaches_start all) w.begins.1 in
-    ap (λ (x : List tokens.Token). judge end all x) w.split ∙ n.judged ∙ judge_here all n.left end _ w.rest f n.sound n.reaches w.wrong
+    ap (λ (x : List tokens.Token). first_fault end all x) w.split ∙ n.fault_left ∙ first_fault_here all n.left end _ w.rest f n.sound n.reaches w.wrong
 
 -- a line has one fault, and a whole one has none
 pub one_fault : (all : Grammar) (end : ℕ) (ts : List tokens.Token) (f g : Fault) → IsSound all → IsFault all end ts f → IsFault all end ts g → f ≡ g
-one_fault all end ts f g h v w = let e : Some f ≡ Some g = sym (judge_from_fault all end ts f h v) ∙ judge_from_fault all end ts g h w in cc
+one_fault all end ts f g h v w = let e : Some f ≡ Some g = sym (first_fault_from_fault all end ts f h v) ∙ first_fault_from_fault all end ts g h w in cc
 
 -- the whole language's grammar
 pub sound : IsSound statement

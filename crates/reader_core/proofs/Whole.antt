@@ -20,7 +20,7 @@ use Rattle.reader_core.specs.declared.privilege.Privilege.TheVariants as privile
 use Rattle.reader_core.specs.declared.statement.Statement.{Statement}
 use Rattle.reader_core.specs.declared.statement.Statement.TheVariants as statements
 use Rattle.reader_core.specs.Grammar.{Grammar, Class, Key, Sign, Rule, Items, More, One, fits, mark_of, followed_by, AreFine}
-use Rattle.reader_core.specs.Matches.{Spot, fine, IsNext, Matches, done, one, this, other, item, next, last, IsWhole}
+use Rattle.reader_core.specs.Matches.{Spot, fine, is_next, Matches, done, one, this, other, item, next, last, IsWhole}
 use Rattle.reader_core.specs.Privileges.{word_of, word_keyword}
 use Rattle.reader_core.specs.Language.{commas, names_rule, conditions_rule, privileges_rule, column_item, literal_item, name_item, set_item, condition_item, privilege_item, optional, filter, selected, from_table, grant_option, only_table, statement, finish, comma, listed, name_says, names_say, user_says, column_says, value_says, value_lexeme, type_lexeme, comparison_mark, condition_says, set_says, filter_says, selection_says, columns_say, privilege_says, privilege_columns, option_says, only_says, statement_says, AreNamed, IsSelection, IsLawfulPrivilege, ArePrivileges, AreUsers, IsLawful, SaysStatement}
 use Rattle.reader_core.proofs.Taking.{value_fits, type_fits, comparison_fits}
@@ -53,18 +53,18 @@ record SaysItem {A : Type 0} (r : Rule) (i : Grammar) (separator : Lexeme) (firs
   begins : (x : A) → spots (says x) ≡ fine (first x) ∷ tail x
   separates : fits r.separator (kind_of separator) ≡ true
   shut : fits bracket (kind_of separator) ≡ false
-  one_item : (x : A) (k : Grammar) (ss : List Spot) → IsItem x → IsNext bracket ss ≡ false → Matches k ss → Matches (followed_by i k) (spots (says x) ++ ss)
+  one_item : (x : A) (k : Grammar) (ss : List Spot) → IsItem x → is_next bracket ss ≡ false → Matches k ss → Matches (followed_by i k) (spots (says x) ++ ss)
 
 module _ {A : Type 0} {r : Rule} {i : Grammar} {separator : Lexeme} {first : A → Kind} {says : A → List Lexeme} {IsItem : A → Type 0} (of : SaysItem r i separator first says IsItem)
-    (g : Grammar) (ss : List Spot) (m : Matches g ss) (calm : IsNext r.separator ss ≡ false) (shut : IsNext bracket ss ≡ false) where
+    (g : Grammar) (ss : List Spot) (m : Matches g ss) (calm : is_next r.separator ss ≡ false) (shut : is_next bracket ss ≡ false) where
   abbrev behind : List A → List Lexeme
   behind xs = flat_map (λ y. separator ∷ says y) xs
 
-  behind_shut : (xs : List A) → IsNext bracket (spots (behind xs) ++ ss) ≡ false
+  behind_shut : (xs : List A) → is_next bracket (spots (behind xs) ++ ss) ≡ false
   behind_shut [] = shut
   behind_shut (x ∷ xs) = of.shut
 
-  item_matches : (x : A) (s : List Kind) (more : List Spot) → IsItem x → IsNext bracket more ≡ false → mark_of r s (first x) ≡ None → Matches (More r (s ++ first x ∷ []) i g) more → Matches (Items r s i g) (spots (says x) ++ more)
+  item_matches : (x : A) (s : List Kind) (more : List Spot) → IsItem x → is_next bracket more ≡ false → mark_of r s (first x) ≡ None → Matches (More r (s ++ first x ∷ []) i g) more → Matches (Items r s i g) (spots (says x) ++ more)
   item_matches x s more is free e n =
       let t = subst (λ (z : List Spot). Matches (followed_by i (More r (s ++ first x ∷ []) i g)) (z ++ more)) (of.begins x) (of.one_item x (More r (s ++ first x ∷ []) i g) more is free n) in
       subst (λ (z : List Spot). Matches (Items r s i g) (z ++ more)) (sym (of.begins x))
@@ -110,17 +110,17 @@ set_of = record { tail = λ a. fine (kinds.Mark marks.Equal) ∷ fine (kind_of (
 condition_of : SaysItem conditions_rule condition_item (lexemes.Key keywords.And) (λ c. kinds.Name c.column) condition_says Any
 condition_of = record { tail = λ c. fine (kinds.Mark (comparison_mark c.comparison)) ∷ fine (kind_of (value_lexeme c.literal)) ∷ []; begins = λ c. refl; separates = refl; shut = refl; one_item = λ c k ss is free m. one refl (one (comparison_fits c.comparison) (one (value_fits c.literal) m)) }
 
-names_match : (g : Grammar) (ss : List Spot) → Matches g ss → IsNext (Sign marks.Comma) ss ≡ false → IsNext bracket ss ≡ false → (names : List Name) → AreNamed 32 (λ n. n) names → Matches (Items (names_rule 32) [] name_item g) (spots (names_say names) ++ ss)
+names_match : (g : Grammar) (ss : List Spot) → Matches g ss → is_next (Sign marks.Comma) ss ≡ false → is_next bracket ss ≡ false → (names : List Name) → AreNamed 32 (λ n. n) names → Matches (Items (names_rule 32) [] name_item g) (spots (names_say names) ++ ss)
 names_match g ss m calm shut names h = list_matches (name_of 32) g ss m calm shut names h.0.0 (any names) (fine_if_distinct 32 (λ n. n) names h.0.1 h.1)
 
-columns_match : (columns : Option (List Name)) (k : Grammar) (ss : List Spot) → IsSelection columns → IsNext bracket ss ≡ false → Matches k ss → Matches (optional (λ k. One bracket (Items (names_rule 32) [] name_item (One (Sign marks.Close) k))) k) (spots (columns_say columns) ++ ss)
+columns_match : (columns : Option (List Name)) (k : Grammar) (ss : List Spot) → IsSelection columns → is_next bracket ss ≡ false → Matches k ss → Matches (optional (λ k. One bracket (Items (names_rule 32) [] name_item (One (Sign marks.Close) k))) k) (spots (columns_say columns) ++ ss)
 columns_match None k ss is shut m = other shut m
 columns_match (Some names) k ss is shut m =
     let inside = names_match (One (Sign marks.Close) k) (fine (kinds.Mark marks.Close) ∷ ss) (one refl m) refl refl names is in
     this refl (subst (Matches (Items (names_rule 32) [] name_item (One (Sign marks.Close) k)))
     (sym (ap (λ z. z ++ ss) (spots-append (names_say names) (lexemes.Sign marks.Close ∷ [])) ∙ append_assoc (spots (names_say names)) (spots (lexemes.Sign marks.Close ∷ [])) ss)) inside)
 
-privilege_matches : (p : Privilege) (k : Grammar) (ss : List Spot) → IsLawfulPrivilege p → IsNext bracket ss ≡ false → Matches k ss → Matches (followed_by privilege_item k) (spots (privilege_says p) ++ ss)
+privilege_matches : (p : Privilege) (k : Grammar) (ss : List Spot) → IsLawfulPrivilege p → is_next bracket ss ≡ false → Matches k ss → Matches (followed_by privilege_item k) (spots (privilege_says p) ++ ss)
 privilege_matches privileges_of.Select k ss is shut m = this refl m
 privilege_matches privileges_of.Insert k ss is shut m = other refl (this refl m)
 privilege_matches privileges_of.Delete k ss is shut m = other refl (other refl (this refl m))
@@ -129,10 +129,10 @@ privilege_matches (privileges_of.Update columns) k ss is shut m = other refl (ot
 privilege_of : SaysItem privileges_rule privilege_item comma (λ p. kinds.Keyword (word_keyword (word_of p))) privilege_says IsLawfulPrivilege
 privilege_of = record { tail = λ p. spots (columns_say (privilege_columns p)); begins = λ p. refl; separates = refl; shut = refl; one_item = privilege_matches }
 
-privileges_match : (g : Grammar) (ss : List Spot) → Matches g ss → IsNext (Sign marks.Comma) ss ≡ false → IsNext bracket ss ≡ false → (ps : List Privilege) → ArePrivileges ps → Matches (Items privileges_rule [] privilege_item g) (spots (listed comma privilege_says ps) ++ ss)
+privileges_match : (g : Grammar) (ss : List Spot) → Matches g ss → is_next (Sign marks.Comma) ss ≡ false → is_next bracket ss ≡ false → (ps : List Privilege) → ArePrivileges ps → Matches (Items privileges_rule [] privilege_item g) (spots (listed comma privilege_says ps) ++ ss)
 privileges_match g ss m calm shut ps h = list_matches privilege_of g ss m calm shut ps h.0.0 h.2 (fine_if_different ps h.0.1 h.1)
 
-users_match : (g : Grammar) (ss : List Spot) → Matches g ss → IsNext (Sign marks.Comma) ss ≡ false → IsNext bracket ss ≡ false → (users : List User) → AreUsers users → Matches (Items (names_rule 16) [] name_item g) (spots (listed comma user_says users) ++ ss)
+users_match : (g : Grammar) (ss : List Spot) → Matches g ss → is_next (Sign marks.Comma) ss ≡ false → is_next bracket ss ≡ false → (users : List User) → AreUsers users → Matches (Items (names_rule 16) [] name_item g) (spots (listed comma user_says users) ++ ss)
 users_match g ss m calm shut users h = list_matches user_of g ss m calm shut users h.0.0 (any users) (fine_if_distinct 16 (λ u. u.0) users h.0.1 h.1)
 
 -- ---- the ends of statements
@@ -145,15 +145,15 @@ ends : (b : Bool) → Matches finish (spots (ending b))
 ends true = this refl done
 ends false = other refl done
 
-no_comma : (b : Bool) → IsNext (Sign marks.Comma) (spots (ending b)) ≡ false
+no_comma : (b : Bool) → is_next (Sign marks.Comma) (spots (ending b)) ≡ false
 no_comma true = refl
 no_comma false = refl
 
-no_open : (b : Bool) → IsNext bracket (spots (ending b)) ≡ false
+no_open : (b : Bool) → is_next bracket (spots (ending b)) ≡ false
 no_open true = refl
 no_open false = refl
 
-no_key : (b : Bool) (c : Class) → fits c (kinds.Mark marks.Semicolon) ≡ false → IsNext c (spots (ending b)) ≡ false
+no_key : (b : Bool) (c : Class) → fits c (kinds.Mark marks.Semicolon) ≡ false → is_next c (spots (ending b)) ≡ false
 no_key true c e = e
 no_key false c e = refl
 
@@ -162,7 +162,7 @@ filter_matches [] b h = other (no_key b (Key keywords.Where) refl) (ends b)
 filter_matches (c ∷ cs) b h = this refl (apart (listed (lexemes.Key keywords.And) condition_says (c ∷ cs)) (ending b)
     (list_matches condition_of finish (spots (ending b)) (ends b) (no_key b (Key keywords.And) refl) (no_open b) (c ∷ cs) (omega arith) (any (c ∷ cs)) (fine_if_few conditions_rule (λ x. kinds.Name x.column) (c ∷ cs) refl h)))
 
-filter_next : (cs : List Condition) (b : Bool) (c : Class) → fits c (kinds.Keyword keywords.Where) ≡ false → fits c (kinds.Mark marks.Semicolon) ≡ false → IsNext c (spots (filter_says cs ++ ending b)) ≡ false
+filter_next : (cs : List Condition) (b : Bool) (c : Class) → fits c (kinds.Keyword keywords.Where) ≡ false → fits c (kinds.Mark marks.Semicolon) ≡ false → is_next c (spots (filter_says cs ++ ending b)) ≡ false
 filter_next [] b c e f = no_key b c f
 filter_next (x ∷ cs) b c e f = e
 
@@ -170,7 +170,7 @@ option_matches : (o b : Bool) → Matches (optional grant_option finish) (spots 
 option_matches true b = this refl (one refl (one refl (ends b)))
 option_matches false b = other (no_key b (Key keywords.With) refl) (ends b)
 
-option_next : (o b : Bool) (c : Class) → fits c (kinds.Keyword keywords.With) ≡ false → fits c (kinds.Mark marks.Semicolon) ≡ false → IsNext c (spots (option_says o ++ ending b)) ≡ false
+option_next : (o b : Bool) (c : Class) → fits c (kinds.Keyword keywords.With) ≡ false → fits c (kinds.Mark marks.Semicolon) ≡ false → is_next c (spots (option_says o ++ ending b)) ≡ false
 option_next true b c e f = e
 option_next false b c e f = no_key b c f
 

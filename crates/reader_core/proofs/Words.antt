@@ -11,11 +11,11 @@ use Rattle.lexer_core.specs.declared.fault.ReadFault.{ReadFault}
 use Rattle.lexer_core.specs.declared.fault.ReadFault.TheVariants as faults
 use Rattle.reader_core.specs.declared.privilege.Word.{Word}
 use Rattle.reader_core.specs.declared.privilege.Word.TheVariants as words
-use Rattle.reader_core.specs.Grammar.{Grammar, Items, More, judge, mark_of, marked, enter, step, is_keyword, is_privilege}
-use Rattle.reader_core.specs.Cursor.{Cursor, Takes, Faults, judged, fault_of, next_kind, next_is_privilege, offset_at}
+use Rattle.reader_core.specs.Grammar.{Grammar, Items, More, first_fault, mark_of, marked, enter, step, is_keyword, is_privilege}
+use Rattle.reader_core.specs.Cursor.{Cursor, Takes, Faults, fault_left, fault_of, next_kind, next_is_privilege, offset_at}
 use Rattle.reader_core.specs.Privileges.{word_keyword}
 use Rattle.reader_core.specs.Language.{privileges_rule, privilege_item, behind_word, word_says}
-use Rattle.reader_core.proofs.Theory.{judge_nil, judge_none, judge_some}
+use Rattle.reader_core.proofs.Theory.{first_fault_nil, first_fault_none, first_fault_some}
 use Rattle.reader_core.proofs.Taking.{says_taken, said_by_kind, at_line}
 
 abbrev word_kind : Word → Kind
@@ -53,36 +53,36 @@ step_no_word : (s : List Kind) (k : Grammar) (t : Kind) → is_privilege t ≡ f
 step_no_word s k t e = ap (marked (mark_of privileges_rule s t)) (no_word_enters t (More privileges_rule (s ++ t ∷ []) privilege_item k) e)
 
 module _ (at : Cursor) (s : List Kind) where
-  word_bad : (k : Grammar) (w : Word) (code : Code) → next_kind at ≡ Some (word_kind w) → mark_of privileges_rule s (word_kind w) ≡ Some code → judged (items s k) at ≡ Some (code, offset_at at)
+  word_bad : (k : Grammar) (w : Word) (code : Code) → next_kind at ≡ Some (word_kind w) → mark_of privileges_rule s (word_kind w) ≡ Some code → fault_left (items s k) at ≡ Some (code, offset_at at)
   word_bad k w code is m = go at.rest is
     where
-      go : (ts : List tokens.Token) → next_kind (at_line at.line ts) ≡ Some (word_kind w) → judged (items s k) (at_line at.line ts) ≡ Some (code, offset_at (at_line at.line ts))
+      go : (ts : List tokens.Token) → next_kind (at_line at.line ts) ≡ Some (word_kind w) → fault_left (items s k) (at_line at.line ts) ≡ Some (code, offset_at (at_line at.line ts))
       go [] e = cc
-      go (t ∷ ts) e = judge_some (length at.line) _ t ts (Some code) _ (step_word s k w t.kind (Some code) (cc) m)
+      go (t ∷ ts) e = first_fault_some (length at.line) _ t ts (Some code) _ (step_word s k w t.kind (Some code) (cc) m)
 
-  word_misfit : (k : Grammar) → next_is_privilege at ≡ false → judged (items s k) at ≡ Some (codes.Expected, offset_at at)
+  word_misfit : (k : Grammar) → next_is_privilege at ≡ false → fault_left (items s k) at ≡ Some (codes.Expected, offset_at at)
   word_misfit k is = go at.rest is
     where
-      go : (ts : List tokens.Token) → next_is_privilege (at_line at.line ts) ≡ false → judged (items s k) (at_line at.line ts) ≡ Some (codes.Expected, offset_at (at_line at.line ts))
-      go [] e = judge_nil (length at.line) (items s k)
-      go (t ∷ ts) e = judge_none (length at.line) _ t ts (step_no_word s k t.kind e)
+      go : (ts : List tokens.Token) → next_is_privilege (at_line at.line ts) ≡ false → fault_left (items s k) (at_line at.line ts) ≡ Some (codes.Expected, offset_at (at_line at.line ts))
+      go [] e = first_fault_nil (length at.line) (items s k)
+      go (t ∷ ts) e = first_fault_none (length at.line) _ t ts (step_no_word s k t.kind e)
 
   -- a word that may not stand there
   pub word_bad_at : (w : Word) (code : Code) (e : ReadFault) → next_kind at ≡ Some (word_kind w) → mark_of privileges_rule s (word_kind w) ≡ Some code → e ≡ faults.At code (offset_at at) → Faults (items s) e at
-  word_bad_at w code e is m same = record { judges = λ ne k. word_bad k w code is m ∙ sym (ap fault_of same) }
+  word_bad_at w code e is m same = record { fault = λ ne k. word_bad k w code is m ∙ sym (ap fault_of same) }
 
   -- a look at the next token that found none
   pub word_misfit_so : {V : Type 0} (e : ReadFault) → ◌≡◌ {A = Result V ReadFault} (Err e) (Err (faults.At codes.Expected (offset_at at))) × (next_is_privilege at ≡ false) → Faults (items s) e at
-  word_misfit_so e h = let p = h.0 in let same : e ≡ faults.At codes.Expected (offset_at at) = cc in record { judges = λ ne k. word_misfit k h.1 ∙ sym (ap fault_of same) }
+  word_misfit_so e h = let p = h.0 in let same : e ≡ faults.At codes.Expected (offset_at at) = cc in record { fault = λ ne k. word_misfit k h.1 ∙ sym (ap fault_of same) }
 
 -- the word that begins a privilege is taken
 pub word_taken : {old new : Cursor} (s : List Kind) (w : Word) → next_kind old ≡ Some (word_kind w) → mark_of privileges_rule s (word_kind w) ≡ None → new.rest ≡ drop 1 old.rest → new.line ≡ old.line → Takes (items s) (behind s w) (word_says w) old new
 word_taken {old} {new} s w is m rest line = record {
   says = says_taken old new (lexemes.Key (word_keyword w)) (said_by_kind old (word_kind w) (lexemes.Key (word_keyword w)) is (λ bytes. refl)) rest line;
   line = line;
-  judges = λ k. go k old.rest is ∙ ap (λ (ts : List tokens.Token). judge (length old.line) (behind s w k) ts) (sym rest) ∙ ap (λ (b : List ℕ). judge (length b) (behind s w k) new.rest) (sym line);
+  fault = λ k. go k old.rest is ∙ ap (λ (ts : List tokens.Token). first_fault (length old.line) (behind s w k) ts) (sym rest) ∙ ap (λ (b : List ℕ). first_fault (length b) (behind s w k) new.rest) (sym line);
 }
   where
-    go : (k : Grammar) (ts : List tokens.Token) → next_kind (at_line old.line ts) ≡ Some (word_kind w) → judge (length old.line) (items s k) ts ≡ judge (length old.line) (behind s w k) (drop 1 ts)
+    go : (k : Grammar) (ts : List tokens.Token) → next_kind (at_line old.line ts) ≡ Some (word_kind w) → first_fault (length old.line) (items s k) ts ≡ first_fault (length old.line) (behind s w k) (drop 1 ts)
     go k [] e = cc
-    go k (t ∷ ts) e = judge_some (length old.line) _ t ts None _ (step_word s k w t.kind None (cc) m)
+    go k (t ∷ ts) e = first_fault_some (length old.line) _ t ts None _ (step_word s k w t.kind None (cc) m)

@@ -6,7 +6,7 @@ use Rattle.lexer_core.specs.declared.token.Token as tokens
 use Rattle.lexer_core.specs.declared.fault.Code.{Code}
 use Rattle.lexer_core.specs.declared.fault.ReadFault.{ReadFault}
 use Rattle.lexer_core.specs.declared.fault.ReadFault.TheVariants as faults
-use Rattle.reader_core.specs.Grammar.{Grammar, Class, Fault, fits, is_privilege, judge}
+use Rattle.reader_core.specs.Grammar.{Grammar, Class, Fault, fits, is_privilege, first_fault}
 
 -- a line, and those of its tokens that are left
 pub record Cursor : Type 0 where
@@ -35,14 +35,14 @@ abbrev pub left_says : Cursor → List Lexeme
 left_says c = map (λ t. (heard c.line t).lexeme) c.rest
 
 -- what is wrong with the tokens that are left, by a grammar
-abbrev pub judged : Grammar → Cursor → Option Fault
-judged g c = judge (length c.line) g c.rest
+abbrev pub fault_left : Grammar → Cursor → Option Fault
+fault_left g c = first_fault (length c.line) g c.rest
 
 -- The tokens were taken: they say this, and whatever is wrong with them as before is what is wrong with those left as after.
 pub record Takes (before after : Grammar → Grammar) (said : List Lexeme) (old new : Cursor) : Type 0 where
   pub says : left_says old ≡ said ++ left_says new
   pub line : new.line ≡ old.line
-  pub judges : (k : Grammar) → judged (before k) old ≡ judged (after k) new
+  pub fault : (k : Grammar) → fault_left (before k) old ≡ fault_left (after k) new
 
 abbrev pub fault_of : ReadFault → Option Fault
 fault_of faults.NoMemory = None
@@ -50,7 +50,7 @@ fault_of (faults.At code offset) = Some (code, offset)
 
 -- unless memory ran out, this is what is wrong, whatever were to follow
 pub record Faults (before : Grammar → Grammar) (e : ReadFault) (old : Cursor) : Type 0 where
-  pub judges : e ≢ faults.NoMemory → (k : Grammar) → judged (before k) old ≡ fault_of e
+  pub fault : e ≢ faults.NoMemory → (k : Grammar) → fault_left (before k) old ≡ fault_of e
 
 -- A part of the language: where it was read, the tokens say its value; else it is what is wrong.
 abbrev pub Leads : {V : Type 0} → (Grammar → Grammar) → (V → Grammar → Grammar) → (V → List Lexeme) → Result V ReadFault → Cursor → Cursor → Type 0

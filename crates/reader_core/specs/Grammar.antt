@@ -176,9 +176,10 @@ step (More r s i g) t = if fits r.separator t then Some (None, Items r s i g) el
 abbrev pub Fault : Type 0
 Fault = Code × ℕ
 
-unfoldable pub judge : ℕ → Grammar → List tokens.Token → Option Fault
-judge end g [] = if can_end g then None else Some (codes.Expected, end)
-judge end g (t ∷ ts) = elim (step g t.kind) [
+-- the first token that is wrong, as its code and its place; or `Expected` at the end, where they are not whole
+unfoldable pub first_fault : ℕ → Grammar → List tokens.Token → Option Fault
+first_fault end g [] = if can_end g then None else Some (codes.Expected, end)
+first_fault end g (t ∷ ts) = elim (step g t.kind) [
   | None ↦ Some ((if can_end g then codes.Trailing else codes.Expected), t.start)
-  | Some s ↦ elim s.0 [ None ↦ judge end s.1 ts | Some code ↦ Some (code, t.start) ]
+  | Some s ↦ elim s.0 [ None ↦ first_fault end s.1 ts | Some code ↦ Some (code, t.start) ]
 ]

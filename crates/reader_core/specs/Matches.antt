@@ -1,5 +1,5 @@
 -- What a grammar means, and what is wrong with a list of tokens by it.
-use Rattle.std.specs.Prelude.{◌≡◌, ℕ, Bool, true, false, List, [], ◌∷◌, ◌++◌, map, Option, Some, None}
+use Rattle.std.specs.Prelude.{◌≡◌, ℕ, Bool, true, false, ◌||◌, List, [], ◌∷◌, ◌++◌, map, Option, Some, None}
 use Rattle.lexer_core.specs.declared.token.Kind.{Kind}
 use Rattle.lexer_core.specs.declared.token.Token as tokens
 use Rattle.lexer_core.specs.declared.fault.Code.{Code}
@@ -14,20 +14,20 @@ pub record Spot : Type 0 where
 abbrev pub fine : Kind → Spot
 fine t = record { kind = t; wrong = None }
 
--- no token of the class comes next
-abbrev pub IsNext : Class → List Spot → Bool
-IsNext c [] = false
-IsNext c (s ∷ ss) = fits c s.kind
+-- whether a token of the class comes next
+abbrev pub is_next : Class → List Spot → Bool
+is_next c [] = false
+is_next c (s ∷ ss) = fits c s.kind
 
 -- The tokens are a sentence of the grammar.
 pub data Matches : Grammar → List Spot → Type 0 where
   done : Matches End []
   one : {c : Class} {g : Grammar} {t : Kind} {ss : List Spot} → fits c t ≡ true → Matches g ss → Matches (One c g) (fine t ∷ ss)
   this : {c : Class} {a b : Grammar} {t : Kind} {ss : List Spot} → fits c t ≡ true → Matches a ss → Matches (Case c a b) (fine t ∷ ss)
-  other : {c : Class} {a b : Grammar} {ss : List Spot} → IsNext c ss ≡ false → Matches b ss → Matches (Case c a b) ss
+  other : {c : Class} {a b : Grammar} {ss : List Spot} → is_next c ss ≡ false → Matches b ss → Matches (Case c a b) ss
   item : {r : Rule} {s : List Kind} {i g : Grammar} {t : Kind} {ss : List Spot} → Matches (followed_by i (More r (s ++ t ∷ []) i g)) (fine t ∷ ss) → Matches (Items r s i g) (record { kind = t; wrong = mark_of r s t } ∷ ss)
   next : {r : Rule} {s : List Kind} {i g : Grammar} {t : Kind} {ss : List Spot} → fits r.separator t ≡ true → Matches (Items r s i g) ss → Matches (More r s i g) (fine t ∷ ss)
-  last : {r : Rule} {s : List Kind} {i g : Grammar} {ss : List Spot} → IsNext r.separator ss ≡ false → Matches g ss → Matches (More r s i g) ss
+  last : {r : Rule} {s : List Kind} {i g : Grammar} {ss : List Spot} → is_next r.separator ss ≡ false → Matches g ss → Matches (More r s i g) ss
 
 -- the tokens are a sentence, and no item of a list is wrong; they begin one; so they do with one more
 abbrev pub IsWhole : Grammar → List Kind → Type 0
@@ -67,3 +67,29 @@ pub data Derives : Grammar → List Spot → Type 0 where
   first : {r : Rule} {s : List Kind} {i g : Grammar} {t : Kind} {ss : List Spot} → Derives (followed_by i (More r (s ++ t ∷ []) i g)) (fine t ∷ ss) → Derives (Items r s i g) (record { kind = t; wrong = mark_of r s t } ∷ ss)
   further : {r : Rule} {s : List Kind} {i g : Grammar} {t : Kind} {ss : List Spot} → fits r.separator t ≡ true → Derives (Items r s i g) ss → Derives (More r s i g) (fine t ∷ ss)
   behind : {r : Rule} {s : List Kind} {i g : Grammar} {ss : List Spot} → Derives g ss → Derives (More r s i g) ss
+
+-- whether the tokens of the grammar, and then what begins by the test, can begin with this token
+abbrev pub can_begin : Grammar → (Kind → Bool) → Kind → Bool
+can_begin End follows t = follows t
+can_begin (One c g) follows t = fits c t
+can_begin (Case c a b) follows t = fits c t || can_begin b follows t
+can_begin (Items r s i g) follows t = can_begin i (λ u. fits r.separator u || can_begin g follows u) t
+can_begin (More r s i g) follows t = fits r.separator t || can_begin g follows t
+
+-- no token of the class passes the test
+abbrev pub IsApart : Class → (Kind → Bool) → Type 0
+IsApart c test = (t : Kind) → fits c t ≡ true → test t ≡ false
+
+-- Before what begins by the test, no choice of the grammar is between parts that begin with the same token.
+abbrev pub IsPredictive : Grammar → (Kind → Bool) → Type 0
+IsPredictive End follows = Unit {0}
+IsPredictive (One c g) follows = IsPredictive g follows
+IsPredictive (Case c a b) follows = IsApart c (can_begin b follows) × IsPredictive a follows × IsPredictive b follows
+IsPredictive (Items r s i g) follows =
+    IsPredictive i (λ u. fits r.separator u || can_begin g follows u) × IsApart r.separator (can_begin g follows) × IsPredictive g follows
+IsPredictive (More r s i g) follows =
+    IsPredictive i (λ u. fits r.separator u || can_begin g follows u) × IsApart r.separator (can_begin g follows) × IsPredictive g follows
+
+-- no token
+abbrev pub never : Kind → Bool
+never t = false

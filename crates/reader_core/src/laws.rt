@@ -1,10 +1,11 @@
 //! Laws of the language, each the contract of an empty function.
-ghost use Rattle.std.specs.Prelude.{◌≡◌, ◌≤◌, ℕ, List, length};
+ghost use Rattle.std.specs.Prelude.{◌≡◌, ◌≤◌, ◌⊎◌, ℕ, List, All, length, map};
+ghost use Rattle.lexer_core.specs.Lexing.{Lexeme, kind_of};
 ghost use Rattle.lexer_core.specs.declared.fault.Code.{Code};
 ghost use Rattle.reader_core.specs.declared.statement.Statement.{Statement};
-ghost use Rattle.reader_core.specs.Matches.{Spot, Matches, Derives};
-ghost use Rattle.reader_core.specs.Language.{statement, Spells, IsLawful, IsReadFault};
-ghost use Rattle.reader_core.specs.Printing.{canonical, HoldsProper};
+ghost use Rattle.reader_core.specs.Matches.{Spot, Matches, Derives, IsWhole, IsPredictive, never};
+ghost use Rattle.reader_core.specs.Language.{statement, SaysStatement, Spells, IsLawful, IsReadFault};
+ghost use Rattle.reader_core.specs.Printing.{canonical, HoldsProper, IsProper};
 
 /// No line spells two statements.
 pub fn one_statement()
@@ -13,30 +14,49 @@ pub fn one_statement()
 
 /// A line has at most one fault: one code, at one byte.
 pub fn one_fault()
-    ensures { (line : List ℕ) (code other : Code) (offset place : ℕ) → IsReadFault line code offset → IsReadFault line other place → (code ≡ other) × (offset ≡ place) }
+    ensures { (line : List ℕ) (code other : Code) (offset place : ℕ) → IsReadFault line code offset
+        → IsReadFault line other place → (code ≡ other) × (offset ≡ place) }
 {}
 
 /// A line that spells a statement has no fault.
 pub fn spelled_or_faulty()
-    ensures { (line : List ℕ) (s : Statement) (code : Code) (offset : ℕ) → Spells line s → IsReadFault line code offset → ⊥ }
+    ensures { (line : List ℕ) (s : Statement) (code : Code) (offset : ℕ) → Spells line s
+        → IsReadFault line code offset → ⊥ }
 {}
 
 /// The canonical text of a statement spells it, where it has at most 4,096 bytes, and where the
 /// statement holds what its types keep: lists with their limits and distinctness (`IsLawful`), and
 /// names, numbers and texts as they may be (`HoldsProper`). So what is printed is read back.
 pub fn printed_is_read()
-    ensures { (s : Statement) → IsLawful s → HoldsProper s → length (canonical s) ≤ 4096 → Spells (canonical s) s }
+    ensures { (s : Statement) → IsLawful s → HoldsProper s → length (canonical s) ≤ 4096
+        → Spells (canonical s) s }
 {}
 
 /// The canonical text of a statement that some line spells spells it too, where it has at most 4,096
 /// bytes: to print what was read and to read it again gives the same statement.
 pub fn read_is_printed()
-    ensures { (line : List ℕ) (s : Statement) → Spells line s → length (canonical s) ≤ 4096 → Spells (canonical s) s }
+    ensures { (line : List ℕ) (s : Statement) → Spells line s → length (canonical s) ≤ 4096
+        → Spells (canonical s) s }
 {}
 
-/// The choices of the grammar are never between parts that begin with the same token. So tokens that are
-/// a sentence by some choice (`Derives`) are one by the choice that the next token makes (`Matches`),
-/// which is what faults are defined by.
+/// No choice of the grammar is between parts that begin with the same token. And tokens are a sentence
+/// by some choice (`Derives`) exactly where they are one by the choice that the next token makes
+/// (`Matches`), which is what faults are defined by.
 pub fn one_choice()
-    ensures { (ss : List Spot) → (Derives statement ss → Matches statement ss) × (Matches statement ss → Derives statement ss) }
+    ensures apart { IsPredictive statement never }
+    ensures same { (ss : List Spot) → (Derives statement ss → Matches statement ss)
+        × (Matches statement ss → Derives statement ss) }
+{}
+
+/// Tokens that are a whole sentence of the grammar, none of them wrong as an item's first, say a lawful
+/// statement, where names, numbers and texts are as they may be (`IsProper`).
+pub fn whole_tokens_are_said()
+    ensures { (said : List Lexeme) → All IsProper said → IsWhole statement (map kind_of said)
+        → (s : Statement) × SaysStatement said s × IsLawful s }
+{}
+
+/// Each line spells a statement or has a fault.
+pub fn statement_or_fault()
+    ensures { (line : List ℕ) → ((s : Statement) × Spells line s)
+        ⊎ ((code : Code) × (offset : ℕ) × IsReadFault line code offset) }
 {}

@@ -15,9 +15,9 @@
 //! none), `Expected` (with it they begin none), `Duplicate` (a name or the word of a privilege that
 //! stands earlier in its list, where they have to differ), `TooMany` (the first token of an item past
 //! its list's limit). Where no token has a fault but the statement is not whole, it is `Expected` at
-//! the end of the line. That no line spells two statements, has two faults, or both, are laws, each on
-//! an empty function of [`laws`], and so is that the grammar's choices are never between parts that
-//! begin with the same token.
+//! the end of the line. That each line spells a statement or has a fault, never both, never two
+//! statements and never two faults, are laws, each on an empty function of [`laws`], and so is that no
+//! choice of the grammar is between parts that begin with the same token.
 //!
 //! [`print`] gives a statement's canonical text (`specs/Printing.antt`), unless it has more than 4,096
 //! bytes, which is more than a line may have. What is printed is read back as the statement.

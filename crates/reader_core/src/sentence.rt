@@ -1,7 +1,7 @@
 //! Whole statements.
 ghost use Rattle.std.specs.Prelude.{◌≡◌, ◌∷◌, [], None, IfOk, OnOk, IfErr};
 ghost use Rattle.reader_core.specs.Grammar.{End};
-ghost use Rattle.reader_core.specs.Cursor.{Reads, judged, fault_of, left_says};
+ghost use Rattle.reader_core.specs.Cursor.{Reads, fault_left, fault_of, left_says};
 ghost use Rattle.reader_core.specs.Language.{create, insert, select, delete, update, grant, revoke, checkpoint, checkpoints, export, body, finish, statement_says, IsFinished, IsLawful};
 
 use crate::list::list;
@@ -184,8 +184,8 @@ impl Reader<'_> {
     }
 
     fn nothing_more(&self) -> Result<(), ReadFault>
-        ensures ok { OnOk result ((judged End self.now ≡ None) × (self.now.rest ≡ [])) }
-        ensures err { IfErr result (λ e. judged End self.now ≡ fault_of e) }
+        ensures ok { OnOk result ((fault_left End self.now ≡ None) × (self.now.rest ≡ [])) }
+        ensures err { IfErr result (λ e. fault_left End self.now ≡ fault_of e) }
     {
         if self.peek().is_some() {
             return Err(self.fault(Code::Trailing));
@@ -196,8 +196,9 @@ impl Reader<'_> {
     /// An optional ";", and then nothing more.
     #[tactic(auto, using(crate::proofs::Lists::case_yes, crate::proofs::Lists::case_no))]
     pub fn finish(&mut self) -> Result<(), ReadFault>
-        ensures ok { OnOk result ((judged finish self.old ≡ None) × IsFinished (left_says self.old)) }
-        ensures err { IfErr result (λ e. judged finish self.old ≡ fault_of e) }
+        ensures ok { OnOk result ((fault_left finish self.old ≡ None)
+            × IsFinished (left_says self.old)) }
+        ensures err { IfErr result (λ e. fault_left finish self.old ≡ fault_of e) }
     {
         if self.at_mark(Mark::Semicolon) {
             self.advance();

@@ -20,10 +20,10 @@ use Rattle.grants_core.specs.Owners.{owner_of, owns}
 use Rattle.grants_core.specs.Content.{Content, gives}
 use Rattle.grants_core.proofs.OwnersLemmas.{AllByRecursion-append}
 use Rattle.monitor_core.specs.Atoms.{of_table, to_update, atoms_of_one, atoms_of}
-use Rattle.monitor_core.specs.Verdict.{State, Check, verdict, first_lack, each, require, is_table, columns_of, atoms_at, list_stands, holds, may_grant, column_stands, column_takes, count_is_right, types_are_right, with_filter, room_for_change, room_for_grants, listed_columns_stand}
-use Rattle.system_core.specs.Standing.{AgreeOn, Stands}
+use Rattle.monitor_core.specs.Verdict.{State, Check, verdict, first_lack, each, require, is_table, columns_of, atoms_at, list_stands, holds_privilege, holds_grant_option, column_stands, column_takes, count_is_right, types_are_right, with_filter, room_for_change, room_for_grants, listed_columns_stand}
+use Rattle.system_core.specs.Standing.{AgreeOn, KeepsJournal}
 use Rattle.system_core.specs.Journal.{contents, rights_at, verdict_at}
-use Rattle.system_core.specs.declared.event.Entry.{Entry}
+use Rattle.system_core.specs.declared.machine.event.Entry.{Entry}
 use Rattle.monitor_core.proofs.Passing.{guarded, each-alike}
 
 -- ---- the atoms of privileges on a table are of that table
@@ -56,13 +56,13 @@ abbrev by_owners : List (Name × Contents) → Limits → ℕ → Content → Li
 by_owners ts l m c os = record { tables = ts; rights = record c { owners = os }; limits = l; moment = m }
 
 module _ (ts : List (Name × Contents)) (l : Limits) (m : ℕ) (c : Content) (os ps : List Ownership) (user : User) where
-  holds-alike : (atom : Atom) → owner_of os atom.table ≡ owner_of ps atom.table → holds (by_owners ts l m c os) user atom ≡ holds (by_owners ts l m c ps) user atom
+  holds-alike : (atom : Atom) → owner_of os atom.table ≡ owner_of ps atom.table → holds_privilege (by_owners ts l m c os) user atom ≡ holds_privilege (by_owners ts l m c ps) user atom
   holds-alike atom h = ap (λ b. require (b || list_any (gives user atom) c.in_force) (lacks.NoPrivilege user atom)) (owns-alike os ps user atom h)
 
-  may_grant-alike : (atom : Atom) → owner_of os atom.table ≡ owner_of ps atom.table → may_grant (by_owners ts l m c os) user atom ≡ may_grant (by_owners ts l m c ps) user atom
+  may_grant-alike : (atom : Atom) → owner_of os atom.table ≡ owner_of ps atom.table → holds_grant_option (by_owners ts l m c os) user atom ≡ holds_grant_option (by_owners ts l m c ps) user atom
   may_grant-alike atom h = ap (λ b. require (b || list_any (λ g. g.option && gives user atom g) c.in_force) (lacks.NoGrantOption user atom)) (owns-alike os ps user atom h)
 
-  sets-alike : (table : Name) (sets : List Assignment) → owner_of os table ≡ owner_of ps table → AllByRecursion (λ a. holds (by_owners ts l m c os) user (to_update table a.column) ≡ holds (by_owners ts l m c ps) user (to_update table a.column)) sets
+  sets-alike : (table : Name) (sets : List Assignment) → owner_of os table ≡ owner_of ps table → AllByRecursion (λ a. holds_privilege (by_owners ts l m c os) user (to_update table a.column) ≡ holds_privilege (by_owners ts l m c ps) user (to_update table a.column)) sets
   sets-alike table [] h = tt
   sets-alike table (a ∷ more) h = (holds-alike (to_update table a.column) h, sets-alike table more h)
 
@@ -78,18 +78,18 @@ module _ (ts : List (Name × Contents)) (l : Limits) (m : ℕ) (c : Content) (os
   verdict-owners (statements.Delete table filter) h =
       let two : Check → Check → Check = λ x y. first_lack (each filter (λ q. column_stands (by_owners ts l m c ps) table q.column) ∷ x ∷ with_filter filter y ∷ each filter (λ q. column_takes (by_owners ts l m c ps) table q.column q.literal) ∷ room_for_change (by_owners ts l m c ps) ∷ []) in
       guarded (is_table ts table) (lacks.NoTable table) _ _ (λ stands.
-      ap (λ x. two x (holds (by_owners ts l m c os) user (of_table table kinds.Select))) (holds-alike (of_table table kinds.Delete) (h table stands))
-      ∙ ap (two (holds (by_owners ts l m c ps) user (of_table table kinds.Delete))) (holds-alike (of_table table kinds.Select) (h table stands)))
+      ap (λ x. two x (holds_privilege (by_owners ts l m c os) user (of_table table kinds.Select))) (holds-alike (of_table table kinds.Delete) (h table stands))
+      ∙ ap (two (holds_privilege (by_owners ts l m c ps) user (of_table table kinds.Delete))) (holds-alike (of_table table kinds.Select) (h table stands)))
   verdict-owners (statements.Update table sets filter) h =
       let two : Check → Check → Check = λ x y. first_lack (each sets (λ a. column_stands (by_owners ts l m c ps) table a.column) ∷ each filter (λ q. column_stands (by_owners ts l m c ps) table q.column) ∷ x ∷ with_filter filter y ∷ each sets (λ a. column_takes (by_owners ts l m c ps) table a.column a.value) ∷ each filter (λ q. column_takes (by_owners ts l m c ps) table q.column q.literal) ∷ room_for_change (by_owners ts l m c ps) ∷ []) in
       guarded (is_table ts table) (lacks.NoTable table) _ _ (λ stands.
-      ap (λ x. two x (holds (by_owners ts l m c os) user (of_table table kinds.Select))) (each-alike (λ (a : Assignment). holds (by_owners ts l m c os) user (to_update table a.column)) (λ a. holds (by_owners ts l m c ps) user (to_update table a.column)) sets (sets-alike table sets (h table stands)))
-      ∙ ap (two (each sets (λ a. holds (by_owners ts l m c ps) user (to_update table a.column)))) (holds-alike (of_table table kinds.Select) (h table stands)))
+      ap (λ x. two x (holds_privilege (by_owners ts l m c os) user (of_table table kinds.Select))) (each-alike (λ (a : Assignment). holds_privilege (by_owners ts l m c os) user (to_update table a.column)) (λ a. holds_privilege (by_owners ts l m c ps) user (to_update table a.column)) sets (sets-alike table sets (h table stands)))
+      ∙ ap (two (each sets (λ a. holds_privilege (by_owners ts l m c ps) user (to_update table a.column)))) (holds-alike (of_table table kinds.Select) (h table stands)))
   verdict-owners (statements.Grant asked table users option) h =
       guarded (is_table ts table) (lacks.NoTable table) _ _ (λ stands.
       ap (λ x. first_lack (listed_columns_stand (by_owners ts l m c ps) table asked ∷ x ∷ room_for_change (by_owners ts l m c ps) ∷ each (atoms_at ts table asked) (room_for_grants (by_owners ts l m c ps) users) ∷ []))
-      (each-alike (may_grant (by_owners ts l m c os) user) (may_grant (by_owners ts l m c ps) user) (atoms_at ts table asked)
-      (All-atoms (λ a. a.table ≡ table) (λ a. may_grant (by_owners ts l m c os) user a ≡ may_grant (by_owners ts l m c ps) user a) (atoms_at ts table asked)
+      (each-alike (holds_grant_option (by_owners ts l m c os) user) (holds_grant_option (by_owners ts l m c ps) user) (atoms_at ts table asked)
+      (All-atoms (λ a. a.table ≡ table) (λ a. holds_grant_option (by_owners ts l m c os) user a ≡ holds_grant_option (by_owners ts l m c ps) user a) (atoms_at ts table asked)
       (λ a of_this. may_grant-alike a (ap (owner_of os) of_this ∙ (h table stands ∙ ap (owner_of ps) (sym of_this))))
       (atoms-table table (columns_of ts table) asked))))
   verdict-owners (statements.Revoke asked table users) h = refl
@@ -106,7 +106,7 @@ verdict-agree ts l m c d user s h =
     ∙ ap (λ n. verdict (record { tables = ts; rights = record { owners = d.owners; in_force = d.in_force; made = n }; limits = l; moment = m }) user s) h.made)
 
 -- **the verdict by what a system keeps is that of its journal**
-pub verdict-stands : (limits : Limits) (journal : List Entry) (tables : List (Name × Contents)) (rights : Content) (user : User) (s : Statement) → Stands limits journal tables rights → verdict (record { tables = tables; rights = rights; limits = limits; moment = length journal }) user s ≡ verdict_at limits journal user s
+pub verdict-stands : (limits : Limits) (journal : List Entry) (tables : List (Name × Contents)) (rights : Content) (user : User) (s : Statement) → KeepsJournal limits journal tables rights → verdict (record { tables = tables; rights = rights; limits = limits; moment = length journal }) user s ≡ verdict_at limits journal user s
 verdict-stands limits journal tables rights user s h =
     ap (λ ts. verdict (record { tables = ts; rights = rights; limits = limits; moment = length journal }) user s) h.tables_of
     ∙ verdict-agree (contents journal) limits (length journal) rights (rights_at journal) user s h.agree

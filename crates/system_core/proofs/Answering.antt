@@ -6,14 +6,14 @@ use Rattle.std.proofs.KnownBytes.{Appends-nil, Appends-trans}
 use Rattle.base_core.specs.Streams.{WritesFront, Writes, WritesFrontOf}
 use Rattle.system_core.specs.Texts.{reply_text, lost_text}
 use Rattle.system_core.specs.World.{World}
-use Rattle.system_core.specs.Script.{Answers, AnswersLine, faulty, said, unread, Follows, stepped, gave_up, Tells, TellsRecords}
-use Rattle.system_core.specs.Saying.{Hears, TellsSaid, Advanced, TellsAdvanced, TellsBoth}
+use Rattle.system_core.specs.Script.{Answers, AnswersLine, faulty, said, unread, Follows, stepped, gave_up, TellsReply, TellsRecords}
+use Rattle.system_core.specs.Saying.{ComesTo, TellsSaid, Advanced, TellsAdvanced, TellsBoth}
 use Rattle.export_core.specs.Ticket.{Exporting}
-use Rattle.system_core.specs.declared.event.Reply.{Reply}
-use Rattle.system_core.specs.declared.event.Reply.TheVariants as replies
-use Rattle.system_core.specs.declared.lines.answer.Said.{Said}
-use Rattle.system_core.specs.declared.lines.answer.Said.TheVariants as says
-use Rattle.system_core.proofs.FeedLemmas.{WritesFront-after}
+use Rattle.system_core.specs.declared.machine.event.Reply.{Reply}
+use Rattle.system_core.specs.declared.machine.event.Reply.TheVariants as replies
+use Rattle.system_core.specs.declared.scripts.answer.Said.{Said}
+use Rattle.system_core.specs.declared.scripts.answer.Said.TheVariants as says
+use Rattle.lines_core.proofs.FeedLemmas.{WritesFront-after}
 
 -- ---- what is written
 module _ (P Q : List ℕ → Type 0) (before after : Option (List ℕ)) where
@@ -89,7 +89,7 @@ some_records (replies.Finished number) = ([], refl)
 some_records (replies.Abandoned number) = ([], refl)
 
 -- the text of a reply and its records
-pub both-tells : (reply : Reply) (text : List ℕ) → Both (λ t. t ≡ reply_text reply) (TellsRecords reply) text → Tells reply text
+pub both-tells : (reply : Reply) (text : List ℕ) → Both (λ t. t ≡ reply_text reply) (TellsRecords reply) text → TellsReply reply text
 both-tells reply text b = inl (b.1, b.3, b.4 ∙ ap (λ t. t ++ b.1) b.2)
 
 -- records up to one, and those behind it
@@ -111,7 +111,7 @@ records-broken xs n front unwritten before after at wrote = record {
 }
 
 -- ---- what it answers
-pub said-answers : (old new : World) (line : List ℕ) (what : Said) (text : List ℕ) → Hears old line what new → TellsSaid what text → AnswersLine old line text new
+pub said-answers : (old new : World) (line : List ℕ) (what : Said) (text : List ℕ) → ComesTo old line what new → TellsSaid what text → AnswersLine old line text new
 said-answers old new line (says.Fault code offset) text (h, same) (inl e) = subst (λ w. AnswersLine old line text w) (sym same) (subst (λ t. AnswersLine old line t old) (sym e) (faulty h))
 said-answers old new line (says.Fault code offset) text (h, same) (inr e) = subst (λ w. AnswersLine old line text w) (sym same) (subst (λ t. AnswersLine old line t old) (sym e) unread)
 said-answers old new line says.Unread text same e = subst (λ w. AnswersLine old line text w) (sym same) (subst (λ t. AnswersLine old line t old) (sym e) unread)
@@ -127,7 +127,7 @@ tells-some None = ([], refl)
 tells-some (Some reply) = (lost_text, inr refl)
 
 -- **what is written of both answers the line**
-pub both-answer : (old mid new : World) (line : List ℕ) (what : Said) (advanced : Option Reply) → Hears old line what mid → Advanced mid advanced new → (text : List ℕ) → TellsBoth what advanced text → Answers old line text new
+pub both-answer : (old mid new : World) (line : List ℕ) (what : Said) (advanced : Option Reply) → ComesTo old line what mid → Advanced mid advanced new → (text : List ℕ) → TellsBoth what advanced text → Answers old line text new
 both-answer old mid new line what advanced hears goes text b = record {
   first = b.0;
   mid = mid;

@@ -7,13 +7,13 @@ use Rattle.base_core.specs.declared.lack.Lack.TheVariants as lacks
 use Rattle.base_core.specs.declared.lack.What.TheVariants as whats
 use Rattle.reader_core.specs.declared.statement.Statement.TheVariants as statements
 use Rattle.monitor_core.specs.Verdict.{Check, require, first_lack}
-use Rattle.capture_core.specs.Capturing.{Active as Capture, Capturing, begin_lack}
+use Rattle.capture_core.specs.Capturing.{ActiveCapture as Capture, Capturing, begin_lack}
 use Rattle.capture_core.specs.declared.image.Image.{Image}
-use Rattle.system_core.specs.declared.event.Reply.TheVariants as replies
+use Rattle.system_core.specs.declared.machine.event.Reply.TheVariants as replies
 use Rattle.system_core.specs.World.{World, entry, moment_of}
 use Rattle.system_core.specs.Judging.{checkpoint_checks}
-use Rattle.system_core.specs.Step.{turned_away, Answers, begun_now}
-use Rattle.system_core.specs.Standing.{Accepted, shown, world_of}
+use Rattle.system_core.specs.Step.{lack_reply, Responds, with_begun}
+use Rattle.system_core.specs.Standing.{Accepted, as_active, world_of}
 
 -- a lack, or none, as a check
 abbrev of_lack : Option Lack → Check
@@ -27,7 +27,7 @@ le-not_lt n m = ⊎_elim
     (cases_lt n m)
 
 by_active : (o : Option Capture) (lt le : Bool) → le ≡ not lt
-    → first_lack (require (not (is_some (option_map shown o))) lacks.Busy ∷ require lt (lacks.Full whats.Checkpoints) ∷ []) ≡ of_lack (cond (is_some o) (Some lacks.Busy) (cond le (Some (lacks.Full whats.Checkpoints)) None))
+    → first_lack (require (not (is_some (option_map as_active o))) lacks.Busy ∷ require lt (lacks.Full whats.Checkpoints) ∷ []) ≡ of_lack (cond (is_some o) (Some lacks.Busy) (cond le (Some (lacks.Full whats.Checkpoints)) None))
 by_active None true true e = cc
 by_active None true false e = refl
 by_active None false true e = refl
@@ -47,16 +47,16 @@ module _ (chunk : ℕ) (accepted : Accepted) (c : Capturing) (images : List Imag
   -- it was refused, or found no memory
   pub begin-refused : (result : Result ℕ Lack) (k : Lack) → result ≡ Err k → IfSome (begin_lack c accepted.limits.checkpoints) (λ lack. result ≡ Err lack)
       → (IsNone (begin_lack c accepted.limits.checkpoints) → IfErr result (λ lack. lack ≡ lacks.NoMemory))
-      → (pass : ℕ) (user : User) → Answers (world_of chunk accepted c images) (entry pass user statements.Checkpoint) (first_lack (checkpoint_checks (world_of chunk accepted c images) user statements.Checkpoint)) (turned_away (moment_of (world_of chunk accepted c images)) k) (world_of chunk accepted c images)
+      → (pass : ℕ) (user : User) → Responds (world_of chunk accepted c images) (entry pass user statements.Checkpoint) (first_lack (checkpoint_checks (world_of chunk accepted c images) user statements.Checkpoint)) (lack_reply (moment_of (world_of chunk accepted c images)) k) (world_of chunk accepted c images)
   begin-refused result k is lack memory pass user =
-      let A : Check → Type 0 = λ check. Answers (world_of chunk accepted c images) (entry pass user statements.Checkpoint) check (turned_away (moment_of (world_of chunk accepted c images)) k) (world_of chunk accepted c images) in
+      let A : Check → Type 0 = λ check. Responds (world_of chunk accepted c images) (entry pass user statements.Checkpoint) check (lack_reply (moment_of (world_of chunk accepted c images)) k) (world_of chunk accepted c images) in
       subst A (sym (checked user)) (by (begin_lack c accepted.limits.checkpoints) lack memory)
     where
-      by : (o : Option Lack) → IfSome o (λ l. result ≡ Err l) → (IsNone o → IfErr result (λ l. l ≡ lacks.NoMemory)) → Answers (world_of chunk accepted c images) (entry pass user statements.Checkpoint) (of_lack o) (turned_away (moment_of (world_of chunk accepted c images)) k) (world_of chunk accepted c images)
-      by (Some l) said m = (ap (turned_away (moment_of (world_of chunk accepted c images))) (same_lack k l result is said), refl)
+      by : (o : Option Lack) → IfSome o (λ l. result ≡ Err l) → (IsNone o → IfErr result (λ l. l ≡ lacks.NoMemory)) → Responds (world_of chunk accepted c images) (entry pass user statements.Checkpoint) (of_lack o) (lack_reply (moment_of (world_of chunk accepted c images)) k) (world_of chunk accepted c images)
+      by (Some l) said m = (ap (lack_reply (moment_of (world_of chunk accepted c images))) (same_lack k l result is said), refl)
       by None said m =
           let none : k ≡ lacks.NoMemory = subst (λ (r : Result ℕ Lack). IfErr r (λ l. l ≡ lacks.NoMemory)) is (m refl) in
-          let P : Lack → Type 0 = λ l. Answers (world_of chunk accepted c images) (entry pass user statements.Checkpoint) (Ok tt) (turned_away (moment_of (world_of chunk accepted c images)) l) (world_of chunk accepted c images) in
+          let P : Lack → Type 0 = λ l. Responds (world_of chunk accepted c images) (entry pass user statements.Checkpoint) (Ok tt) (lack_reply (moment_of (world_of chunk accepted c images)) l) (world_of chunk accepted c images) in
           subst P (sym none) (refl, refl, refl)
 
   -- it was begun: none was active, and there was room
@@ -68,12 +68,12 @@ module _ (chunk : ℕ) (accepted : Accepted) (c : Capturing) (images : List Imag
       by (Some l) said = cc
 
   pub begin-answered : (number : ℕ) → begin_lack c accepted.limits.checkpoints ≡ None → number ≡ c.begun + 1
-      → (pass : ℕ) (user : User) → Answers (world_of chunk accepted c images) (entry pass user statements.Checkpoint) (first_lack (checkpoint_checks (world_of chunk accepted c images) user statements.Checkpoint)) (replies.Begun number (moment_of (world_of chunk accepted c images))) (begun_now (world_of chunk accepted c images))
+      → (pass : ℕ) (user : User) → Responds (world_of chunk accepted c images) (entry pass user statements.Checkpoint) (first_lack (checkpoint_checks (world_of chunk accepted c images) user statements.Checkpoint)) (replies.Begun number (moment_of (world_of chunk accepted c images))) (with_begun (world_of chunk accepted c images))
   begin-answered number free is pass user =
-      let A : Check → Type 0 = λ check. Answers (world_of chunk accepted c images) (entry pass user statements.Checkpoint) check (replies.Begun number (moment_of (world_of chunk accepted c images))) (begun_now (world_of chunk accepted c images)) in
+      let A : Check → Type 0 = λ check. Responds (world_of chunk accepted c images) (entry pass user statements.Checkpoint) check (replies.Begun number (moment_of (world_of chunk accepted c images))) (with_begun (world_of chunk accepted c images)) in
       subst A (sym (checked user ∙ ap of_lack free)) (passed is)
     where
-      passed : number ≡ c.begun + 1 → Answers (world_of chunk accepted c images) (entry pass user statements.Checkpoint) (of_lack None) (replies.Begun number (moment_of (world_of chunk accepted c images))) (begun_now (world_of chunk accepted c images))
+      passed : number ≡ c.begun + 1 → Responds (world_of chunk accepted c images) (entry pass user statements.Checkpoint) (of_lack None) (replies.Begun number (moment_of (world_of chunk accepted c images))) (with_begun (world_of chunk accepted c images))
       passed e = (refl, e, refl, refl)
 
 -- none is active

@@ -9,7 +9,7 @@ use Rattle.base_core.specs.declared.name.Name.{Name}
 use Rattle.base_core.specs.declared.name.User.{User}
 use Rattle.reader_core.specs.declared.statement.Statement.{Statement}
 use Rattle.reader_core.specs.declared.statement.Statement.TheVariants as statements
-use Rattle.tables_core.specs.Contents.{Contents, chooses, updated_row, opened, with_row, deleted, updated, with_change, table_of}
+use Rattle.tables_core.specs.Contents.{Contents, satisfies, updated_row, empty_table, with_row, without_chosen_rows, with_updated_rows, with_change, table_of}
 use Rattle.tables_core.proofs.ContentsLemmas.{with_change-some, with_change-none}
 use Rattle.grants_core.specs.declared.grant.Grant.{Grant}
 use Rattle.grants_core.specs.declared.grant.Ownership.{Ownership}
@@ -43,10 +43,10 @@ total-change tables table by step = found (table_of tables table) refl
         omega (arith, same, set, total tables, total (set_value (same_name table) tables (by t)), step t)
 
 pub row_total-after : (tables : List (Name × Contents)) (user : User) (s : Statement) → row_total (tables_after tables user s) ≤ row_total tables + 1
-row_total-after tables user (statements.CreateTable table columns) = let more = sum_by-append (λ (t : Name × Contents). length t.1.rows) tables ((table, opened user columns) ∷ []) in omega (arith, more)
+row_total-after tables user (statements.CreateTable table columns) = let more = sum_by-append (λ (t : Name × Contents). length t.1.rows) tables ((table, empty_table user columns) ∷ []) in omega (arith, more)
 row_total-after tables user (statements.Insert table values) = total-change tables table (with_row (record { values = values })) (λ t. omega (arith, length-append t.rows ((t.inserted, record { values = values }) ∷ [])))
-row_total-after tables user (statements.Delete table filter) = total-change tables table (deleted filter) (λ t. omega (arith, filter-few (λ numbered. not (chooses t.columns filter numbered)) t.rows))
-row_total-after tables user (statements.Update table sets filter) = total-change tables table (updated sets filter) (λ t. omega (arith, length-map t.rows (updated_row t.columns sets filter)))
+row_total-after tables user (statements.Delete table filter) = total-change tables table (without_chosen_rows filter) (λ t. omega (arith, filter-few (λ numbered. not (satisfies t.columns filter numbered)) t.rows))
+row_total-after tables user (statements.Update table sets filter) = total-change tables table (with_updated_rows sets filter) (λ t. omega (arith, length-map t.rows (updated_row t.columns sets filter)))
 row_total-after tables user (statements.Select list table filter) = omega arith
 row_total-after tables user (statements.Grant privileges table users option) = omega arith
 row_total-after tables user (statements.Revoke privileges table users) = omega arith

@@ -27,9 +27,9 @@ use Rattle.catalogue_core.proofs.RingLemmas.{find-map}
 use Rattle.export_core.specs.declared.judgement.Judgement.{Judgement}
 use Rattle.export_core.specs.declared.judgement.Judgement.TheVariants.{Listed, WithheldThen, WithheldNow}
 use Rattle.export_core.specs.Record.{record_line, row_line}
-use Rattle.export_core.specs.Export.{to_select, held_then, holds_now, judgement, told, chosen, listed, withheld_line, end_line}
+use Rattle.export_core.specs.Export.{to_select, held_then, holds_now, judgement, told, chosen, listed_lines, withheld_line, end_line}
 use Rattle.export_core.specs.Ticket.{issued}
-use Rattle.system_core.specs.declared.event.Entry.{Entry}
+use Rattle.system_core.specs.declared.machine.event.Entry.{Entry}
 use Rattle.system_core.specs.Journal.{contents, rights_at, IsLawful}
 use Rattle.system_core.specs.Exports.{journal_at, may_select, table_lines, table_told, tables_told, export_of}
 use Rattle.system_core.specs.Judging.{export_check}
@@ -95,7 +95,7 @@ rows-same : (rows : List (ℕ × Row)) → map (λ (row : Row). row_line row.val
 rows-same [] = refl
 rows-same (r ∷ rows) = ap (λ l. row_line r.1.values ∷ l) (rows-same rows)
 
-lines-same : (t : Name × Contents) → listed (table_image t) ≡ table_lines t
+lines-same : (t : Name × Contents) → listed_lines (table_image t) ≡ table_lines t
 lines-same t = ap (λ l. record_line (codes "table" ∷ t.0 ∷ map (λ c. c.name) t.1.columns) ∷ l) (rows-same t.1.rows)
 
 chosen-same : (tables : List (Name × Contents)) (only : Option Name) → chosen (map table_image tables) only ≡ map table_image (tables_told tables only)
@@ -128,7 +128,7 @@ module _ (journal : List Entry) (number : ℕ) (point : Moment) (owners : Owners
   then_image = image_at journal number point
 
   held-same : (user : User) (table : Name) → held_then then_image user table ≡ may_select past user table
-  unfolding images.owns
+  unfolding images.owns_in_image
   held-same user table =
       ap (λ b. b || list_any (gives user (to_select table)) (rights_at past).in_force)
       (owns-table_image (contents past) table user ∙ owned-same (rights_at past).owners (contents past) user (to_select table) (owners table))

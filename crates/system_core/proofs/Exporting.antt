@@ -13,13 +13,13 @@ use Rattle.capture_core.specs.Capturing.{Capturing}
 use Rattle.capture_core.specs.declared.image.Image.{Image}
 use Rattle.catalogue_core.specs.Kept.{newest}
 use Rattle.export_core.specs.Ticket.{Exporting}
-use Rattle.system_core.specs.declared.event.Reply.{Reply}
-use Rattle.system_core.specs.declared.event.Reply.TheVariants as replies
+use Rattle.system_core.specs.declared.machine.event.Reply.{Reply}
+use Rattle.system_core.specs.declared.machine.event.Reply.TheVariants as replies
 use Rattle.system_core.specs.Journal.{contents, verdict_at}
 use Rattle.system_core.specs.Exports.{journal_at, export_of}
 use Rattle.system_core.specs.World.{World, entry, moment_of}
 use Rattle.system_core.specs.Judging.{point_of, is_kept, at_point, export_check, checkpoint_checks, moment_for}
-use Rattle.system_core.specs.Step.{turned_away, Answers}
+use Rattle.system_core.specs.Step.{lack_reply, Responds}
 use Rattle.system_core.specs.Standing.{Accepted, world_of}
 use Rattle.system_core.proofs.Judged.{passed-first, failed-first}
 use Rattle.system_core.proofs.Imaging.{point-newest}
@@ -41,11 +41,11 @@ module _ (chunk : ℕ) (accepted : Accepted) (c : Capturing) (images : List Imag
 
   -- answered so, by the point of what is kept
   abbrev By : Option Moment → ℕ → Reply → Type 0
-  By o pass reply = Answers now (entry pass user (statements.Export number only)) (first_lack (is_kept o number ∷ at_point o check_at ∷ [])) reply now
+  By o pass reply = Responds now (entry pass user (statements.Export number only)) (first_lack (is_kept o number ∷ at_point o check_at ∷ [])) reply now
 
   -- what an export comes to
   abbrev pub Comes : ℕ → Reply → Type 0
-  Comes pass reply = Answers now (entry pass user (statements.Export number only)) (first_lack (checkpoint_checks now user (statements.Export number only))) reply now
+  Comes pass reply = Responds now (entry pass user (statements.Export number only)) (first_lack (checkpoint_checks now user (statements.Export number only))) reply now
 
   point-is : (o : Option Image) → newest images number ≡ o → point_of now number ≡ option_map (λ i. i.point) o
   point-is o is = point-newest images number ∙ ap (option_map (λ (i : Image). i.point)) is
@@ -54,22 +54,22 @@ module _ (chunk : ℕ) (accepted : Accepted) (c : Capturing) (images : List Imag
   by_point o pass reply is answer = subst (λ p. By p pass reply) (sym (point-is o is)) answer
 
   -- the checkpoint is not kept
-  pub export-unkept : newest images number ≡ None → (pass : ℕ) → Comes pass (turned_away (moment_of now) (lacks.NoCheckpoint number))
-  export-unkept none pass = by_point None pass (turned_away (moment_of now) (lacks.NoCheckpoint number)) none (refl, refl)
+  pub export-unkept : newest images number ≡ None → (pass : ℕ) → Comes pass (lack_reply (moment_of now) (lacks.NoCheckpoint number))
+  export-unkept none pass = by_point None pass (lack_reply (moment_of now) (lacks.NoCheckpoint number)) none (refl, refl)
 
   -- it may not be exported to the user
-  pub export-denied : (i : Image) (lack : Lack) → newest images number ≡ Some i → check_at i.point ≡ Err lack → (pass : ℕ) → Comes pass (turned_away (moment_for i.point (moment_of now) lack) lack)
+  pub export-denied : (i : Image) (lack : Lack) → newest images number ≡ Some i → check_at i.point ≡ Err lack → (pass : ℕ) → Comes pass (lack_reply (moment_for i.point (moment_of now) lack) lack)
   export-denied i lack found denied pass =
       let failed : first_lack (check_at i.point ∷ []) ≡ Err lack = failed-first (check_at i.point) [] lack denied in
       let point : unwrap_or (point_of now number) (moment_of now) ≡ i.point = ap (λ (o : Option Moment). unwrap_or o (moment_of now)) (point-is (Some i) found) in
-      let A : Check → Type 0 = λ check. Answers now (entry pass user (statements.Export number only)) check (turned_away (moment_for i.point (moment_of now) lack) lack) now in
-      by_point (Some i) pass (turned_away (moment_for i.point (moment_of now) lack) lack) found
-      (subst A (sym failed) (ap (λ p. turned_away (moment_for p (moment_of now) lack) lack) (sym point), refl))
+      let A : Check → Type 0 = λ check. Responds now (entry pass user (statements.Export number only)) check (lack_reply (moment_for i.point (moment_of now) lack) lack) now in
+      by_point (Some i) pass (lack_reply (moment_for i.point (moment_of now) lack) lack) found
+      (subst A (sym failed) (ap (λ p. lack_reply (moment_for p (moment_of now) lack) lack) (sym point), refl))
 
   -- it is allowed
-  allowed : (i : Image) (pass : ℕ) (reply : Reply) → newest images number ≡ Some i → check_at i.point ≡ Ok tt → Answers now (entry pass user (statements.Export number only)) (Ok tt) reply now → Comes pass reply
+  allowed : (i : Image) (pass : ℕ) (reply : Reply) → newest images number ≡ Some i → check_at i.point ≡ Ok tt → Responds now (entry pass user (statements.Export number only)) (Ok tt) reply now → Comes pass reply
   allowed i pass reply found ok answer =
-      by_point (Some i) pass reply found (subst (λ (check : Check). Answers now (entry pass user (statements.Export number only)) check reply now) (sym (passed-first (check_at i.point) [] ok)) answer)
+      by_point (Some i) pass reply found (subst (λ (check : Check). Responds now (entry pass user (statements.Export number only)) check reply now) (sym (passed-first (check_at i.point) [] ok)) answer)
 
   pub export-issued : (i : Image) (ticket : Exporting) → newest images number ≡ Some i → check_at i.point ≡ Ok tt → ticket ≡ export_of accepted.journal number i.point user only → (pass : ℕ) → Comes pass (replies.Export ticket)
   export-issued i ticket found ok made pass =

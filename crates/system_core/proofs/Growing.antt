@@ -19,7 +19,7 @@ use Rattle.grants_core.proofs.SameLemmas.{same_name-true, same_name-refl}
 use Rattle.grants_core.proofs.OwnersLemmas.{was_granted-with_owner, owner_of-with_owner, owner_of-cons, owner_of-marked, valid-owners, singles-all, AllByRecursion-append}
 use Rattle.grants_core.proofs.GrantLemmas.{All-filtered, All-implied}
 use Rattle.grants_core.proofs.HistoryLemmas.{granted_from-append}
-use Rattle.system_core.specs.declared.event.Entry.{Entry}
+use Rattle.system_core.specs.declared.machine.event.Entry.{Entry}
 use Rattle.monitor_core.specs.Verdict.{is_table}
 use Rattle.system_core.specs.Journal.{tables_with, contents, change_of, changes_from, changes}
 use Rattle.system_core.specs.Carrying.{rights_after}

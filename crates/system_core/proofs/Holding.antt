@@ -10,21 +10,20 @@ use Rattle.grants_core.specs.declared.grant.Grant.{Grant}
 use Rattle.grants_core.specs.Content.{Content}
 use Rattle.capture_core.specs.Image.{image, table_image, records, row_total}
 use Rattle.capture_core.specs.declared.progress.Progress.TheVariants.{Left}
-use Rattle.capture_core.specs.Capturing.{Active as Capture, Capturing, Tells, after_begin, taken_off, after_step, after_abandon}
+use Rattle.capture_core.specs.Capturing.{ActiveCapture as Capture, Capturing, TellsProgress, after_begin, taken_off, after_step, after_abandon}
 use Rattle.capture_core.specs.declared.image.Image.{Image}
-use Rattle.catalogue_core.specs.Kept as catalogue
-use Rattle.catalogue_core.specs.Kept.{entry}
-use Rattle.system_core.specs.declared.event.Entry.{Entry}
+use Rattle.catalogue_core.specs.Kept.{last_eight, number_and_point}
+use Rattle.system_core.specs.declared.machine.event.Entry.{Entry}
 use Rattle.system_core.specs.Journal.{contents, rights_at}
 use Rattle.system_core.specs.Exports.{journal_at}
 use Rattle.system_core.specs.World.{records_at, with_active, IsRising, IsSoundActive}
-use Rattle.system_core.specs.Step.{begun_now, with_left, last_eight, finished_now}
-use Rattle.system_core.specs.Standing.{AgreeOn, Accepted, shown, world_of, image_at, IsImageOf, IsComing, Holds}
+use Rattle.system_core.specs.Step.{with_begun, with_left, with_finished}
+use Rattle.system_core.specs.Standing.{AgreeOn, Accepted, as_active, world_of, image_at, IsImageOf, IsComing, KeepsCheckpoints}
 use Rattle.system_core.proofs.Rising.{each-drop, each-front, each-weaker, each-end, rising-drop, rising-front, rising-end}
 use Rattle.system_core.proofs.Imaging.{journal_at-more, image_at-more}
 
 -- ---- nothing yet
-pub holds-opening : (chunk : ℕ) (limits : Limits) → 0 < chunk → chunk ≤ 64 → Holds chunk (record { journal = []; limits = limits }) (record { begun = 0; active = None }) []
+pub holds-opening : (chunk : ℕ) (limits : Limits) → 0 < chunk → chunk ≤ 64 → KeepsCheckpoints chunk (record { journal = []; limits = limits }) (record { begun = 0; active = None }) []
 holds-opening chunk limits some small = record {
   some = some;
   small = small;
@@ -44,13 +43,13 @@ coming-more : (journal : List Entry) (e : Entry) (o : Option Capture) → IsComi
 coming-more journal e None h = tt
 coming-more journal e (Some a) h = image-more journal e a.coming h
 
-active-more : (journal : List Entry) (e : Entry) (begun : ℕ) (o : Option Capture) → IsComing journal o → IsSoundActive journal begun (option_map shown o) → IsSoundActive (journal ++ e ∷ []) begun (option_map shown o)
+active-more : (journal : List Entry) (e : Entry) (begun : ℕ) (o : Option Capture) → IsComing journal o → IsSoundActive journal begun (option_map as_active o) → IsSoundActive (journal ++ e ∷ []) begun (option_map as_active o)
 active-more journal e begun None h s = tt
 active-more journal e begun (Some a) h s =
     let same : records_at (journal ++ e ∷ []) a.coming.point ≡ records_at journal a.coming.point = ap (λ j. records (contents j) (rights_at j)) (journal_at-more journal e a.coming.point h.past) in
     (s.0, s.1, omega (arith, s.2, same))
 
-pub holds-entered : (chunk : ℕ) (accepted : Accepted) (c : Capturing) (images : List Image) (e : Entry) → Holds chunk accepted c images → Holds chunk (record accepted { journal = accepted.journal ++ e ∷ [] }) c images
+pub holds-entered : (chunk : ℕ) (accepted : Accepted) (c : Capturing) (images : List Image) (e : Entry) → KeepsCheckpoints chunk accepted c images → KeepsCheckpoints chunk (record accepted { journal = accepted.journal ++ e ∷ [] }) c images
 holds-entered chunk accepted c images e h =
     let long : length (accepted.journal ++ e ∷ []) ≡ length accepted.journal + 1 = length-append accepted.journal (e ∷ []) in
     record {
@@ -63,7 +62,7 @@ holds-entered chunk accepted c images e h =
         few = h.sound.few;
         rising = h.sound.rising;
         begun = h.sound.begun;
-        past = each-weaker (λ k. k.1.0 ≤ length accepted.journal) (λ k. k.1.0 ≤ length (accepted.journal ++ e ∷ [])) (with_active (map entry images) (option_map shown c.active)) (λ k p. omega (arith, p, long)) h.sound.past;
+        past = each-weaker (λ k. k.1.0 ≤ length accepted.journal) (λ k. k.1.0 ≤ length (accepted.journal ++ e ∷ [])) (with_active (map number_and_point images) (option_map as_active c.active)) (λ k p. omega (arith, p, long)) h.sound.past;
         active = active-more accepted.journal e c.begun c.active h.coming_of h.sound.active;
       };
     }
@@ -90,13 +89,13 @@ module _ (accepted : Accepted) (rights : Content) (agree : AgreeOn (contents acc
   some_left = omega arith
 
   -- the world with one more begun
-  pub begun-world : (chunk : ℕ) (c : Capturing) (images : List Image) → world_of chunk accepted (after_begin now (contents accepted.journal) rights c) images ≡ begun_now (world_of chunk accepted c images)
+  pub begun-world : (chunk : ℕ) (c : Capturing) (images : List Image) → world_of chunk accepted (after_begin now (contents accepted.journal) rights c) images ≡ with_begun (world_of chunk accepted c images)
   begun-world chunk c images = ap (λ n. record (world_of chunk accepted c images) { begun = c.begun + 1; active = Some (record { number = c.begun + 1; point = now; left = n }) }) records-now
 
-  pub holds-begun : (chunk : ℕ) (c : Capturing) (images : List Image) → c.active ≡ None → c.begun < accepted.limits.checkpoints → Holds chunk accepted c images → Holds chunk accepted (after_begin now (contents accepted.journal) rights c) images
+  pub holds-begun : (chunk : ℕ) (c : Capturing) (images : List Image) → c.active ≡ None → c.begun < accepted.limits.checkpoints → KeepsCheckpoints chunk accepted c images → KeepsCheckpoints chunk accepted (after_begin now (contents accepted.journal) rights c) images
   holds-begun chunk c images none room h =
-      let rising = subst (λ (o : Option Capture). IsRising 0 0 (with_active (map entry images) (option_map shown o))) none h.sound.rising in
-      let past = subst (λ (o : Option Capture). AllByRecursion (λ k. k.1.0 ≤ length accepted.journal) (with_active (map entry images) (option_map shown o))) none h.sound.past in
+      let rising = subst (λ (o : Option Capture). IsRising 0 0 (with_active (map number_and_point images) (option_map as_active o))) none h.sound.rising in
+      let past = subst (λ (o : Option Capture). AllByRecursion (λ k. k.1.0 ≤ length accepted.journal) (with_active (map number_and_point images) (option_map as_active o))) none h.sound.past in
       record {
         some = h.some;
         small = h.small;
@@ -105,10 +104,10 @@ module _ (accepted : Accepted) (rights : Content) (agree : AgreeOn (contents acc
         sound = record {
           within = omega (arith, room);
           few = h.sound.few;
-          rising = rising-end 0 0 (map entry images) (c.begun + 1, now) (omega arith) (omega arith)
-              (each-weaker (λ k. k.0 ≤ c.begun) (λ k. k.0 < c.begun + 1) (map entry images) (λ k p. omega (arith, p)) h.sound.begun) past rising;
-          begun = each-weaker (λ k. k.0 ≤ c.begun) (λ k. k.0 ≤ c.begun + 1) (map entry images) (λ k p. omega (arith, p)) h.sound.begun;
-          past = each-end (λ k. k.1.0 ≤ length accepted.journal) (map entry images) (c.begun + 1, now) past (omega arith);
+          rising = rising-end 0 0 (map number_and_point images) (c.begun + 1, now) (omega arith) (omega arith)
+              (each-weaker (λ k. k.0 ≤ c.begun) (λ k. k.0 < c.begun + 1) (map number_and_point images) (λ k p. omega (arith, p)) h.sound.begun) past rising;
+          begun = each-weaker (λ k. k.0 ≤ c.begun) (λ k. k.0 ≤ c.begun + 1) (map number_and_point images) (λ k p. omega (arith, p)) h.sound.begun;
+          past = each-end (λ k. k.1.0 ≤ length accepted.journal) (map number_and_point images) (c.begun + 1, now) past (omega arith);
           active = (refl, some_left, omega (arith, records-now));
         };
       }
@@ -119,15 +118,15 @@ map-drop f zero xs = refl
 map-drop f (suc n) [] = refl
 map-drop f (suc n) (x ∷ xs) = map-drop f n xs
 
-module _ (chunk : ℕ) (accepted : Accepted) (c : Capturing) (images : List Image) (a : Capture) (is : c.active ≡ Some a) (h : Holds chunk accepted c images) where
-  rising : IsRising 0 0 (map entry images ++ (a.coming.number, a.coming.point) ∷ [])
-  rising = subst (λ (o : Option Capture). IsRising 0 0 (with_active (map entry images) (option_map shown o))) is h.sound.rising
+module _ (chunk : ℕ) (accepted : Accepted) (c : Capturing) (images : List Image) (a : Capture) (is : c.active ≡ Some a) (h : KeepsCheckpoints chunk accepted c images) where
+  rising : IsRising 0 0 (map number_and_point images ++ (a.coming.number, a.coming.point) ∷ [])
+  rising = subst (λ (o : Option Capture). IsRising 0 0 (with_active (map number_and_point images) (option_map as_active o))) is h.sound.rising
 
-  past : AllByRecursion (λ k. k.1.0 ≤ length accepted.journal) (map entry images ++ (a.coming.number, a.coming.point) ∷ [])
-  past = subst (λ (o : Option Capture). AllByRecursion (λ k. k.1.0 ≤ length accepted.journal) (with_active (map entry images) (option_map shown o))) is h.sound.past
+  past : AllByRecursion (λ k. k.1.0 ≤ length accepted.journal) (map number_and_point images ++ (a.coming.number, a.coming.point) ∷ [])
+  past = subst (λ (o : Option Capture). AllByRecursion (λ k. k.1.0 ≤ length accepted.journal) (with_active (map number_and_point images) (option_map as_active o))) is h.sound.past
 
-  sound : IsSoundActive accepted.journal c.begun (Some (shown a))
-  sound = subst (λ (o : Option Capture). IsSoundActive accepted.journal c.begun (option_map shown o)) is h.sound.active
+  sound : IsSoundActive accepted.journal c.begun (Some (as_active a))
+  sound = subst (λ (o : Option Capture). IsSoundActive accepted.journal c.begun (option_map as_active o)) is h.sound.active
 
   coming : IsImageOf accepted.journal a.coming
   coming = subst (IsComing accepted.journal) is h.coming_of
@@ -136,11 +135,11 @@ module _ (chunk : ℕ) (accepted : Accepted) (c : Capturing) (images : List Imag
   fewer : (k : ℕ) → k < a.left → (after_step k c).active ≡ Some (record a { left = a.left - k })
   fewer k lt = ap (option_and_then (taken_off k)) is ∙ cond-true (ltb k a.left) _ _ (lt-ltb k a.left lt)
 
-  pub left-world : (k : ℕ) → k < a.left → world_of chunk accepted (after_step k c) images ≡ with_left (world_of chunk accepted c images) (shown a) (a.left - k)
-  left-world k lt = ap (λ (o : Option Capture). record (world_of chunk accepted c images) { active = option_map shown o }) (fewer k lt)
+  pub left-world : (k : ℕ) → k < a.left → world_of chunk accepted (after_step k c) images ≡ with_left (world_of chunk accepted c images) (as_active a) (a.left - k)
+  left-world k lt = ap (λ (o : Option Capture). record (world_of chunk accepted c images) { active = option_map as_active o }) (fewer k lt)
 
-  pub holds-left : (k : ℕ) → k < a.left → Holds chunk accepted (after_step k c) images
-  holds-left k lt = subst (λ (o : Option Capture). Holds chunk accepted (record c { active = o }) images) (sym (fewer k lt)) (record {
+  pub holds-left : (k : ℕ) → k < a.left → KeepsCheckpoints chunk accepted (after_step k c) images
+  holds-left k lt = subst (λ (o : Option Capture). KeepsCheckpoints chunk accepted (record c { active = o }) images) (sym (fewer k lt)) (record {
     some = h.some;
     small = h.small;
     images_of = h.images_of;
@@ -159,40 +158,40 @@ module _ (chunk : ℕ) (accepted : Accepted) (c : Capturing) (images : List Imag
   ended : (k : ℕ) → a.left ≤ k → (after_step k c).active ≡ None
   ended k le = ap (option_and_then (taken_off k)) is ∙ cond-false (ltb k a.left) _ _ (le-ltb k a.left le)
 
-  kept-entries : map entry (catalogue.last_eight (images ++ a.coming ∷ [])) ≡ last_eight (map entry images ++ entry a.coming ∷ [])
+  kept-entries : map number_and_point (last_eight (images ++ a.coming ∷ [])) ≡ last_eight (map number_and_point images ++ number_and_point a.coming ∷ [])
   kept-entries =
-      map-drop entry (length (images ++ a.coming ∷ []) - 8) (images ++ a.coming ∷ [])
-      ∙ (ap (λ n. drop (n - 8) (map entry (images ++ a.coming ∷ []))) (sym (length-map (images ++ a.coming ∷ []) entry))
-      ∙ ap last_eight (map-append entry images (a.coming ∷ [])))
+      map-drop number_and_point (length (images ++ a.coming ∷ []) - 8) (images ++ a.coming ∷ [])
+      ∙ (ap (λ n. drop (n - 8) (map number_and_point (images ++ a.coming ∷ []))) (sym (length-map (images ++ a.coming ∷ []) number_and_point))
+      ∙ ap last_eight (map-append number_and_point images (a.coming ∷ [])))
 
-  pub finished-world : (k : ℕ) → a.left ≤ k → world_of chunk accepted (after_step k c) (catalogue.last_eight (images ++ a.coming ∷ [])) ≡ finished_now (world_of chunk accepted c images) (shown a)
+  pub finished-world : (k : ℕ) → a.left ≤ k → world_of chunk accepted (after_step k c) (last_eight (images ++ a.coming ∷ [])) ≡ with_finished (world_of chunk accepted c images) (as_active a)
   finished-world k le =
-      ap (λ (o : Option Capture). record (world_of chunk accepted c (catalogue.last_eight (images ++ a.coming ∷ []))) { active = option_map shown o }) (ended k le)
+      ap (λ (o : Option Capture). record (world_of chunk accepted c (last_eight (images ++ a.coming ∷ []))) { active = option_map as_active o }) (ended k le)
       ∙ ap (λ cs. record (world_of chunk accepted c images) { finished = cs; active = None }) kept-entries
 
   few : (cs : List (ℕ × Moment)) → length (last_eight cs) ≤ 8
   few cs = omega (arith, length-drop (length cs - 8) cs)
 
-  pub holds-finished : (k : ℕ) → a.left ≤ k → Holds chunk accepted (after_step k c) (catalogue.last_eight (images ++ a.coming ∷ []))
-  holds-finished k le = subst (λ (o : Option Capture). Holds chunk accepted (record c { active = o }) (catalogue.last_eight (images ++ a.coming ∷ []))) (sym (ended k le)) (record {
+  pub holds-finished : (k : ℕ) → a.left ≤ k → KeepsCheckpoints chunk accepted (after_step k c) (last_eight (images ++ a.coming ∷ []))
+  holds-finished k le = subst (λ (o : Option Capture). KeepsCheckpoints chunk accepted (record c { active = o }) (last_eight (images ++ a.coming ∷ []))) (sym (ended k le)) (record {
     some = h.some;
     small = h.small;
     images_of = each-drop (IsImageOf accepted.journal) (length (images ++ a.coming ∷ []) - 8) (images ++ a.coming ∷ []) (each-end (IsImageOf accepted.journal) images a.coming h.images_of coming);
     coming_of = tt;
     sound = record {
       within = h.sound.within;
-      few = subst (λ (cs : List (ℕ × Moment)). length cs ≤ 8) (sym kept-entries) (few (map entry images ++ entry a.coming ∷ []));
-      rising = subst (IsRising 0 0) (sym kept-entries) (rising-drop (length (map entry images ++ entry a.coming ∷ []) - 8) (map entry images ++ entry a.coming ∷ []) rising);
+      few = subst (λ (cs : List (ℕ × Moment)). length cs ≤ 8) (sym kept-entries) (few (map number_and_point images ++ number_and_point a.coming ∷ []));
+      rising = subst (IsRising 0 0) (sym kept-entries) (rising-drop (length (map number_and_point images ++ number_and_point a.coming ∷ []) - 8) (map number_and_point images ++ number_and_point a.coming ∷ []) rising);
       begun = subst (AllByRecursion (λ (k : ℕ × Moment). k.0 ≤ c.begun)) (sym kept-entries)
-          (each-drop (λ k. k.0 ≤ c.begun) (length (map entry images ++ entry a.coming ∷ []) - 8) (map entry images ++ entry a.coming ∷ []) (each-end (λ k. k.0 ≤ c.begun) (map entry images) (entry a.coming) h.sound.begun (omega (arith, sound.0))));
+          (each-drop (λ k. k.0 ≤ c.begun) (length (map number_and_point images ++ number_and_point a.coming ∷ []) - 8) (map number_and_point images ++ number_and_point a.coming ∷ []) (each-end (λ k. k.0 ≤ c.begun) (map number_and_point images) (number_and_point a.coming) h.sound.begun (omega (arith, sound.0))));
       past = subst (AllByRecursion (λ (k : ℕ × Moment). k.1.0 ≤ length accepted.journal)) (sym kept-entries)
-          (each-drop (λ k. k.1.0 ≤ length accepted.journal) (length (map entry images ++ entry a.coming ∷ []) - 8) (map entry images ++ entry a.coming ∷ []) past);
+          (each-drop (λ k. k.1.0 ≤ length accepted.journal) (length (map number_and_point images ++ number_and_point a.coming ∷ []) - 8) (map number_and_point images ++ number_and_point a.coming ∷ []) past);
       active = tt;
     };
   })
 
   -- it is given up
-  pub holds-given_up : Holds chunk accepted (after_abandon c) images
+  pub holds-given_up : KeepsCheckpoints chunk accepted (after_abandon c) images
   holds-given_up = record {
     some = h.some;
     small = h.small;
@@ -201,18 +200,18 @@ module _ (chunk : ℕ) (accepted : Accepted) (c : Capturing) (images : List Imag
     sound = record {
       within = h.sound.within;
       few = h.sound.few;
-      rising = rising-front 0 0 (map entry images) ((a.coming.number, a.coming.point) ∷ []) rising;
+      rising = rising-front 0 0 (map number_and_point images) ((a.coming.number, a.coming.point) ∷ []) rising;
       begun = h.sound.begun;
-      past = each-front (λ k. k.1.0 ≤ length accepted.journal) (map entry images) ((a.coming.number, a.coming.point) ∷ []) past;
+      past = each-front (λ k. k.1.0 ≤ length accepted.journal) (map number_and_point images) ((a.coming.number, a.coming.point) ∷ []) past;
       active = tt;
     };
   }
 
 -- **after a step of k**
-pub holds-stepped : (chunk k : ℕ) (accepted : Accepted) (c : Capturing) (images : List Image) (n : ℕ) → Tells k c.active (Left n) → Holds chunk accepted c images → Holds chunk accepted (after_step k c) images
+pub holds-stepped : (chunk k : ℕ) (accepted : Accepted) (c : Capturing) (images : List Image) (n : ℕ) → TellsProgress k c.active (Left n) → KeepsCheckpoints chunk accepted c images → KeepsCheckpoints chunk accepted (after_step k c) images
 holds-stepped chunk k accepted c images n tells h = by c.active refl tells
   where
-    by : (o : Option Capture) → c.active ≡ o → Tells k o (Left n) → Holds chunk accepted (after_step k c) images
+    by : (o : Option Capture) → c.active ≡ o → TellsProgress k o (Left n) → KeepsCheckpoints chunk accepted (after_step k c) images
     by None is t = absurd t
     by (Some a) is t = holds-left chunk accepted c images a is h k t.0
 
@@ -221,19 +220,19 @@ abbrev pub IsDone : ℕ → Option Capture → Image → Type 0
 IsDone k None i = ⊥
 IsDone k (Some a) i = (a.left ≤ k) × (i ≡ a.coming)
 
-pub holds-done : (chunk k : ℕ) (accepted : Accepted) (c : Capturing) (images : List Image) (i : Image) → IsDone k c.active i → Holds chunk accepted c images → Holds chunk accepted (after_step k c) (catalogue.last_eight (images ++ i ∷ []))
+pub holds-done : (chunk k : ℕ) (accepted : Accepted) (c : Capturing) (images : List Image) (i : Image) → IsDone k c.active i → KeepsCheckpoints chunk accepted c images → KeepsCheckpoints chunk accepted (after_step k c) (last_eight (images ++ i ∷ []))
 holds-done chunk k accepted c images i done h = by c.active refl done
   where
-    by : (o : Option Capture) → c.active ≡ o → IsDone k o i → Holds chunk accepted (after_step k c) (catalogue.last_eight (images ++ i ∷ []))
+    by : (o : Option Capture) → c.active ≡ o → IsDone k o i → KeepsCheckpoints chunk accepted (after_step k c) (last_eight (images ++ i ∷ []))
     by None is t = absurd t
-    by (Some a) is t = subst (λ (j : Image). Holds chunk accepted (after_step k c) (catalogue.last_eight (images ++ j ∷ []))) (sym t.1) (holds-finished chunk accepted c images a is h k t.0)
+    by (Some a) is t = subst (λ (j : Image). KeepsCheckpoints chunk accepted (after_step k c) (last_eight (images ++ j ∷ []))) (sym t.1) (holds-finished chunk accepted c images a is h k t.0)
 
 -- **after it was given up, if one was active**
-pub holds-abandoned : (chunk : ℕ) (accepted : Accepted) (c : Capturing) (images : List Image) → Holds chunk accepted c images → Holds chunk accepted (after_abandon c) images
+pub holds-abandoned : (chunk : ℕ) (accepted : Accepted) (c : Capturing) (images : List Image) → KeepsCheckpoints chunk accepted c images → KeepsCheckpoints chunk accepted (after_abandon c) images
 holds-abandoned chunk accepted c images h = by c.active refl
   where
-    by : (o : Option Capture) → c.active ≡ o → Holds chunk accepted (after_abandon c) images
-    by None is = subst (λ (o : Option Capture). Holds chunk accepted (record c { active = o }) images) is h
+    by : (o : Option Capture) → c.active ≡ o → KeepsCheckpoints chunk accepted (after_abandon c) images
+    by None is = subst (λ (o : Option Capture). KeepsCheckpoints chunk accepted (record c { active = o }) images) is h
     by (Some a) is = holds-given_up chunk accepted c images a is h
 
 -- what holds after either result holds

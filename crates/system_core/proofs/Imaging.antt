@@ -10,15 +10,15 @@ use Rattle.base_core.specs.declared.name.User.{User}
 use Rattle.base_core.specs.declared.value.Moment.{Moment}
 use Rattle.reader_core.specs.declared.statement.Statement.{Statement}
 use Rattle.reader_core.specs.declared.statement.Statement.TheVariants as statements
-use Rattle.tables_core.specs.Contents.{Contents, opened, with_row, deleted, updated, with_change, table_of}
+use Rattle.tables_core.specs.Contents.{Contents, empty_table, with_row, without_chosen_rows, with_updated_rows, with_change, table_of}
 use Rattle.tables_core.proofs.ContentsLemmas.{table_of-with_change}
 use Rattle.grants_core.proofs.SameLemmas.{same_name-refl}
 use Rattle.monitor_core.specs.Verdict.{is_table}
 use Rattle.capture_core.specs.Image.{image}
 use Rattle.capture_core.specs.declared.image.Image.{Image}
-use Rattle.catalogue_core.specs.Kept.{bears, newest, entry}
+use Rattle.catalogue_core.specs.Kept.{bears, newest, number_and_point}
 use Rattle.catalogue_core.proofs.RingLemmas.{find-map, map-reverse}
-use Rattle.system_core.specs.declared.event.Entry.{Entry}
+use Rattle.system_core.specs.declared.machine.event.Entry.{Entry}
 use Rattle.system_core.specs.Journal.{contents, tables_after, tables_with, rights_at}
 use Rattle.system_core.specs.Exports.{journal_at}
 use Rattle.system_core.specs.Standing.{image_at, IsImageOf}
@@ -42,13 +42,13 @@ each-reverse P [] h = tt
 each-reverse P (x ∷ xs) h = subst (AllByRecursion P) (sym (reverse-append (x ∷ []) xs)) (each-end P (reverse xs) x (each-reverse P xs h.1) h.0)
 
 -- the point of the kept checkpoint of a number is that of the newest image of the number
-pub point-newest : (images : List Image) (number : ℕ) → option_map (λ c. c.1) (find (λ c. c.0 == number) (reverse (map entry images))) ≡ option_map (λ i. i.point) (newest images number)
+pub point-newest : (images : List Image) (number : ℕ) → option_map (λ c. c.1) (find (λ c. c.0 == number) (reverse (map number_and_point images))) ≡ option_map (λ i. i.point) (newest images number)
 point-newest images number =
-    ap (λ (cs : List (ℕ × Moment)). option_map (λ c. c.1) (find (λ c. c.0 == number) cs)) (sym (map-reverse entry images))
-    ∙ ap (option_map (λ (c : ℕ × Moment). c.1)) (sym (find-map entry (λ c. c.0 == number) (reverse images)))
+    ap (λ (cs : List (ℕ × Moment)). option_map (λ c. c.1) (find (λ c. c.0 == number) cs)) (sym (map-reverse number_and_point images))
+    ∙ ap (option_map (λ (c : ℕ × Moment). c.1)) (sym (find-map number_and_point (λ c. c.0 == number) (reverse images)))
     ∙ twice (find (bears number) (reverse images))
   where
-    twice : (o : Option Image) → option_map (λ (c : ℕ × Moment). c.1) (option_map entry o) ≡ option_map (λ (i : Image). i.point) o
+    twice : (o : Option Image) → option_map (λ (c : ℕ × Moment). c.1) (option_map number_and_point o) ≡ option_map (λ (i : Image). i.point) o
     twice None = refl
     twice (Some i) = refl
 
@@ -98,10 +98,10 @@ in_changed tables table change name h = ap is_some (table_of-with_change tables 
     by false o k = k
 
 still : (tables : List (Name × Contents)) (user : User) (s : Statement) (name : Name) → is_table tables name ≡ true → is_table (tables_after tables user s) name ≡ true
-still tables user (statements.CreateTable table columns) name h = in_longer tables ((table, opened user columns) ∷ []) name h
+still tables user (statements.CreateTable table columns) name h = in_longer tables ((table, empty_table user columns) ∷ []) name h
 still tables user (statements.Insert table values) name h = in_changed tables table (with_row (record { values = values })) name h
-still tables user (statements.Delete table filter) name h = in_changed tables table (deleted filter) name h
-still tables user (statements.Update table sets filter) name h = in_changed tables table (updated sets filter) name h
+still tables user (statements.Delete table filter) name h = in_changed tables table (without_chosen_rows filter) name h
+still tables user (statements.Update table sets filter) name h = in_changed tables table (with_updated_rows sets filter) name h
 still tables user (statements.Select list table filter) name h = h
 still tables user (statements.Grant privileges table users option) name h = h
 still tables user (statements.Revoke privileges table users) name h = h

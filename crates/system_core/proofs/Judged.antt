@@ -11,7 +11,7 @@ use Rattle.reader_core.specs.declared.statement.Statement.{Statement}
 use Rattle.reader_core.specs.declared.statement.Statement.TheVariants as statements
 use Rattle.monitor_core.specs.Verdict.{Check, require, first_lack, is_table, is_change, checks}
 use Rattle.monitor_core.proofs.Lacking.{Sound, sound, sound-require, sound-first}
-use Rattle.system_core.specs.declared.event.Entry.{Entry}
+use Rattle.system_core.specs.declared.machine.event.Entry.{Entry}
 use Rattle.system_core.specs.Journal.{contents, state_of, verdict_at}
 use Rattle.system_core.specs.Exports.{journal_at}
 use Rattle.system_core.specs.World.{World, moment_of}

@@ -28,11 +28,11 @@ use Rattle.grants_core.proofs.OwnersLemmas.{was_granted-with_owner, owner_of-wit
 use Rattle.grants_core.proofs.GrantLemmas.{All-filtered, All-implied, All-valid}
 use Rattle.grants_core.proofs.HistoryLemmas.{content-create, content-grant, content-revoke, content-other, unstruck-early}
 use Rattle.capture_core.specs.Image.{row_total}
-use Rattle.system_core.specs.declared.event.Entry.{Entry}
-use Rattle.monitor_core.specs.Verdict.{State, checks, verdict, table_stands, room_for_change, may_grant, is_table, columns_of, atoms_at, is_change}
+use Rattle.system_core.specs.declared.machine.event.Entry.{Entry}
+use Rattle.monitor_core.specs.Verdict.{State, checks, verdict, table_stands, room_for_change, holds_grant_option, is_table, columns_of, atoms_at, is_change}
 use Rattle.system_core.specs.Journal.{contents, tables_with, tables_after, change_of, changes, rights_at, state_of, verdict_at, IsLawfulFrom}
-use Rattle.system_core.specs.Carrying.{CanCarry, IsNarrow, Leaves, rights_after, most_grants}
-use Rattle.system_core.specs.Standing.{Stands, AgreeOn, inserted_of}
+use Rattle.system_core.specs.Carrying.{CanCarry, HasFewColumns, MayLeave, rights_after, most_grants}
+use Rattle.system_core.specs.Standing.{KeepsJournal, AgreeOn, inserted_of}
 use Rattle.monitor_core.proofs.Passing.{require-Ok, passed, not-some, some_is, each-Ok}
 use Rattle.system_core.proofs.TableLemmas.{IsNew, is_table-after, is_table-old, narrow-after, inserted-after}
 use Rattle.system_core.proofs.Counting.{row_total-after}
@@ -81,8 +81,8 @@ may : (at : State) (user : User) (privileges : List Privilege) (table : Name) (u
     → All (λ atom. rights_of.may_grant at.rights.owners at.rights.in_force user atom ≡ true) (atoms_at at.tables table privileges)
 may at user privileges table users option ok =
     let May : Atom → Type 0 = λ atom. rights_of.may_grant at.rights.owners at.rights.in_force user atom ≡ true in
-    let each_passed = each-Ok (may_grant at user) (atoms_at at.tables table privileges) (passed (checks at user (statements.Grant privileges table users option)) ok).1.1.0 in
-    All-from_recursion May (atoms_at at.tables table privileges) (All-atoms (λ atom. may_grant at user atom ≡ Ok tt) May (atoms_at at.tables table privileges) (λ a h. require-Ok _ _ h) each_passed)
+    let each_passed = each-Ok (holds_grant_option at user) (atoms_at at.tables table privileges) (passed (checks at user (statements.Grant privileges table users option)) ok).1.1.0 in
+    All-from_recursion May (atoms_at at.tables table privileges) (All-atoms (λ atom. holds_grant_option at user atom ≡ Ok tt) May (atoms_at at.tables table privileges) (λ a h. require-Ok _ _ h) each_passed)
 
 -- what is in force was granted, and earlier than now
 in_force_on : (tables : List (Name × Contents)) (cs : List Change) → On tables (granted cs) → On tables (in_force_after cs)
@@ -96,7 +96,7 @@ early journal =
     (All-implied (λ g. g.moment.0 < 1 + length cs) (λ g. g.moment.0 < length journal + 1) (in_force_after cs) (λ g lt. omega (arith, lt, length-changes journal))
     (All-valid (λ g. g.moment.0 < 1 + length cs) (owners_after cs) (unstruck_after cs) (unstruck-early cs)))
 
-module _ (limits : Limits) (journal : List Entry) (tables : List (Name × Contents)) (rights : Content) (h : Stands limits journal tables rights) where
+module _ (limits : Limits) (journal : List Entry) (tables : List (Name × Contents)) (rights : Content) (h : KeepsJournal limits journal tables rights) where
   can : (user : User) (s : Statement) → is_change s ≡ true → verdict_at limits journal user s ≡ Ok tt → CanCarry (contents journal) rights (length journal) user s
   can user (statements.CreateTable table columns) change ok =
       let none : table_of (contents journal) table ≡ None = new (state_of limits journal) user (statements.CreateTable table columns) ok in
@@ -202,11 +202,11 @@ rights-more limits journal user statements.Checkpoint on ok = content-other (cha
 rights-more limits journal user statements.Checkpoints on ok = content-other (changes journal)
 rights-more limits journal user (statements.Export number only) on ok = content-other (changes journal)
 
-module _ (limits : Limits) (journal : List Entry) (tables : List (Name × Contents)) (rights : Content) (h : Stands limits journal tables rights) where
+module _ (limits : Limits) (journal : List Entry) (tables : List (Name × Contents)) (rights : Content) (h : KeepsJournal limits journal tables rights) where
   -- the system stands with the change entered
   pub Stands-more : (new_tables : List (Name × Contents)) (new_rights : Content) (e : Entry) → verdict_at limits journal e.user e.statement ≡ Ok tt → is_change e.statement ≡ true
-      → new_tables ≡ tables_after tables e.user e.statement → new_rights ≡ rights_after rights (length journal) (change_of tables e.user e.statement) → IsNarrow e.statement → new_rights.made ≤ rights.made + most_grants
-      → Stands limits (journal ++ e ∷ []) new_tables new_rights
+      → new_tables ≡ tables_after tables e.user e.statement → new_rights ≡ rights_after rights (length journal) (change_of tables e.user e.statement) → HasFewColumns e.statement → new_rights.made ≤ rights.made + most_grants
+      → KeepsJournal limits (journal ++ e ∷ []) new_tables new_rights
   Stands-more new_tables new_rights e ok change tables_is rights_is narrow few =
       let at : State = state_of limits journal in
       let ts : List (Name × Contents) = contents journal in
@@ -257,7 +257,7 @@ module _ (limits : Limits) (journal : List Entry) (tables : List (Name × Conten
   }
 
   -- what a change that found no memory may leave of the rights agrees as before
-  leaves : (user : User) (s : Statement) (new_rights : Content) → verdict_at limits journal user s ≡ Ok tt → Leaves rights (change_of (contents journal) user s) new_rights → AgreeOn (contents journal) new_rights (rights_at journal)
+  leaves : (user : User) (s : Statement) (new_rights : Content) → verdict_at limits journal user s ≡ Ok tt → MayLeave rights (change_of (contents journal) user s) new_rights → AgreeOn (contents journal) new_rights (rights_at journal)
   leaves user (statements.CreateTable table columns) new_rights ok left =
       let P : Content → Type 0 = λ c. AgreeOn (contents journal) c (rights_at journal) in
       let none : is_table (contents journal) table ≡ false = ap is_some (new (state_of limits journal) user (statements.CreateTable table columns) ok) in
@@ -276,7 +276,7 @@ module _ (limits : Limits) (journal : List Entry) (tables : List (Name × Conten
   leaves user (statements.Export number only) new_rights ok left = as_before new_rights left
 
   -- **after want of memory the system stands with the same journal**
-  pub Stands-left : (new_tables : List (Name × Contents)) (new_rights : Content) (e : Entry) → verdict_at limits journal e.user e.statement ≡ Ok tt → new_tables ≡ tables → Leaves rights (change_of tables e.user e.statement) new_rights → Stands limits journal new_tables new_rights
+  pub Stands-left : (new_tables : List (Name × Contents)) (new_rights : Content) (e : Entry) → verdict_at limits journal e.user e.statement ≡ Ok tt → new_tables ≡ tables → MayLeave rights (change_of tables e.user e.statement) new_rights → KeepsJournal limits journal new_tables new_rights
   Stands-left new_tables new_rights e ok same left =
-      let P : List (Name × Contents) → Type 0 = λ ts. Leaves rights (change_of ts e.user e.statement) new_rights in
+      let P : List (Name × Contents) → Type 0 = λ ts. MayLeave rights (change_of ts e.user e.statement) new_rights in
       record { sound = h.sound; tables_of = same ∙ h.tables_of; agree = leaves e.user e.statement new_rights ok (subst P h.tables_of left) }

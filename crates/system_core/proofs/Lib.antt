@@ -12,10 +12,6 @@ pub mod Beginning
 pub mod Exported
 pub mod Exporting
 pub mod Replaying
-pub mod LineLemmas
-pub mod AnswerLemmas
-pub mod FeedLemmas
-pub mod ServeLemmas
 mod Running
 pub mod Refusals
 pub mod Pushing

@@ -10,7 +10,7 @@ use Rattle.base_core.specs.declared.value.Moment.{Moment}
 use Rattle.base_core.specs.declared.limits.Limits.{Limits}
 use Rattle.reader_core.specs.declared.statement.Statement.{Statement}
 use Rattle.reader_core.specs.declared.statement.Statement.TheVariants as statements
-use Rattle.tables_core.specs.Contents.{Contents, opened, with_row, deleted, updated, table_of}
+use Rattle.tables_core.specs.Contents.{Contents, empty_table, with_row, without_chosen_rows, with_updated_rows, table_of}
 use Rattle.tables_core.proofs.ContentsLemmas.{table_of-append}
 use Rattle.grants_core.specs.declared.grant.Ownership.{Ownership}
 use Rattle.grants_core.specs.Owners.{owner_of, with_owner}
@@ -18,7 +18,7 @@ use Rattle.grants_core.specs.History.{owners_with, owners_after}
 use Rattle.grants_core.proofs.SameLemmas.{same_name-true}
 use Rattle.grants_core.proofs.OwnersLemmas.{owner_of-with_owner, owner_of-marked}
 use Rattle.monitor_core.specs.Verdict.{atoms_at}
-use Rattle.system_core.specs.declared.event.Entry.{Entry}
+use Rattle.system_core.specs.declared.machine.event.Entry.{Entry}
 use Rattle.system_core.specs.Journal.{contents, tables_after, change_of, changes, rights_at, state_of, IsLawfulFrom, IsLawful}
 use Rattle.system_core.specs.Exports.{journal_at}
 use Rattle.system_core.proofs.TableLemmas.{IsNew, changed}
@@ -62,10 +62,10 @@ module _ (os : List Ownership) (tables : List (Name × Contents)) (h : OwnersAre
   same_owner change same (Some t) = ap Some (same t)
 
   pub owners-after : (user : User) (s : Statement) → IsNew tables s → OwnersAre (owners_with os (change_of tables user s)) (tables_after tables user s)
-  owners-after user (statements.CreateTable table columns) is_new = created table user (opened user columns) refl is_new
+  owners-after user (statements.CreateTable table columns) is_new = created table user (empty_table user columns) refl is_new
   owners-after user (statements.Insert table values) is_new = λ name. changed (λ o. owner_of os name ≡ option_map (λ t. t.owner) o) tables table (with_row (record { values = values })) name (λ e. e ∙ sym (same_owner _ (λ t. refl) (table_of tables name))) (h name)
-  owners-after user (statements.Delete table filter) is_new = λ name. changed (λ o. owner_of os name ≡ option_map (λ t. t.owner) o) tables table (deleted filter) name (λ e. e ∙ sym (same_owner _ (λ t. refl) (table_of tables name))) (h name)
-  owners-after user (statements.Update table sets filter) is_new = λ name. changed (λ o. owner_of os name ≡ option_map (λ t. t.owner) o) tables table (updated sets filter) name (λ e. e ∙ sym (same_owner _ (λ t. refl) (table_of tables name))) (h name)
+  owners-after user (statements.Delete table filter) is_new = λ name. changed (λ o. owner_of os name ≡ option_map (λ t. t.owner) o) tables table (without_chosen_rows filter) name (λ e. e ∙ sym (same_owner _ (λ t. refl) (table_of tables name))) (h name)
+  owners-after user (statements.Update table sets filter) is_new = λ name. changed (λ o. owner_of os name ≡ option_map (λ t. t.owner) o) tables table (with_updated_rows sets filter) name (λ e. e ∙ sym (same_owner _ (λ t. refl) (table_of tables name))) (h name)
   owners-after user (statements.Grant privileges table users option) is_new = λ name. owner_of-marked (atoms_at tables table privileges) os name ∙ h name
   owners-after user (statements.Revoke privileges table users) is_new = h
   owners-after user (statements.Select list table filter) is_new = h

@@ -11,7 +11,7 @@ use Rattle.tables_core.specs.Contents.{Contents}
 use Rattle.grants_core.specs.declared.grant.Change.{Change}
 use Rattle.grants_core.specs.declared.grant.Change.TheVariants as change
 use Rattle.monitor_core.specs.Atoms.{atoms_of}
-use Rattle.system_core.specs.declared.event.Entry.{Entry}
+use Rattle.system_core.specs.declared.machine.event.Entry.{Entry}
 use Rattle.monitor_core.specs.Verdict.{State, checks, verdict, is_table, columns_of}
 use Rattle.system_core.specs.Journal.{contents, tables_with, change_of, changes, changes_from, state_of, IsLawfulFrom, IsLawful}
 use Rattle.monitor_core.proofs.Passing.{require-Ok, passed}

@@ -1,7 +1,7 @@
 -- A run goes on by one step.
 use Rattle.std.proofs.Common.{List, [], ◌∷◌, ◌++◌, refl, subst}
-use Rattle.system_core.specs.declared.event.Event.{Event}
-use Rattle.system_core.specs.declared.event.Reply.{Reply}
+use Rattle.system_core.specs.declared.machine.event.Event.{Event}
+use Rattle.system_core.specs.declared.machine.event.Reply.{Reply}
 use Rattle.system_core.specs.World.{World}
 use Rattle.system_core.specs.Step.{Step, Run}
 

@@ -8,12 +8,12 @@ use Rattle.base_core.specs.declared.name.User.{User}
 use Rattle.base_core.specs.declared.value.Column.{Column}
 use Rattle.reader_core.specs.declared.statement.Statement.{Statement}
 use Rattle.reader_core.specs.declared.statement.Statement.TheVariants as statements
-use Rattle.tables_core.specs.Contents.{Contents, opened, with_row, deleted, updated, with_change, table_of}
+use Rattle.tables_core.specs.Contents.{Contents, empty_table, with_row, without_chosen_rows, with_updated_rows, with_change, table_of}
 use Rattle.tables_core.proofs.ContentsLemmas.{table_of-with_change, table_of-append}
 use Rattle.grants_core.proofs.SameLemmas.{same_name-true}
 use Rattle.monitor_core.specs.Verdict.{is_table, columns_of}
 use Rattle.system_core.specs.Journal.{tables_after}
-use Rattle.system_core.specs.Carrying.{IsNarrow, most_columns}
+use Rattle.system_core.specs.Carrying.{HasFewColumns, most_columns}
 use Rattle.system_core.specs.Standing.{inserted_of}
 
 -- a creation is of a name that is no table
@@ -38,10 +38,10 @@ stays change None h = h
 stays change (Some t) h = refl
 
 pub is_table-after : (tables : List (Name × Contents)) (user : User) (s : Statement) (name : Name) → IsNew tables s → is_table tables name ≡ true → is_table (tables_after tables user s) name ≡ true
-is_table-after tables user (statements.CreateTable table columns) name new h = created (λ o. is_some o ≡ true) tables table (opened user columns) name new refl h
+is_table-after tables user (statements.CreateTable table columns) name new h = created (λ o. is_some o ≡ true) tables table (empty_table user columns) name new refl h
 is_table-after tables user (statements.Insert table values) name new h = changed (λ o. is_some o ≡ true) tables table (with_row (record { values = values })) name (stays _ (table_of tables name)) h
-is_table-after tables user (statements.Delete table filter) name new h = changed (λ o. is_some o ≡ true) tables table (deleted filter) name (stays _ (table_of tables name)) h
-is_table-after tables user (statements.Update table sets filter) name new h = changed (λ o. is_some o ≡ true) tables table (updated sets filter) name (stays _ (table_of tables name)) h
+is_table-after tables user (statements.Delete table filter) name new h = changed (λ o. is_some o ≡ true) tables table (without_chosen_rows filter) name (stays _ (table_of tables name)) h
+is_table-after tables user (statements.Update table sets filter) name new h = changed (λ o. is_some o ≡ true) tables table (with_updated_rows sets filter) name (stays _ (table_of tables name)) h
 is_table-after tables user (statements.Select list table filter) name new h = h
 is_table-after tables user (statements.Grant privileges table users option) name new h = h
 is_table-after tables user (statements.Revoke privileges table users) name new h = h
@@ -66,10 +66,10 @@ goes change tables table name h =
 -- a table after, but for a new one, was one before
 pub is_table-old : (tables : List (Name × Contents)) (user : User) (s : Statement) (name : Name) → ((table : Name) (columns : List Column) → s ≡ statements.CreateTable table columns → same_name table name ≡ false) → IsNew tables s → is_table (tables_after tables user s) name ≡ true → is_table tables name ≡ true
 is_table-old tables user (statements.CreateTable table columns) name other new h =
-    ap is_some (sym (table_of-append tables table name (opened user columns) new ∙ cond-false (same_name table name) _ _ (other table columns refl))) ∙ h
+    ap is_some (sym (table_of-append tables table name (empty_table user columns) new ∙ cond-false (same_name table name) _ _ (other table columns refl))) ∙ h
 is_table-old tables user (statements.Insert table values) name other new h = goes (with_row (record { values = values })) tables table name h
-is_table-old tables user (statements.Delete table filter) name other new h = goes (deleted filter) tables table name h
-is_table-old tables user (statements.Update table sets filter) name other new h = goes (updated sets filter) tables table name h
+is_table-old tables user (statements.Delete table filter) name other new h = goes (without_chosen_rows filter) tables table name h
+is_table-old tables user (statements.Update table sets filter) name other new h = goes (with_updated_rows sets filter) tables table name h
 is_table-old tables user (statements.Select list table filter) name other new h = h
 is_table-old tables user (statements.Grant privileges table users option) name other new h = h
 is_table-old tables user (statements.Revoke privileges table users) name other new h = h
@@ -87,13 +87,13 @@ same_cols change same (Some t) = same t
 
 pub columns-after : (tables : List (Name × Contents)) (user : User) (s : Statement) (name : Name) → IsNew tables s → is_table tables name ≡ true → columns_of (tables_after tables user s) name ≡ columns_of tables name
 columns-after tables user (statements.CreateTable table columns) name new h =
-    ap cols (table_of-append tables table name (opened user columns) new ∙ cond-false (same_name table name) _ _ (false_from_ne_true _ (λ same.
+    ap cols (table_of-append tables table name (empty_table user columns) new ∙ cond-false (same_name table name) _ _ (false_from_ne_true _ (λ same.
     let P : Name → Type 0 = λ n. is_table tables n ≡ true in
     let gone : is_table tables table ≡ false = ap is_some new in
     both_ways _ gone (subst P (sym (same_name-true table name same)) h))))
 columns-after tables user (statements.Insert table values) name new h = changed (λ o. cols o ≡ columns_of tables name) tables table (with_row (record { values = values })) name (λ e. same_cols _ (λ t. refl) (table_of tables name) ∙ e) refl
-columns-after tables user (statements.Delete table filter) name new h = changed (λ o. cols o ≡ columns_of tables name) tables table (deleted filter) name (λ e. same_cols _ (λ t. refl) (table_of tables name) ∙ e) refl
-columns-after tables user (statements.Update table sets filter) name new h = changed (λ o. cols o ≡ columns_of tables name) tables table (updated sets filter) name (λ e. same_cols _ (λ t. refl) (table_of tables name) ∙ e) refl
+columns-after tables user (statements.Delete table filter) name new h = changed (λ o. cols o ≡ columns_of tables name) tables table (without_chosen_rows filter) name (λ e. same_cols _ (λ t. refl) (table_of tables name) ∙ e) refl
+columns-after tables user (statements.Update table sets filter) name new h = changed (λ o. cols o ≡ columns_of tables name) tables table (with_updated_rows sets filter) name (λ e. same_cols _ (λ t. refl) (table_of tables name) ∙ e) refl
 columns-after tables user (statements.Select list table filter) name new h = refl
 columns-after tables user (statements.Grant privileges table users option) name new h = refl
 columns-after tables user (statements.Revoke privileges table users) name new h = refl
@@ -105,11 +105,11 @@ columns-after tables user (statements.Export number only) name new h = refl
 few_cols : (change : Contents → Contents) → ((t : Contents) → (change t).columns ≡ t.columns) → (o : Option Contents) → length (cols o) ≤ most_columns → length (cols (option_map change o)) ≤ most_columns
 few_cols change same o h = let e = ap length (same_cols change same o) in omega (arith, e, h)
 
-pub narrow-after : (tables : List (Name × Contents)) (user : User) (s : Statement) (name : Name) → IsNew tables s → IsNarrow s → length (columns_of tables name) ≤ most_columns → length (columns_of (tables_after tables user s) name) ≤ most_columns
-narrow-after tables user (statements.CreateTable table columns) name new narrow h = created (λ o. length (cols o) ≤ most_columns) tables table (opened user columns) name new narrow h
+pub narrow-after : (tables : List (Name × Contents)) (user : User) (s : Statement) (name : Name) → IsNew tables s → HasFewColumns s → length (columns_of tables name) ≤ most_columns → length (columns_of (tables_after tables user s) name) ≤ most_columns
+narrow-after tables user (statements.CreateTable table columns) name new narrow h = created (λ o. length (cols o) ≤ most_columns) tables table (empty_table user columns) name new narrow h
 narrow-after tables user (statements.Insert table values) name new narrow h = changed (λ o. length (cols o) ≤ most_columns) tables table (with_row (record { values = values })) name (few_cols _ (λ t. refl) (table_of tables name)) h
-narrow-after tables user (statements.Delete table filter) name new narrow h = changed (λ o. length (cols o) ≤ most_columns) tables table (deleted filter) name (few_cols _ (λ t. refl) (table_of tables name)) h
-narrow-after tables user (statements.Update table sets filter) name new narrow h = changed (λ o. length (cols o) ≤ most_columns) tables table (updated sets filter) name (few_cols _ (λ t. refl) (table_of tables name)) h
+narrow-after tables user (statements.Delete table filter) name new narrow h = changed (λ o. length (cols o) ≤ most_columns) tables table (without_chosen_rows filter) name (few_cols _ (λ t. refl) (table_of tables name)) h
+narrow-after tables user (statements.Update table sets filter) name new narrow h = changed (λ o. length (cols o) ≤ most_columns) tables table (with_updated_rows sets filter) name (few_cols _ (λ t. refl) (table_of tables name)) h
 narrow-after tables user (statements.Select list table filter) name new narrow h = h
 narrow-after tables user (statements.Grant privileges table users option) name new narrow h = h
 narrow-after tables user (statements.Revoke privileges table users) name new narrow h = h
@@ -130,10 +130,10 @@ inserts tables table change name m step h =
     changed (λ o. rows_in o ≤ m + 1) tables table change name (λ k. one_more change (table_of tables name) m step h) (omega (arith, h))
 
 pub inserted-after : (tables : List (Name × Contents)) (user : User) (s : Statement) (m : ℕ) (name : Name) → IsNew tables s → inserted_of tables name ≤ m → inserted_of (tables_after tables user s) name ≤ m + 1
-inserted-after tables user (statements.CreateTable table columns) m name new h = created (λ o. rows_in o ≤ m + 1) tables table (opened user columns) name new (omega arith) (omega (arith, h))
+inserted-after tables user (statements.CreateTable table columns) m name new h = created (λ o. rows_in o ≤ m + 1) tables table (empty_table user columns) name new (omega arith) (omega (arith, h))
 inserted-after tables user (statements.Insert table values) m name new h = inserts tables table (with_row (record { values = values })) name m (λ t. omega arith) h
-inserted-after tables user (statements.Delete table filter) m name new h = inserts tables table (deleted filter) name m (λ t. omega arith) h
-inserted-after tables user (statements.Update table sets filter) m name new h = inserts tables table (updated sets filter) name m (λ t. omega arith) h
+inserted-after tables user (statements.Delete table filter) m name new h = inserts tables table (without_chosen_rows filter) name m (λ t. omega arith) h
+inserted-after tables user (statements.Update table sets filter) m name new h = inserts tables table (with_updated_rows sets filter) name m (λ t. omega arith) h
 inserted-after tables user (statements.Select list table filter) m name new h = omega (arith, h)
 inserted-after tables user (statements.Grant privileges table users option) m name new h = omega (arith, h)
 inserted-after tables user (statements.Revoke privileges table users) m name new h = omega (arith, h)

@@ -6,14 +6,14 @@ use Rattle.base_core.specs.declared.lack.Lack.TheVariants as lacks
 use Rattle.base_core.specs.declared.value.Moment.{Moment}
 use Rattle.monitor_core.specs.Verdict.{Check}
 use Rattle.monitor_core.proofs.Lacking.{Sound}
-use Rattle.system_core.specs.declared.event.Entry.{Entry}
-use Rattle.system_core.specs.declared.event.Event.{Event}
-use Rattle.system_core.specs.declared.event.Event.TheVariants as events
-use Rattle.system_core.specs.declared.event.Reply.{Reply}
-use Rattle.system_core.specs.declared.event.Reply.TheVariants as replies
-use Rattle.system_core.specs.World.{World, Active, entry}
+use Rattle.system_core.specs.declared.machine.event.Entry.{Entry}
+use Rattle.system_core.specs.declared.machine.event.Event.{Event}
+use Rattle.system_core.specs.declared.machine.event.Event.TheVariants as events
+use Rattle.system_core.specs.declared.machine.event.Reply.{Reply}
+use Rattle.system_core.specs.declared.machine.event.Reply.TheVariants as replies
+use Rattle.system_core.specs.World.{World, ActiveCheckpoint, entry}
 use Rattle.system_core.specs.Judging.{verdict_of}
-use Rattle.system_core.specs.Step.{turned_away, CarriesOut, Answers, Advances, GivesUp, Step}
+use Rattle.system_core.specs.Step.{lack_reply, CarriesOut, Responds, Advances, GivesUp, Step}
 use Rattle.system_core.proofs.Judged.{verdict_of-sound}
 
 -- whether a reply says that turns are worn
@@ -21,7 +21,7 @@ abbrev is_worn : Reply → Bool
 is_worn (replies.Refused at lacks.Worn) = true
 is_worn reply = false
 
-turned_away-unworn : (at : Moment) (lack : Lack) → Sound (Err lack) → is_worn (turned_away at lack) ≡ false
+turned_away-unworn : (at : Moment) (lack : Lack) → Sound (Err lack) → is_worn (lack_reply at lack) ≡ false
 turned_away-unworn at (lacks.NoTable t) h = refl
 turned_away-unworn at (lacks.TableExists t) h = refl
 turned_away-unworn at (lacks.NoColumn t c) h = refl
@@ -55,11 +55,11 @@ carried-unworn old new e (replies.Stepped number left) h = refl
 carried-unworn old new e (replies.Finished number) h = refl
 carried-unworn old new e (replies.Abandoned number) h = refl
 
-answered-unworn : (old new : World) (e : Entry) (check : Check) (reply : Reply) → Sound check → Answers old e check reply new → is_worn reply ≡ false
+answered-unworn : (old new : World) (e : Entry) (check : Check) (reply : Reply) → Sound check → Responds old e check reply new → is_worn reply ≡ false
 answered-unworn old new e (Ok u) reply sound h = carried-unworn old new e reply h
 answered-unworn old new e (Err lack) reply sound h = ap is_worn h.0 ∙ turned_away-unworn _ lack sound
 
-advanced-unworn : (old new : World) (active : Option Active) (reply : Reply) → Advances old active reply new → is_worn reply ≡ false
+advanced-unworn : (old new : World) (active : Option ActiveCheckpoint) (reply : Reply) → Advances old active reply new → is_worn reply ≡ false
 advanced-unworn old new None reply h = ap is_worn h.0
 advanced-unworn old new (Some a) (replies.Refused at lack) h = refused-unworn at lack h.0
 advanced-unworn old new (Some a) (replies.Done at) h = refl
@@ -73,7 +73,7 @@ advanced-unworn old new (Some a) (replies.Stepped number left) h = refl
 advanced-unworn old new (Some a) (replies.Finished number) h = refl
 advanced-unworn old new (Some a) (replies.Abandoned number) h = refl
 
-given_up-unworn : (old new : World) (active : Option Active) (reply : Reply) → GivesUp old active reply new → is_worn reply ≡ false
+given_up-unworn : (old new : World) (active : Option ActiveCheckpoint) (reply : Reply) → GivesUp old active reply new → is_worn reply ≡ false
 given_up-unworn old new None reply h = ap is_worn h.0
 given_up-unworn old new (Some a) reply h = ap is_worn h.0
 

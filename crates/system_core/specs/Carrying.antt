@@ -45,13 +45,13 @@ CanCarry tables rights moment user (statements.Revoke privileges table users) = 
 CanCarry tables rights moment user _ = ⊥
 
 -- what a change that found no memory may leave of the rights: a creation may leave an owner of the name
-abbrev pub Leaves : Content → Change → Content → Type 0
-Leaves rights (change.Create table owner) new = (new ≡ rights) ⊎ (new ≡ after_create rights table owner)
-Leaves rights (change.Grant by atoms whom option) new = new ≡ rights
-Leaves rights (change.Revoke by atoms whom) new = new ≡ rights
-Leaves rights change.Other new = new ≡ rights
+abbrev pub MayLeave : Content → Change → Content → Type 0
+MayLeave rights (change.Create table owner) new = (new ≡ rights) ⊎ (new ≡ after_create rights table owner)
+MayLeave rights (change.Grant by atoms whom option) new = new ≡ rights
+MayLeave rights (change.Revoke by atoms whom) new = new ≡ rights
+MayLeave rights change.Other new = new ≡ rights
 
 -- a new table has few columns
-abbrev pub IsNarrow : Statement → Type 0
-IsNarrow (statements.CreateTable table columns) = length columns ≤ most_columns
-IsNarrow _ = Unit {0}
+abbrev pub HasFewColumns : Statement → Type 0
+HasFewColumns (statements.CreateTable table columns) = length columns ≤ most_columns
+HasFewColumns _ = Unit {0}

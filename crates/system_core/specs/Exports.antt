@@ -8,7 +8,7 @@ use Rattle.tables_core.specs.Contents.{Contents}
 use Rattle.export_core.specs.Record.{record_line, row_line}
 use Rattle.export_core.specs.Export.{holds_now, withheld_line, end_line}
 use Rattle.export_core.specs.Ticket.{Exporting}
-use Rattle.system_core.specs.declared.event.Entry.{Entry}
+use Rattle.system_core.specs.declared.machine.event.Entry.{Entry}
 use Rattle.system_core.specs.Journal.{contents, rights_at}
 
 -- the journal as it was at a moment

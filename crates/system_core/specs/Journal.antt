@@ -6,20 +6,20 @@ use Rattle.base_core.specs.declared.name.User.{User}
 use Rattle.base_core.specs.declared.limits.Limits.{Limits}
 use Rattle.reader_core.specs.declared.statement.Statement.{Statement}
 use Rattle.reader_core.specs.declared.statement.Statement.TheVariants as statements
-use Rattle.tables_core.specs.Contents.{Contents, opened, with_row, deleted, updated, with_change}
+use Rattle.tables_core.specs.Contents.{Contents, empty_table, with_row, without_chosen_rows, with_updated_rows, with_change}
 use Rattle.grants_core.specs.declared.grant.Change.{Change}
 use Rattle.grants_core.specs.declared.grant.Change.TheVariants as change
 use Rattle.grants_core.specs.Content.{Content}
 use Rattle.grants_core.specs.History.{content_after}
-use Rattle.system_core.specs.declared.event.Entry.{Entry}
+use Rattle.system_core.specs.declared.machine.event.Entry.{Entry}
 use Rattle.monitor_core.specs.Verdict.{State, Check, verdict, atoms_at, is_change}
 
 -- the tables after a change
 abbrev pub tables_after : List (Name × Contents) → User → Statement → List (Name × Contents)
-tables_after tables user (statements.CreateTable table columns) = tables ++ (table, opened user columns) ∷ []
+tables_after tables user (statements.CreateTable table columns) = tables ++ (table, empty_table user columns) ∷ []
 tables_after tables user (statements.Insert table values) = with_change table (with_row (record { values = values })) tables
-tables_after tables user (statements.Delete table filter) = with_change table (deleted filter) tables
-tables_after tables user (statements.Update table sets filter) = with_change table (updated sets filter) tables
+tables_after tables user (statements.Delete table filter) = with_change table (without_chosen_rows filter) tables
+tables_after tables user (statements.Update table sets filter) = with_change table (with_updated_rows sets filter) tables
 tables_after tables user _ = tables
 
 abbrev pub tables_with : List (Name × Contents) → Entry → List (Name × Contents)

@@ -10,7 +10,7 @@ use Rattle.base_core.specs.declared.lack.What.TheVariants as whats
 use Rattle.reader_core.specs.declared.statement.Statement.{Statement}
 use Rattle.reader_core.specs.declared.statement.Statement.TheVariants as statements
 use Rattle.monitor_core.specs.Verdict.{Check, require, first_lack, is_table}
-use Rattle.system_core.specs.declared.event.Entry.{Entry}
+use Rattle.system_core.specs.declared.machine.event.Entry.{Entry}
 use Rattle.system_core.specs.Journal.{contents, verdict_at}
 use Rattle.system_core.specs.Exports.{journal_at, may_select}
 use Rattle.system_core.specs.World.{World, moment_of}

@@ -5,8 +5,8 @@ pub mod Judging
 pub mod Step
 pub mod Carrying
 pub mod Standing
-pub mod Lines
-pub mod Serving
+pub use Rattle.lines_core.specs.Lines
+pub use Rattle.lines_core.specs.Serving
 pub use Rattle.base_core.specs.Words
 pub use Rattle.base_core.specs.Full
 pub use Rattle.base_core.specs.Users
@@ -20,6 +20,7 @@ pub use Rattle.grants_core.specs.Content
 pub use Rattle.grants_core.specs.History
 pub use Rattle.reader_core.specs.Language
 pub use Rattle.capture_core.specs.Image
+pub use Rattle.catalogue_core.specs.Kept
 pub use Rattle.export_core.specs.Record
 pub use Rattle.export_core.specs.Export
 pub use Rattle.export_core.specs.Ticket

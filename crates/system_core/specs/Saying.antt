@@ -5,23 +5,23 @@ use Rattle.reader_core.specs.declared.statement.Statement.{Statement}
 use Rattle.system_core.specs.Texts.{fault_text, unread_text}
 use Rattle.system_core.specs.World.{World}
 use Rattle.system_core.specs.Step.{Step}
-use Rattle.system_core.specs.Script.{Asks, IsFaulty, Tells, is_refused}
-use Rattle.system_core.specs.declared.event.Event.TheVariants as events
-use Rattle.system_core.specs.declared.event.Reply.{Reply}
-use Rattle.system_core.specs.declared.lines.answer.Said.{Said}
-use Rattle.system_core.specs.declared.lines.answer.Said.TheVariants as says
+use Rattle.system_core.specs.Script.{Asks, IsFaulty, TellsReply, is_refused}
+use Rattle.system_core.specs.declared.machine.event.Event.TheVariants as events
+use Rattle.system_core.specs.declared.machine.event.Reply.{Reply}
+use Rattle.system_core.specs.declared.scripts.answer.Said.{Said}
+use Rattle.system_core.specs.declared.scripts.answer.Said.TheVariants as says
 
 -- what a line comes to
-abbrev pub Hears : World → List ℕ → Said → World → Type 0
-Hears old line (says.Fault code offset) new = IsFaulty line code offset × (new ≡ old)
-Hears old line says.Unread new = new ≡ old
-Hears old line (says.Answer reply) new = (user : User) × (asked : Statement) × Asks line user asked × Step old (events.Say 0 user asked) reply new
+abbrev pub ComesTo : World → List ℕ → Said → World → Type 0
+ComesTo old line (says.Fault code offset) new = IsFaulty line code offset × (new ≡ old)
+ComesTo old line says.Unread new = new ≡ old
+ComesTo old line (says.Answer reply) new = (user : User) × (asked : Statement) × Asks line user asked × Step old (events.Say 0 user asked) reply new
 
 -- what may be written of it
 abbrev pub TellsSaid : Said → List ℕ → Type 0
 TellsSaid (says.Fault code offset) text = (text ≡ fault_text code offset) ⊎ (text ≡ unread_text)
 TellsSaid says.Unread text = text ≡ unread_text
-TellsSaid (says.Answer reply) text = Tells reply text
+TellsSaid (says.Answer reply) text = TellsReply reply text
 
 -- what a step of the checkpointer comes to: nothing to say, or that a checkpoint is given up
 abbrev pub Advanced : World → Option Reply → World → Type 0
@@ -31,7 +31,7 @@ Advanced old (Some reply) new = (refusal : Reply) × (mid : World) × Step old e
 -- what may be written of it
 abbrev pub TellsAdvanced : Option Reply → List ℕ → Type 0
 TellsAdvanced None text = text ≡ []
-TellsAdvanced (Some reply) text = Tells reply text
+TellsAdvanced (Some reply) text = TellsReply reply text
 
 -- what may be written of both
 abbrev pub TellsBoth : Said → Option Reply → List ℕ → Type 0

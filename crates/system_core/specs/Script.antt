@@ -16,14 +16,14 @@ use Rattle.lexer_core.specs.declared.lexer.TheConstants.{MAX_LINE}
 use Rattle.base_core.specs.declared.word.TheConstants.{MAX_NAME}
 use Rattle.reader_core.specs.Language.{Spells, IsReadFault}
 use Rattle.reader_core.specs.declared.statement.Statement.{Statement}
-use Rattle.system_core.specs.Serving.{Ends}
+use Rattle.lines_core.specs.Serving.{Ends}
 use Rattle.system_core.specs.Texts.{reply_text, fault_text, unread_text, lost_text, cut_text}
 use Rattle.system_core.specs.World.{World, opening}
 use Rattle.system_core.specs.Step.{Step}
-use Rattle.system_core.specs.declared.event.Event.TheVariants as events
-use Rattle.system_core.specs.declared.event.Reply.{Reply}
-use Rattle.system_core.specs.declared.event.Reply.TheVariants as replies
-use Rattle.system_core.specs.declared.lines.serve.SessionFault.{SessionFault}
+use Rattle.system_core.specs.declared.machine.event.Event.TheVariants as events
+use Rattle.system_core.specs.declared.machine.event.Reply.{Reply}
+use Rattle.system_core.specs.declared.machine.event.Reply.TheVariants as replies
+use Rattle.lines_core.specs.declared.serving.SessionFault.{SessionFault}
 
 abbrev pub colon : ℕ
 colon = 58
@@ -70,14 +70,14 @@ TellsRecords (replies.Export ticket) text = (text ≡ concat ticket.to_come) ⊎
 TellsRecords reply text = text ≡ []
 
 -- what may be written of a reply: its text and its records, or, for want of memory, that it is lost
-abbrev pub Tells : Reply → List ℕ → Type 0
-Tells reply text = ((records : List ℕ) × TellsRecords reply records × (text ≡ reply_text reply ++ records)) ⊎ (text ≡ lost_text)
+abbrev pub TellsReply : Reply → List ℕ → Type 0
+TellsReply reply text = ((records : List ℕ) × TellsRecords reply records × (text ≡ reply_text reply ++ records)) ⊎ (text ≡ lost_text)
 
 -- From old, this text may be written for the line itself, and new is the next world. The last is for
 -- want of memory.
 pub data AnswersLine (old : World) (line : List ℕ) : List ℕ → World → Type 0 where
   faulty : {code : Code} {offset : ℕ} → IsFaulty line code offset → AnswersLine old line (fault_text code offset) old
-  said : {text : List ℕ} {new : World} (user : User) (asked : Statement) (reply : Reply) → Asks line user asked → Step old (events.Say 0 user asked) reply new → Tells reply text → AnswersLine old line text new
+  said : {text : List ℕ} {new : World} (user : User) (asked : Statement) (reply : Reply) → Asks line user asked → Step old (events.Say 0 user asked) reply new → TellsReply reply text → AnswersLine old line text new
   unread : AnswersLine old line unread_text old
 
 abbrev pub is_refused : Reply → Bool
@@ -88,7 +88,7 @@ is_refused reply = false
 -- world: nothing; or, where the step found no memory, that the checkpoint is given up.
 pub data Follows (old : World) : List ℕ → World → Type 0 where
   stepped : {new : World} (reply : Reply) → Step old events.Step reply new → is_refused reply ≡ false → Follows old [] new
-  gave_up : {text : List ℕ} {new : World} (mid : World) (refusal reply : Reply) → Step old events.Step refusal mid → is_refused refusal ≡ true → Step mid events.Abandon reply new → Tells reply text → Follows old text new
+  gave_up : {text : List ℕ} {new : World} (mid : World) (refusal reply : Reply) → Step old events.Step refusal mid → is_refused refusal ≡ true → Step mid events.Abandon reply new → TellsReply reply text → Follows old text new
 
 -- From old, this text may be written for the line and the step after it, and new is the next world.
 pub record Answers (old : World) (line text : List ℕ) (new : World) : Type 0 where

@@ -11,15 +11,15 @@ use Rattle.tables_core.specs.Contents.{Contents, table_of}
 use Rattle.grants_core.specs.Owners.{owner_of, was_granted}
 use Rattle.grants_core.specs.Content.{Content}
 use Rattle.grants_core.specs.History.{granted}
-use Rattle.system_core.specs.declared.event.Entry.{Entry}
+use Rattle.system_core.specs.declared.machine.event.Entry.{Entry}
 use Rattle.monitor_core.specs.Verdict.{Check, require, first_lack, is_table, columns_of}
 use Rattle.capture_core.specs.Image.{image, row_total, has}
-use Rattle.capture_core.specs.Capturing.{Active as Capture, Capturing}
+use Rattle.capture_core.specs.Capturing.{ActiveCapture as Capture, Capturing}
 use Rattle.capture_core.specs.declared.image.Image.{Image}
 use Rattle.export_core.specs.Export.{held_then, holds_now}
 use Rattle.system_core.specs.Journal.{contents, changes, rights_at, IsLawful}
 use Rattle.system_core.specs.Exports.{journal_at}
-use Rattle.system_core.specs.World.{World, Active, AreSound}
+use Rattle.system_core.specs.World.{World, ActiveCheckpoint, AreSound}
 use Rattle.system_core.specs.Carrying.{most_columns, most_grants}
 
 -- how many rows were ever inserted into the table of this name
@@ -50,15 +50,15 @@ pub record Accepted : Type 0 where
   pub limits : Limits
 
 -- what a ledger keeps
-pub record Stands (limits : Limits) (journal : List Entry) (tables : List (Name × Contents)) (rights : Content) : Type 0 where
+pub record KeepsJournal (limits : Limits) (journal : List Entry) (tables : List (Name × Contents)) (rights : Content) : Type 0 where
   pub sound : IsSound limits journal
   pub tables_of : tables ≡ contents journal
   pub agree : AgreeOn (contents journal) rights (rights_at journal)
 
 -- ---- checkpoints
 -- an active capture, as a world has it
-abbrev pub shown : Capture → Active
-shown a = record { number = a.coming.number; point = a.coming.point; left = a.left }
+abbrev pub as_active : Capture → ActiveCheckpoint
+as_active a = record { number = a.coming.number; point = a.coming.point; left = a.left }
 
 -- the world of a system with these accepted changes, this capture, and these kept images
 abbrev pub world_of : ℕ → Accepted → Capturing → List Image → World
@@ -66,7 +66,7 @@ world_of chunk accepted capturing images = record {
   journal = accepted.journal;
   begun = capturing.begun;
   finished = map (λ image. (image.number, image.point)) images;
-  active = option_map shown capturing.active;
+  active = option_map as_active capturing.active;
   chunk = chunk;
   limits = accepted.limits;
 }
@@ -85,7 +85,7 @@ IsComing journal None = Unit {0}
 IsComing journal (Some a) = IsImageOf journal a.coming
 
 -- what a system keeps
-pub record Holds (chunk : ℕ) (accepted : Accepted) (capturing : Capturing) (images : List Image) : Type 0 where
+pub record KeepsCheckpoints (chunk : ℕ) (accepted : Accepted) (capturing : Capturing) (images : List Image) : Type 0 where
   pub some : 0 < chunk
   pub small : chunk ≤ 64
   pub images_of : AllByRecursion (IsImageOf accepted.journal) images

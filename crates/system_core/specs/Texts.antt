@@ -15,10 +15,10 @@ use Rattle.lexer_core.specs.Codes.{code_number, code_text}
 use Rattle.lexer_core.specs.declared.fault.Code.{Code}
 use Rattle.export_core.specs.Record.{record_line, row_lines}
 use Rattle.export_core.specs.Ticket.{header_line}
-use Rattle.system_core.specs.declared.event.Checkpoint.{Checkpoint}
-use Rattle.system_core.specs.declared.event.Checkpoint.TheVariants as checkpoints
-use Rattle.system_core.specs.declared.event.Reply.{Reply}
-use Rattle.system_core.specs.declared.event.Reply.TheVariants as replies
+use Rattle.system_core.specs.declared.machine.event.Checkpoint.{Checkpoint}
+use Rattle.system_core.specs.declared.machine.event.Checkpoint.TheVariants as checkpoints
+use Rattle.system_core.specs.declared.machine.event.Reply.{Reply}
+use Rattle.system_core.specs.declared.machine.event.Reply.TheVariants as replies
 
 -- the parts one after another
 abbrev pub joined : List (List ℕ) → List ℕ

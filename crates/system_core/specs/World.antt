@@ -6,12 +6,12 @@ use Rattle.base_core.specs.declared.value.Moment.{Moment}
 use Rattle.base_core.specs.declared.limits.Limits.{Limits}
 use Rattle.reader_core.specs.declared.statement.Statement.{Statement}
 use Rattle.capture_core.specs.Image.{records}
-use Rattle.system_core.specs.declared.event.Entry.{Entry}
+use Rattle.system_core.specs.declared.machine.event.Entry.{Entry}
 use Rattle.system_core.specs.Journal.{contents, rights_at, IsLawful}
 use Rattle.system_core.specs.Exports.{journal_at}
 
 -- the checkpoint that is being captured: its number, its point, and how many records are left
-pub record Active : Type 0 where
+pub record ActiveCheckpoint : Type 0 where
   pub number : ℕ
   pub point : Moment
   pub left : ℕ
@@ -22,7 +22,7 @@ pub record World : Type 0 where
   pub journal : List Entry
   pub begun : ℕ
   pub finished : List (ℕ × Moment)
-  pub active : Option Active
+  pub active : Option ActiveCheckpoint
   pub chunk : ℕ
   pub limits : Limits
 
@@ -40,15 +40,15 @@ moment_of w = record { 0 = length w.journal }
 abbrev pub next_moment : World → Moment
 next_moment w = record { 0 = length w.journal + 1 }
 
-abbrev pub entered : World → Entry → World
-entered w e = record w { journal = w.journal ++ e ∷ [] }
+abbrev pub with_entry : World → Entry → World
+with_entry w e = record w { journal = w.journal ++ e ∷ [] }
 
 -- how many records a checkpoint of this point has
 abbrev pub records_at : List Entry → Moment → ℕ
 records_at journal point = records (contents (journal_at journal point)) (rights_at (journal_at journal point))
 
 -- the checkpoints that are kept, and then the active one, each by its number and its point
-abbrev pub with_active : List (ℕ × Moment) → Option Active → List (ℕ × Moment)
+abbrev pub with_active : List (ℕ × Moment) → Option ActiveCheckpoint → List (ℕ × Moment)
 with_active finished None = finished
 with_active finished (Some a) = finished ++ (a.number, a.point) ∷ []
 
@@ -58,7 +58,7 @@ IsRising number point [] = Unit {0}
 IsRising number point (c ∷ cs) = (number < c.0) × (point ≤ c.1.0) × IsRising c.0 c.1.0 cs
 
 -- an active checkpoint is the last that was begun, and has from one record to all of them left
-abbrev pub IsSoundActive : List Entry → ℕ → Option Active → Type 0
+abbrev pub IsSoundActive : List Entry → ℕ → Option ActiveCheckpoint → Type 0
 IsSoundActive journal begun None = Unit {0}
 IsSoundActive journal begun (Some a) = (a.number ≡ begun) × (0 < a.left) × (a.left ≤ records_at journal a.point)
 

@@ -33,7 +33,7 @@
 //! reply_text(alloc, &reply)?;                                 // done @1
 //! ```
 //!
-//! [`script`] reads lines `user: statement` and gives the writer the text of each reply before it looks
+//! [`script`] has [`lines_core`] read lines `user: statement`, and gives the writer the text of each reply before it looks
 //! at the next line, and after an export's its records; before it reads on, it flushes. Each line, whatever
 //! it is, is followed by one step of the checkpointer; where that finds no memory, the checkpoint is given
 //! up, and the script says so. The contract is over bytes: what was written is answers to the lines of what
@@ -51,10 +51,6 @@
 //! Judging goes over privileges, columns and users as they are written, without memory. A list of the
 //! atoms that they are is made only to carry them out.
 //!
-//! The loop over lines is generic over what answers a line. Its contract says of any reader's pieces
-//! that the lines are those of the whole input: what is kept between two pieces is the front of the
-//! line that has begun, of which no more is kept than an answer can depend on.
-//!
 //! # Cost
 //!
 //! Beside the rights, a CREATE TABLE or an INSERT is constant, amortised, and a SELECT, DELETE or UPDATE
@@ -66,23 +62,13 @@
 //! grant, also what was revoked, and each checkpoint all rows and grants of its point.
 #![tactic(auto)]
 
-mod atoms;
-mod carry;
-mod change;
-mod checkpoints;
-mod event;
 pub mod laws;
-mod ledger;
-mod lines;
-mod system;
-mod texts;
-mod wording;
+mod machine;
+mod replies;
+mod scripts;
 
-pub use event::{Checkpoint, Entry, Event, Reply};
-pub use lines::serve::SessionFault;
-pub use lines::server::script;
-pub use system::System;
-pub use wording::reply_text;
-
-#[cfg(test)]
-mod tests;
+pub use lines_core::SessionFault;
+pub use machine::event::{Checkpoint, Entry, Event, Reply};
+pub use machine::system::System;
+pub use replies::wording::reply_text;
+pub use scripts::server::script;

@@ -9,10 +9,10 @@ use Rattle.base_core.specs.declared.value.Row.{Row}
 use Rattle.base_core.specs.declared.value.Column.{Column}
 use Rattle.base_core.specs.declared.condition.Condition.{Condition}
 use Rattle.base_core.specs.declared.condition.Assignment.{Assignment}
-use Rattle.tables_core.specs.Contents.{chooses, assigned_row, updated_row, opened, with_row, deleted, updated}
+use Rattle.tables_core.specs.Contents.{satisfies, assigned_row, updated_row, empty_table, with_row, without_chosen_rows, with_updated_rows}
 use Rattle.tables_core.specs.Laws.{IsNumbered, KeepsNumbered}
 
-pub IsNumbered-opened : (owner : User) (columns : List Column) → IsNumbered (opened owner columns)
+pub IsNumbered-opened : (owner : User) (columns : List Column) → IsNumbered (empty_table owner columns)
 IsNumbered-opened owner columns = record {
   rising = λ i j d less within. absurd (omega arith);
   fresh = λ k d within. absurd (omega arith);
@@ -28,16 +28,16 @@ IsNumbered-with_row row t h = record {
     last zero d within = omega arith
     last (suc k) d within = absurd (omega arith)
 
-pub IsNumbered-deleted : (conditions : List Condition) → KeepsNumbered (deleted conditions)
+pub IsNumbered-deleted : (conditions : List Condition) → KeepsNumbered (without_chosen_rows conditions)
 IsNumbered-deleted conditions t h = record {
-  rising = AllPairs-filter (λ earlier later. earlier.0 < later.0) (λ numbered. not (chooses t.columns conditions numbered)) t.rows h.rising;
-  fresh = All-filter (λ numbered. not (chooses t.columns conditions numbered)) (λ numbered. numbered.0 < t.inserted) t.rows h.fresh;
+  rising = AllPairs-filter (λ earlier later. earlier.0 < later.0) (λ numbered. not (satisfies t.columns conditions numbered)) t.rows h.rising;
+  fresh = All-filter (λ numbered. not (satisfies t.columns conditions numbered)) (λ numbered. numbered.0 < t.inserted) t.rows h.fresh;
 }
 
 module _ (columns : List Column) (sets : List Assignment) (conditions : List Condition) (rows : List (ℕ × Row)) where
   -- an updated row keeps its number
   number-updated_row : (numbered : ℕ × Row) → (updated_row columns sets conditions numbered).0 ≡ numbered.0
-  number-updated_row numbered = by (chooses columns conditions numbered)
+  number-updated_row numbered = by (satisfies columns conditions numbered)
     where
       by : (b : Bool) → (cond b (assigned_row columns sets numbered) numbered).0 ≡ numbered.0
       by true = refl
@@ -46,7 +46,7 @@ module _ (columns : List Column) (sets : List Assignment) (conditions : List Con
   pub number-updated : (i : ℕ) (d : ℕ × Row) → i < length rows → (get_or (map (updated_row columns sets conditions) rows) i d).0 ≡ (get_or rows i d).0
   number-updated i d within = ap (λ numbered. numbered.0) (get_or-map (updated_row columns sets conditions) rows i d d within) ∙ number-updated_row (get_or rows i d)
 
-pub IsNumbered-updated : (sets : List Assignment) (conditions : List Condition) → KeepsNumbered (updated sets conditions)
+pub IsNumbered-updated : (sets : List Assignment) (conditions : List Condition) → KeepsNumbered (with_updated_rows sets conditions)
 IsNumbered-updated sets conditions t h = record {
   rising = λ i j d less within.
       let inside : j < length t.rows = rw length-map at within in

@@ -21,13 +21,13 @@ pub record Contents : Type 0 where
   pub inserted : ℕ
   pub rows : List (ℕ × Row)
 
--- whether the filter chooses a numbered row
-abbrev pub chooses : List Column → List Condition → ℕ × Row → Bool
-chooses columns conditions numbered = is_chosen columns conditions numbered.1.values
+-- whether a numbered row satisfies the filter
+abbrev pub satisfies : List Column → List Condition → ℕ × Row → Bool
+satisfies columns conditions numbered = is_chosen columns conditions numbered.1.values
 
 -- the values of the named columns, in the order of the names
-abbrev pub cut_values : List Column → List Name → List Value → List Value
-cut_values columns names values = filter_map (cell columns values) names
+abbrev pub projected_values : List Column → List Name → List Value → List Value
+projected_values columns names values = filter_map (cell columns values) names
 
 -- the values after each assignment in turn
 abbrev pub assigned_values : List Column → List Assignment → List Value → List Value
@@ -37,29 +37,29 @@ assigned_values columns sets values = fold (λ made set. with_value made (place 
 abbrev pub assigned_row : List Column → List Assignment → ℕ × Row → ℕ × Row
 assigned_row columns sets numbered = (numbered.0, record { values = assigned_values columns sets numbered.1.values })
 
--- the same where the filter chooses the row; any other row is left as it is
+-- the same where the row satisfies the filter; any other row is left as it is
 abbrev pub updated_row : List Column → List Assignment → List Condition → ℕ × Row → ℕ × Row
-updated_row columns sets conditions numbered = if chooses columns conditions numbered then assigned_row columns sets numbered else numbered
+updated_row columns sets conditions numbered = if satisfies columns conditions numbered then assigned_row columns sets numbered else numbered
 
 -- a new table: no row is or was in it
-abbrev pub opened : User → List Column → Contents
-opened owner columns = record { owner = owner; columns = columns; inserted = 0; rows = [] }
+abbrev pub empty_table : User → List Column → Contents
+empty_table owner columns = record { owner = owner; columns = columns; inserted = 0; rows = [] }
 
 -- the table with one row more, behind the others, numbered by the rows inserted before it
 abbrev pub with_row : Row → Contents → Contents
 with_row row t = record t { inserted = t.inserted + 1; rows = t.rows ++ (t.inserted, row) ∷ [] }
 
 -- the table without the chosen rows
-abbrev pub deleted : List Condition → Contents → Contents
-deleted conditions t = record t { rows = filter (λ numbered. not (chooses t.columns conditions numbered)) t.rows }
+abbrev pub without_chosen_rows : List Condition → Contents → Contents
+without_chosen_rows conditions t = record t { rows = filter (λ numbered. not (satisfies t.columns conditions numbered)) t.rows }
 
 -- the table with the assignments made in each chosen row, in place
-abbrev pub updated : List Assignment → List Condition → Contents → Contents
-updated sets conditions t = record t { rows = map (updated_row t.columns sets conditions) t.rows }
+abbrev pub with_updated_rows : List Assignment → List Condition → Contents → Contents
+with_updated_rows sets conditions t = record t { rows = map (updated_row t.columns sets conditions) t.rows }
 
 -- the chosen rows, cut to the named columns
-abbrev pub selected : List Name → List Condition → Contents → List Row
-selected names conditions t = map (λ numbered. record { values = cut_values t.columns names numbered.1.values }) (filter (chooses t.columns conditions) t.rows)
+abbrev pub selected_rows : List Name → List Condition → Contents → List Row
+selected_rows names conditions t = map (λ numbered. record { values = projected_values t.columns names numbered.1.values }) (filter (satisfies t.columns conditions) t.rows)
 
 -- the table of this name
 abbrev pub table_of : List (Name × Contents) → Name → Option Contents

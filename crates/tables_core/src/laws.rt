@@ -5,7 +5,7 @@ ghost use Rattle.base_core.specs.declared.value.Row.{Row};
 ghost use Rattle.base_core.specs.declared.value.Column.{Column};
 ghost use Rattle.base_core.specs.declared.condition.Condition.{Condition};
 ghost use Rattle.base_core.specs.declared.condition.Assignment.{Assignment};
-ghost use Rattle.tables_core.specs.Contents.{opened, with_row, deleted, updated};
+ghost use Rattle.tables_core.specs.Contents.{empty_table, with_row, without_chosen_rows, with_updated_rows};
 ghost use Rattle.tables_core.specs.Laws.{LookUpAfterChange, LookUpAfterNew, NamesAfterChange, IsNumbered, KeepsNumbered};
 
 /// What look-ups find after a change to one table, and after a new one; and that a change to one
@@ -19,8 +19,8 @@ pub fn look_ups_after_changes()
 /// The numbers of a table's rows rise, and its next number is above them all: at first, and after
 /// each change. So no two rows of a table have one number.
 pub fn numbers_rise()
-    ensures opened { (owner : User) (columns : List Column) → IsNumbered (opened owner columns) }
+    ensures opened { (owner : User) (columns : List Column) → IsNumbered (empty_table owner columns) }
     ensures inserted { (row : Row) → KeepsNumbered (with_row row) }
-    ensures deleted { (conditions : List Condition) → KeepsNumbered (deleted conditions) }
-    ensures updated { (sets : List Assignment) (conditions : List Condition) → KeepsNumbered (updated sets conditions) }
+    ensures deleted { (conditions : List Condition) → KeepsNumbered (without_chosen_rows conditions) }
+    ensures updated { (sets : List Assignment) (conditions : List Condition) → KeepsNumbered (with_updated_rows sets conditions) }
 {}

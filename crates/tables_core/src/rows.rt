@@ -1,6 +1,6 @@
 //! Work on the rows of one table.
 ghost use Rattle.std.specs.Prelude.{◌≡◌, IfOk, OnOk, OnErr, replicate, count_by, map, filter, not};
-ghost use Rattle.tables_core.specs.Contents.{chooses, cut_values, assigned_values, updated_row};
+ghost use Rattle.tables_core.specs.Contents.{satisfies, projected_values, assigned_values, updated_row};
 
 use base_core::{
     Assignment, Column, Condition, Name, NoMemory, Row, Sequence, Twin, Value, cell, is_chosen,
@@ -13,14 +13,14 @@ pub type NumberedRow = (u64, Row);
 
 /// Whether the filter chooses a row of these columns.
 pub fn chooses(columns: &[Column], filter: &[Condition], numbered: &NumberedRow) -> bool
-    ensures { result ≡ chooses columns.now filter.now numbered.now }
+    ensures { result ≡ satisfies columns.now filter.now numbered.now }
 {
     is_chosen(columns, filter, numbered.1.values.as_slice())
 }
 
 /// How many of the rows the filter chooses.
 fn count_chosen(columns: &[Column], filter: &[Condition], rows: &[NumberedRow]) -> usize
-    ensures { result ≡ count_by (chooses columns.now filter.now) rows.now }
+    ensures { result ≡ count_by (satisfies columns.now filter.now) rows.now }
 {
     rows.iter()
         .filter(|numbered| chooses(columns, filter, *numbered))
@@ -34,7 +34,7 @@ pub fn cut(
     names: &[Name],
     values: &[Value],
 ) -> Result<Row, NoMemory>
-    ensures { IfOk result (λ row. row.values ≡ cut_values columns.now names.now values.now) }
+    ensures { IfOk result (λ row. row.values ≡ projected_values columns.now names.now values.now) }
 {
     let mut items = Vec::new(alloc);
     for name in names {
@@ -101,7 +101,7 @@ pub fn update_chosen(
 
 /// Drops the rows that the filter chooses.
 pub fn drop_chosen(columns: &[Column], rows: &mut Vec<NumberedRow>, conditions: &[Condition])
-    ensures { rows.new.items ≡ filter (λ r. not (chooses columns.now conditions.now r)) rows.old.items }
+    ensures { rows.new.items ≡ filter (λ r. not (satisfies columns.now conditions.now r)) rows.old.items }
 {
     rows.retain(|numbered| !chooses(columns, conditions, numbered));
 }

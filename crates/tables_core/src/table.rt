@@ -1,6 +1,6 @@
 //! One table.
 ghost use Rattle.std.specs.Prelude.{◌≡◌, ◌<◌, ◌^◌, IfOk, OnOk, OnErr, length};
-ghost use Rattle.tables_core.specs.Contents.{opened, with_row, deleted, updated, selected};
+ghost use Rattle.tables_core.specs.Contents.{empty_table, with_row, without_chosen_rows, with_updated_rows, selected_rows};
 
 use crate::rows::{self, NumberedRow};
 use base_core::{Assignment, Column, Condition, Name, NoMemory, Row, Sequence, User};
@@ -26,7 +26,7 @@ impl Model for Table {
 impl Table {
     /// A table without rows. It takes no memory.
     pub fn new(alloc: Global, owner: User, columns: Sequence<Column>) -> Table
-        ensures { result ≡ opened owner columns }
+        ensures { result ≡ empty_table owner columns }
     {
         Table {
             owner,
@@ -85,7 +85,7 @@ impl Table {
         names: &[Name],
         filter: &[Condition],
     ) -> Result<Vec<Row>, NoMemory>
-        ensures { IfOk result (λ rows. rows.items ≡ selected names.now filter.now self.now) }
+        ensures { IfOk result (λ rows. rows.items ≡ selected_rows names.now filter.now self.now) }
     {
         let columns = self.columns.as_slice();
         let mut chosen = Vec::new(alloc);
@@ -105,7 +105,7 @@ impl Table {
         sets: &[Assignment],
         filter: &[Condition],
     ) -> Result<(), NoMemory>
-        ensures ok { OnOk result (self.new ≡ updated sets.now filter.now self.old) }
+        ensures ok { OnOk result (self.new ≡ with_updated_rows sets.now filter.now self.old) }
         ensures no_memory { OnErr result (self.new ≡ self.old) }
     {
         rows::update_chosen(
@@ -119,7 +119,7 @@ impl Table {
 
     /// Drops the chosen rows.
     pub fn delete(&mut self, filter: &[Condition])
-        ensures { self.new ≡ deleted filter.now self.old }
+        ensures { self.new ≡ without_chosen_rows filter.now self.old }
     {
         rows::drop_chosen(self.columns.as_slice(), &mut self.rows, filter);
     }

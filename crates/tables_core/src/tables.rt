@@ -1,7 +1,7 @@
 //! All tables, by name.
 ghost use Rattle.std.specs.Prelude.{◌≡◌, ◌<◌, ◌^◌, ◌↔◌, ◌++◌, ◌∷◌, [], IfOk, OnOk, OnErr, IsTrue, IsSome, IsSomeAnd, Some, None, slice_get, length, option_map};
 ghost use Rattle.std.specs.Option.{option_copied, option_map_or};
-ghost use Rattle.tables_core.specs.Contents.{opened, with_row, deleted, updated, selected, table_of, column_of, with_change};
+ghost use Rattle.tables_core.specs.Contents.{empty_table, with_row, without_chosen_rows, with_updated_rows, selected_rows, table_of, column_of, with_change};
 
 use crate::rows::NumberedRow;
 use crate::table::Table;
@@ -141,7 +141,7 @@ impl Tables {
         columns: Sequence<Column>,
     ) -> Result<(), NoMemory>
         requires { table_of self.old name ≡ None }
-        ensures ok { OnOk result (self.new ≡ self.old ++ (name, opened owner columns) ∷ []) }
+        ensures ok { OnOk result (self.new ≡ self.old ++ (name, empty_table owner columns) ∷ []) }
         ensures no_memory { OnErr result (self.new ≡ self.old) }
     {
         let table = Table::new(self.alloc, owner, columns);
@@ -173,7 +173,7 @@ impl Tables {
         filter: &[Condition],
     ) -> Result<Vec<Row>, NoMemory>
         requires { IsSome (table_of self.now name.now) }
-        ensures { IfOk result (λ rows. option_map (selected columns.now filter.now) (table_of self.now name.now) ≡ Some rows.items) }
+        ensures { IfOk result (λ rows. option_map (selected_rows columns.now filter.now) (table_of self.now name.now) ≡ Some rows.items) }
     {
         match self.tables.get(name) {
             Some(table) => table.select(self.alloc, columns, filter),
@@ -191,7 +191,7 @@ impl Tables {
         filter: &[Condition],
     ) -> Result<(), NoMemory>
         requires { IsSome (table_of self.old name.now) }
-        ensures ok { OnOk result (self.new ≡ with_change name.now (updated sets.now filter.now) self.old) }
+        ensures ok { OnOk result (self.new ≡ with_change name.now (with_updated_rows sets.now filter.now) self.old) }
         ensures no_memory { OnErr result (self.new ≡ self.old) }
     {
         match self.tables.get_mut(name) {
@@ -203,7 +203,7 @@ impl Tables {
     /// Drops the rows that the filter chooses; the others keep their order and numbers. Where there
     /// is no such table, nothing changes.
     pub fn delete(&mut self, name: &Name, filter: &[Condition])
-        ensures { self.new ≡ with_change name.now (deleted filter.now) self.old }
+        ensures { self.new ≡ with_change name.now (without_chosen_rows filter.now) self.old }
     {
         if let Some(table) = self.tables.get_mut(name) {
             table.delete(filter);

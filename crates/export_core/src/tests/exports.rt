@@ -6,6 +6,7 @@ use base_core::{
 use capture_core::{Image, TableImage};
 use grants_core::{Authority, Replay};
 use std::alloc::Global;
+use std::io::BufWriter;
 use std::process::Abort;
 use std::sync::Arc;
 use std::test::Fail;
@@ -76,9 +77,10 @@ fn image(alloc: Global, point: u64, rights: &Replay, numbers: &[i64]) -> Result<
 
 /// All that a ticket writes.
 fn written(alloc: Global, ticket: &mut Ticket) -> Result<Vec<u8>, Fail> {
-    let mut writer = StdSink::new(Vec::new(alloc));
+    let mut writer = StdSink::new(BufWriter::new(alloc, Vec::new(alloc))?);
     ticket.write_to(&mut writer)?;
-    Ok(writer.into_inner())
+    writer.flush()?;
+    Ok(writer.into_parts().0)
 }
 
 /// A ticket for one table, which the user may have.
@@ -204,13 +206,15 @@ struct Slow {
 }
 
 impl Sink for Slow {
-    ghost use Rattle.std.specs.Prelude.{Some, true};
+    ghost use Rattle.std.specs.Prelude.{Some, true, refl};
 
     ghost failed = { λ s. s.failed };
 
     ghost taken = { λ s. Some s.bytes.items };
 
-    ghost settled = { λ _. true };
+    ghost handed_on = { λ s. Some s.bytes.items };
+
+    ghost flushed = { λ _. true };
 
     fn write(&mut self, bytes: &[u8]) -> Result<usize, Broken> {
         let Some(&first) = bytes.first() else {
@@ -227,6 +231,8 @@ impl Sink for Slow {
     fn flush(&mut self) -> Result<(), Broken> {
         Ok(())
     }
+
+    ghost flushed_hands_on = { λ _ _. refl };
 }
 
 /// The record in which a writer failed counts as given.

@@ -2,4 +2,4 @@ use Rattle.reader_core.proofs.Choices as choices
 use Rattle.reader_core.proofs.laws.one_choice.Goals as goal
 
 pub returns : goal.returns
-returns c = choices.one_choice
+returns c = record { apart = choices.clear; same = choices.one_choice }

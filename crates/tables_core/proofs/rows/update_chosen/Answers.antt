@@ -4,7 +4,7 @@ use Rattle.std.proofs.lemmas.List.{drop-set-lt, set-get_or}
 use Rattle.std.proofs.lemmas.List.Edits.{map_over_more}
 use Rattle.std.specs.Option.{option_to_list}
 use Rattle.base_core.specs.declared.condition.Assignment.{Assignment}
-use Rattle.tables_core.specs.Contents.{chooses, updated_row, assigned_row, assigned_values}
+use Rattle.tables_core.specs.Contents.{satisfies, updated_row, assigned_row, assigned_values}
 use Rattle.tables_core.proofs.RowLemmas.{some_copy, copies_after, copies_passed}
 use Rattle.tables_core.proofs.rows.update_chosen.Goals as goal
 use Rattle.tables_core.proofs.rows.update_chosen.Goals.{then-chooses+in-Some, then-chooses+in_default, else-chooses}
@@ -17,7 +17,7 @@ loop-numbered-preserved c =
     let i = c.loop-numbered.numbered-index in
     let x = get_or now i c.numbered-item.result in
     let F = updated_row columns sets c.args.filter.now in
-    let p = chooses columns c.args.filter.now in
+    let p = satisfies columns c.args.filter.now in
     let items = λ (v : Vec Assignment Global). v.items in
     let copies = c.loop-numbered.copies.items in
     let here : x ≡ get_or now i x = ap (λ r. get_or now i r) c.numbered-item.is in

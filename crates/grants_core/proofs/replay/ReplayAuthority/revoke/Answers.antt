@@ -16,7 +16,8 @@ invariant_of-self c =
     let Replayed : List Made → Type 0 = λ made. IsReplayed c.self.inside.owners made in
     subst Replayed (sym items) (IsReplayed-struck c.self.inside.owners c.self.inside.made.items c.refold.new.made c.args.by c.args.atoms.now c.args.whom.now c.self.invariant
     (c.refold.ensures.same ∙ left)
-    (c.refold.ensures.valid ∙ ap (valid c.self.inside.owners) (sym c.refold.ensures.same)))
+    (c.refold.ensures.valid ∙ ap (valid c.self.inside.owners) (sym c.refold.ensures.same))
+    (omega arith))
 
 pub returns : goal.returns
 returns c =

@@ -1,7 +1,7 @@
 use Rattle.std.proofs.Common.{◌≡◌, drop}
-use Rattle.monitor_core.specs.Verdict.{each, has_made}
+use Rattle.monitor_core.specs.Verdict.{each, made_grant}
 use Rattle.monitor_core.proofs.judging.Judge.has_made_each.Given as goal
 
 -- all before passed: what is found of the rest is what is found of all
 abbrev pub invariant-loop-to : goal.invariant-loop-to
-invariant-loop-to g l = each (drop l.to-index l.users) (has_made l.self l.by l.atom) ≡ each l.users (has_made l.self l.by l.atom)
+invariant-loop-to g l = each (drop l.to-index l.users) (made_grant l.self l.by l.atom) ≡ each l.users (made_grant l.self l.by l.atom)

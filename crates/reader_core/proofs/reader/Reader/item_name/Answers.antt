@@ -21,7 +21,7 @@ returns-in_err-check_item-clause-leads g c = λ i.
     let seen : List Kind = map (λ x. kinds.Name (g.T.Named.name_of x)) c.args.items.now in
     let ch = c.in_err-check_item.ensures in
     let m : mark_of (names_rule c.args.limit) seen (kinds.Name n) ≡ Some ch.0 = rw (firsts_length (λ x. kinds.Name (g.T.Named.name_of x)) c.args.items.now, ← c.has_name.ensures) ch.1 in
-    exits _ _ _ _ _ _ _ c.from_residual-in_err-check_item.ensures.1 record { judges = λ ne k. item_bad c.args.self.now _ _ _ i k (kinds.Name n) ch.0 c.in_ok-name.ensures.kind refl m ∙ sym (ap fault_of ch.2) }
+    exits _ _ _ _ _ _ _ c.from_residual-in_err-check_item.ensures.1 record { fault = λ ne k. item_bad c.args.self.now _ _ _ i k (kinds.Name n) ch.0 c.in_ok-name.ensures.kind refl m ∙ sym (ap fault_of ch.2) }
 
 pub returns-clause-leads : goal.returns-clause-leads
 returns-clause-leads g c = λ i.

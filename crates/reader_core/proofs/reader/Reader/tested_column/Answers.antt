@@ -24,7 +24,7 @@ returns-in_err-check_item-clause-leads c =
     let seen : List Kind = map (λ x. kinds.Name x.column) c.args.before.now in
     let ch = c.in_err-check_item.ensures in
     let m : mark_of conditions_rule seen (kinds.Name n) ≡ Some ch.0 = rw (firsts_length (λ x. kinds.Name x.column) c.args.before.now) ch.1 in
-    exits _ _ _ _ _ _ _ c.from_residual-in_err-check_item.ensures.1 record { judges = λ ne k. item_bad c.args.self.now conditions_rule seen AnyName rest k (kinds.Name n) ch.0 c.in_ok-column.ensures.kind refl m ∙ sym (ap fault_of ch.2) }
+    exits _ _ _ _ _ _ _ c.from_residual-in_err-check_item.ensures.1 record { fault = λ ne k. item_bad c.args.self.now conditions_rule seen AnyName rest k (kinds.Name n) ch.0 c.in_ok-column.ensures.kind refl m ∙ sym (ap fault_of ch.2) }
 
 pub returns-clause-leads : goal.returns-clause-leads
 returns-clause-leads c =

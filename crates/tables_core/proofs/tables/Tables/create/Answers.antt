@@ -1,6 +1,6 @@
 use Rattle.std.proofs.Common.{◌++◌, ◌∷◌, [], ap, ◌∙◌}
 use Rattle.base_core.specs.Words.{same_name}
-use Rattle.tables_core.specs.Contents.{opened}
+use Rattle.tables_core.specs.Contents.{empty_table}
 use Rattle.indexmap.proofs.CallerLemmas.{insert_entry-new}
 use Rattle.tables_core.proofs.tables.Tables.create.Goals as goal
 
@@ -10,4 +10,4 @@ returns-clause-ok c =
     c.in_ok-insert.ensures.entries
     ∙ (insert_entry-new same_name c.self.inside.tables c.args.name c.new-table.result absent
     ∙ (ap (λ t. c.self.inside.tables.entries ++ (c.args.name, t) ∷ []) c.new-table.ensures
-    ∙ ap (λ l. l ++ (c.args.name, opened c.args.owner c.args.columns) ∷ []) c.self.view_is))
+    ∙ ap (λ l. l ++ (c.args.name, empty_table c.args.owner c.args.columns) ∷ []) c.self.view_is))

@@ -4,14 +4,14 @@ use Rattle.std.specs.Option.{option_copied_mut}
 use Rattle.std.proofs.lemmas.Map.Steps.{set_value_same}
 use Rattle.std.proofs.lemmas.Result.{on_ok_weaker, on_err_weaker}
 use Rattle.base_core.specs.Words.{same_name}
-use Rattle.tables_core.specs.Contents.{updated}
+use Rattle.tables_core.specs.Contents.{with_updated_rows}
 use Rattle.tables_core.proofs.ContentsLemmas.{with_change-some}
 use Rattle.tables_core.proofs.tables.Tables.update.Goals as goal
 
 pub returns-clause-ok : goal.returns-clause-ok
 returns-clause-ok c =
     let found = sym c.get_mut.ensures.value ∙ ap option_copied_mut c.in-Some.is in
-    rw (← c.self.view_is) (on_ok_weaker c.update.result (λ made. (c.get_mut.follows.holds c.update.new.self).0 ∙ (ap (set_value (same_name c.args.name.now) c.self.inside.tables.entries) made ∙ sym (with_change-some c.args.name.now (updated c.args.sets.now c.args.filter.now) _ _ found))) c.update.ensures.ok)
+    rw (← c.self.view_is) (on_ok_weaker c.update.result (λ made. (c.get_mut.follows.holds c.update.new.self).0 ∙ (ap (set_value (same_name c.args.name.now) c.self.inside.tables.entries) made ∙ sym (with_change-some c.args.name.now (with_updated_rows c.args.sets.now c.args.filter.now) _ _ found))) c.update.ensures.ok)
 
 pub returns-clause-no_memory : goal.returns-clause-no_memory
 returns-clause-no_memory c =

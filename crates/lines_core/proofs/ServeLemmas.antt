@@ -1,0 +1,125 @@
+-- What each step of `serve` does, and what holds at its ends.
+use Rattle.std.proofs.Common.{◌≡◌, ◌≤◌, ◌<◌, ◌-◌, ◌^◌, ℕ, List, [], ◌∷◌, ◌++◌, refl, sym, ap, ◌∙◌, append_assoc, append-nil, map, length, take, arith, subst, Option}
+use Rattle.std.specs.Str.Lines.{lines, strip_carriage_return}
+use Rattle.std.specs.Io.KnownBytes.{Consumes, Keeps}
+use Rattle.std.proofs.lemmas.List.{map-append, length-append}
+use Rattle.std.proofs.KnownBytes.{Appends-trans, Appends-kept, Consumes-trans, Consumes-kept, Consumes-nil}
+use Rattle.lexer_core.specs.declared.lexer.TheConstants.{MAX_LINE}
+use Rattle.lines_core.specs.declared.line.TheConstants.{KEPT_BYTES}
+use Rattle.lines_core.specs.Lines.{Cut, NoFeed, whole_lines}
+use Rattle.lines_core.specs.Serving.{AnswersAll, WritesAnswer, BreaksAnswer, AnswersPiece, BreaksPiece, AnswersInput, BreaksInput, HasServed}
+use Rattle.lines_core.proofs.LineLemmas.{Cut-append, lines-Cut, whole_lines-Cut, last_line}
+use Rattle.lines_core.proofs.AnswerLemmas.{AnswersAll-append, AnswersAll-one, R-kept}
+use Rattle.lines_core.proofs.FeedLemmas.{Feeds-none, WritesFront-after, no_rest}
+
+at_end : (left0 left1 left2 : Option (List ℕ)) (bytes : List ℕ) → Consumes left0 left1 bytes → Consumes left1 left2 [] → Consumes left0 left2 bytes
+at_end left0 left1 left2 bytes p q = subst (λ b. Consumes left0 left2 b) (append-nil bytes) (Consumes-trans left0 left1 left2 bytes [] p q)
+
+module _ {X : Type 0} (R : X → List ℕ → List ℕ → X → Type 0)
+    (too_long : (old new : X) (line other text : List ℕ) → MAX_LINE < length line → MAX_LINE < length other → R old line text new → R old other text new) where
+  pub Serving-none : (start : X) (left taken : Option (List ℕ)) → HasServed R [] start start (2 ^ 32) left left taken taken
+  Serving-none start left taken = record { bytes = []; count = refl; read = Consumes-nil left; fed = Feeds-none R too_long [] [] start taken tt refl }
+
+  -- the answers to the lines before, and then to those of the piece
+  answers-parts : (start mid new : X) (text more : List ℕ) (parts ended : List (List ℕ)) → AnswersAll R start (map strip_carriage_return parts) text mid
+      → AnswersAll R mid (map strip_carriage_return ended) more new → AnswersAll R start (map strip_carriage_return (parts ++ ended)) (text ++ more) new
+  answers-parts start mid new text more parts ended p q =
+      subst (λ ls. AnswersAll R start ls (text ++ more) new) (sym (map-append strip_carriage_return parts ended))
+      (AnswersAll-append R start mid new (map strip_carriage_return parts) (map strip_carriage_return ended) text more p q)
+
+  -- A piece was read and fed.
+  pub Serving-more : (kept line : List ℕ) (start mid new : X) (piece : List ℕ) (unread : ℕ) (left0 left1 left2 taken0 taken1 taken2 : Option (List ℕ))
+      → HasServed R kept start mid unread left0 left1 taken0 taken1 → Consumes left1 left2 piece → length piece ≤ unread
+      → ((rest : List ℕ) → NoFeed rest → kept ≡ take KEPT_BYTES rest → AnswersPiece R rest piece line mid new taken1 taken2)
+      → HasServed R line start new (unread - length piece) left0 left2 taken0 taken2
+  Serving-more kept line start mid new piece unread left0 left1 left2 taken0 taken1 taken2 s read fits feeds =
+      let next = feeds s.fed.now s.fed.cut.open_rest s.fed.kept_is in record {
+        bytes = s.bytes ++ piece;
+        count = omega (arith, length-append s.bytes piece, s.count);
+        read = Consumes-trans left0 left1 left2 s.bytes piece s.read read;
+        fed = record {
+          parts = s.fed.parts ++ next.parts;
+          now = next.now;
+          text = s.fed.text ++ next.text;
+          cut = Cut-append s.bytes piece s.fed.parts next.parts s.fed.now next.now s.fed.cut next.cut;
+          kept_is = next.kept_is;
+          answered = answers-parts start mid new s.fed.text next.text s.fed.parts next.parts s.fed.answered next.answered;
+          wrote = Appends-trans taken0 taken1 taken2 s.fed.text next.text s.fed.wrote next.wrote;
+        };
+      }
+
+  -- The whole lines are answered, wherever the reading ends.
+  pub Run-whole : (kept : List ℕ) (start world : X) (unread : ℕ) (left0 left1 left2 taken0 taken1 : Option (List ℕ))
+      → (s : HasServed R kept start world unread left0 left1 taken0 taken1) → Keeps left1 left2 → AnswersInput R whole_lines start world left0 left2 taken0 taken1 s.bytes
+  Run-whole kept start world unread left0 left1 left2 taken0 taken1 s keeps = record {
+    text = s.fed.text;
+    answered = subst (λ ls. AnswersAll R start ls s.fed.text world) (sym (whole_lines-Cut s.bytes s.fed.parts s.fed.now s.fed.cut)) s.fed.answered;
+    read = Consumes-kept left0 left1 left2 s.bytes s.read keeps;
+    wrote = s.fed.wrote;
+  }
+
+  -- the answers, with that to the last line
+  all_answers : (bytes : List ℕ) (start mid new : X) (text more : List ℕ) (parts : List (List ℕ)) (now kept : List ℕ) → Cut bytes parts now → kept ≡ take KEPT_BYTES now → 0 < length kept
+      → AnswersAll R start (map strip_carriage_return parts) text mid → R mid kept more new → AnswersAll R start (lines bytes) (text ++ more) new
+  all_answers bytes start mid new text more parts [] kept cut e some p q =
+      let none : length kept ≡ 0 = ap length e in absurd (omega arith)
+  all_answers bytes start mid new text more parts (b ∷ bs) kept cut e some p q =
+      subst (λ ls. AnswersAll R start ls (text ++ more) new) (sym (lines-Cut bytes parts (b ∷ bs) cut))
+      (AnswersAll-append R start mid new (map strip_carriage_return parts) ((b ∷ bs) ∷ []) text more p
+      (AnswersAll-one R mid new (b ∷ bs) more (R-kept R too_long (b ∷ bs) mid new more (subst (λ x. R mid x more new) e q))))
+
+  -- At the end of the input the last line, if it has a byte, is answered too.
+  pub Run-last : (kept : List ℕ) (start mid new : X) (unread : ℕ) (left0 left1 left2 taken0 taken1 taken2 : Option (List ℕ))
+      → (s : HasServed R kept start mid unread left0 left1 taken0 taken1) → Consumes left1 left2 [] → 0 < length kept → WritesAnswer R kept mid new taken1 taken2
+      → AnswersInput R lines start new left0 left2 taken0 taken2 s.bytes
+  Run-last kept start mid new unread left0 left1 left2 taken0 taken1 taken2 s read some last = record {
+    text = s.fed.text ++ last.text;
+    answered = all_answers s.bytes start mid new s.fed.text last.text s.fed.parts s.fed.now kept s.fed.cut s.fed.kept_is some s.fed.answered last.answered;
+    read = at_end left0 left1 left2 s.bytes s.read read;
+    wrote = Appends-trans taken0 taken1 taken2 s.fed.text last.text s.fed.wrote last.wrote;
+  }
+
+  pub Run-nothing : (kept : List ℕ) (start mid new : X) (unread : ℕ) (left0 left1 left2 taken0 taken1 taken2 : Option (List ℕ))
+      → (s : HasServed R kept start mid unread left0 left1 taken0 taken1) → Consumes left1 left2 [] → length kept ≡ 0 → new ≡ mid → Keeps taken1 taken2
+      → AnswersInput R lines start new left0 left2 taken0 taken2 s.bytes
+  Run-nothing kept start mid new unread left0 left1 left2 taken0 taken1 taken2 s read none same keeps = record {
+    text = s.fed.text;
+    answered = subst (λ w. AnswersAll R start (lines s.bytes) s.fed.text w) (sym same)
+        (subst (λ ls. AnswersAll R start ls s.fed.text mid)
+        (sym (lines-Cut s.bytes s.fed.parts s.fed.now s.fed.cut ∙ ap (λ r. map strip_carriage_return s.fed.parts ++ last_line r) (no_rest s.fed.now kept s.fed.kept_is none) ∙ append-nil (map strip_carriage_return s.fed.parts)))
+        s.fed.answered);
+    read = at_end left0 left1 left2 s.bytes s.read read;
+    wrote = Appends-kept taken0 taken1 taken2 s.fed.text s.fed.wrote keeps;
+  }
+
+  -- The writer failed at the last line.
+  pub BrokenRun-last : (kept : List ℕ) (start mid new : X) (unread : ℕ) (left0 left1 left2 taken0 taken1 taken2 : Option (List ℕ))
+      → (s : HasServed R kept start mid unread left0 left1 taken0 taken1) → Consumes left1 left2 [] → 0 < length kept → BreaksAnswer R kept mid new taken1 taken2
+      → BreaksInput R start new left0 left2 taken0 taken2
+  BrokenRun-last kept start mid new unread left0 left1 left2 taken0 taken1 taken2 s read some last = record {
+    done = s.bytes;
+    undone = [];
+    text = s.fed.text ++ last.text;
+    answered = all_answers s.bytes start mid new s.fed.text last.text s.fed.parts s.fed.now kept s.fed.cut s.fed.kept_is some s.fed.answered last.answered;
+    read = Consumes-trans left0 left1 left2 s.bytes [] s.read read;
+    wrote = WritesFront-after taken0 taken1 taken2 s.fed.text last.text s.fed.wrote last.wrote;
+  }
+
+  -- The writer failed at a line of the piece.
+  pub BrokenRun-piece : (kept : List ℕ) (start mid new : X) (piece : List ℕ) (unread : ℕ) (left0 left1 left2 taken0 taken1 taken2 : Option (List ℕ))
+      → (s : HasServed R kept start mid unread left0 left1 taken0 taken1) → Consumes left1 left2 piece
+      → ((rest : List ℕ) → NoFeed rest → kept ≡ take KEPT_BYTES rest → BreaksPiece R rest piece mid new taken1 taken2)
+      → BreaksInput R start new left0 left2 taken0 taken2
+  BrokenRun-piece kept start mid new piece unread left0 left1 left2 taken0 taken1 taken2 s read breaks =
+      let broken = breaks s.fed.now s.fed.cut.open_rest s.fed.kept_is in
+      let cut = Cut-append s.bytes broken.done s.fed.parts broken.parts s.fed.now [] s.fed.cut broken.cut in
+      let says = lines-Cut (s.bytes ++ broken.done) (s.fed.parts ++ broken.parts) [] cut ∙ append-nil (map strip_carriage_return (s.fed.parts ++ broken.parts)) in record {
+        done = s.bytes ++ broken.done;
+        undone = broken.undone;
+        text = s.fed.text ++ broken.text;
+        answered = subst (λ ls. AnswersAll R start ls (s.fed.text ++ broken.text) new) (sym says)
+            (answers-parts start mid new s.fed.text broken.text s.fed.parts broken.parts s.fed.answered broken.answered);
+        read = subst (λ b. Consumes left0 left2 b) (ap (λ p. s.bytes ++ p) broken.front ∙ sym (append_assoc s.bytes broken.done broken.undone))
+            (Consumes-trans left0 left1 left2 s.bytes piece s.read read);
+        wrote = WritesFront-after taken0 taken1 taken2 s.fed.text broken.text s.fed.wrote broken.wrote;
+      }

@@ -1,0 +1,15 @@
+use Rattle.std.proofs.Common.{◌≡◌, ◌<◌, true, false, length}
+use Rattle.lines_core.specs.Serving.{HasServed}
+use Rattle.lines_core.proofs.serving.serve_lines.Given as goal
+
+abbrev pub invariant-loop-unread : goal.invariant-loop-unread
+invariant-loop-unread g l = record {
+  source : g.S.Source.failed l.reader ≡ false;
+  sink : g.W.Sink.failed l.writer ≡ false;
+  flushed : g.W.Sink.flushed l.initial.writer ≡ true → g.W.Sink.flushed l.writer ≡ true;
+  room : 0 < length l.buffer;
+  serving : HasServed g.D.LineServer.answers l.line l.initial.server l.server l.unread (g.S.Source.left l.initial.reader) (g.S.Source.left l.reader) (g.W.Sink.taken l.initial.writer) (g.W.Sink.taken l.writer);
+}
+
+abbrev pub decreases-loop-unread : goal.decreases-loop-unread
+decreases-loop-unread g l = l.unread

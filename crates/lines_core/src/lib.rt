@@ -1,0 +1,37 @@
+//! Lines from a reader, answered to a writer.
+//!
+//! A [`LineServer`] is whatever answers lines: its `answers` says, of a state, a line, a text and a next state,
+//! whether the text may be written for the line and the state may be the next. [`serve`] has it answer the
+//! lines of an input, one after another, and hands each answer to the writer before it looks at the next
+//! line.
+//!
+//! The one contract is over bytes: what was written is answers to the lines of what was read, one after
+//! another, from the state that the server was in to the one that it is in then (`specs/Serving.antt`, the
+//! relation `Ends`, by the five ways in which it may end). A line is what std's `lines` says: it ends at a line
+//! feed, one carriage return before that is dropped, and a last line counts if it has a byte.
+//!
+//! ```text
+//! let mut server = Echo { over: false };                            // an impl of LineServer
+//! serve(alloc, &mut server, &mut reader, &mut writer)?;             // a, then b: a answered, then b
+//! ```
+//!
+//! # Mechanism
+//!
+//! The input comes in pieces of at most 65,536 bytes, which are cut at line feeds. What is kept between two
+//! pieces is the front of the line that has begun, of which no more is kept than an answer can depend on:
+//! the longest line, a carriage return, and one byte that makes it too long. For that a server has to answer
+//! all lines that are too long alike (`too_long`).
+//!
+//! # Cost
+//!
+//! A line costs its bytes once, and its answer. The memory, a buffer and the front of a line, is taken before
+//! the first read. What is answered to the lines of one piece is flushed at its end.
+#![tactic(auto)]
+
+mod line;
+mod serving;
+
+pub use serving::{LineServer, MOST_BYTES, SessionFault, serve};
+
+#[cfg(test)]
+mod tests;

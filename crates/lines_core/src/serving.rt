@@ -1,0 +1,208 @@
+//! Lines from a reader, and answers to a writer.
+ghost use Rattle.std.specs.Prelude.{◌≡◌, ◌≤◌, ◌<◌, ◌↔◌, ◌⊎◌, ◌^◌, ℕ, List, [], Bool, true, false, take, length, IfOk, OnOk, OnErr, MatchResult, IsErrOf, IsOk};
+ghost use Rattle.std.specs.Io.KnownBytes.{Consumes, Keeps, IsAtEnd};
+ghost use Rattle.lexer_core.specs.declared.lexer.TheConstants.{MAX_LINE};
+ghost use Rattle.lines_core.specs.declared.line.TheConstants.{KEPT_BYTES};
+ghost use Rattle.lines_core.specs.Lines.{NoFeed};
+ghost use Rattle.lines_core.specs.Serving.{WritesAnswer, BreaksAnswer, AnswersPiece, BreaksPiece, Ends};
+
+use crate::line::{Line, without_carriage_return};
+use base_core::{Broken, Sink, Source};
+use memchr::memchr;
+use std::alloc::{AllocError, Global};
+use thiserror::Error;
+
+/// Why the answering of lines ended before the input did.
+#[derive(Clone, Copy, Debug, PartialEq, Eq, Error)]
+pub enum SessionFault {
+    #[error("read fault")]
+    Read,
+    #[error("write fault")]
+    Write,
+    #[error("bound reached")]
+    Bound,
+    #[error("no memory")]
+    NoMemory,
+}
+
+/// The most bytes that are read.
+pub const MOST_BYTES: u64 = 1 << 32;
+
+const BUFFER_BYTES: usize = 65536;
+
+const LINE_FEED: u8 = b'\n';
+
+/// What answers lines.
+pub trait LineServer {
+    // From the first state these bytes may be written for the line, and the second state is the next.
+    ghost answers: { Self → List ℕ → List ℕ → Self → Type 0 };
+    // No line is wanted any more.
+    ghost over: { Self → Bool };
+
+    /// Whether no line is wanted any more.
+    fn is_over(&self) -> bool
+        ensures { result ≡ over self.now };
+
+    /// Answers one line, which comes without its line feed and without one carriage return before
+    /// that, and of a line that is too long a front that is too long. On an `Err` the writer failed,
+    /// and a front of an answer was written.
+    fn answer<W: Sink>(&mut self, writer: &mut W, line: &[u8]) -> Result<(), Broken>
+        requires { W.failed writer.old ≡ false }
+        ensures failed { MatchResult result (λ _. W.failed writer.new ≡ false) (λ _. W.failed writer.new ≡ true) }
+        ensures ok { OnOk result (WritesAnswer answers line.now self.old self.new (W.taken writer.old) (W.taken writer.new)) }
+        ensures err { OnErr result (BreaksAnswer answers line.now self.old self.new (W.taken writer.old) (W.taken writer.new)) };
+
+    // Lines that are too long are answered alike.
+    ghost too_long: { (old new : Self) (line other text : List ℕ) → MAX_LINE < length line → MAX_LINE < length other →
+        answers old line text new → answers old other text new };
+}
+
+/// Hands on what was written, where nothing is kept of a line: so it is after a line has ended.
+fn flush_between_lines<W: Sink>(line: &Line, writer: &mut W) -> Result<(), Broken>
+    requires { W.failed writer.old ≡ false }
+    ensures failed { MatchResult result (λ _. W.failed writer.new ≡ false) (λ _. W.failed writer.new ≡ true) }
+    ensures taken { Keeps (W.taken writer.old) (W.taken writer.new) }
+    ensures flushed { OnOk result ((line.now ≡ []) ⊎ (W.flushed writer.old ≡ true)
+        → W.flushed writer.new ≡ true) }
+    ensures err { OnErr result (line.now ≡ []) }
+{
+    if line.as_slice().is_empty() {
+        return writer.flush();
+    }
+    Ok(())
+}
+
+/// Answers each line that ends in the piece, and keeps the front of what comes after the last.
+fn feed<D: LineServer, W: Sink>(
+    server: &mut D,
+    line: &mut Line,
+    writer: &mut W,
+    piece: &[u8],
+) -> Result<(), Broken>
+    requires { W.failed writer.old ≡ false }
+    ensures failed { MatchResult result (λ _. W.failed writer.new ≡ false) (λ _. W.failed writer.new ≡ true) }
+    ensures ok { OnOk result ((rest : List ℕ) → NoFeed rest → line.old ≡ take KEPT_BYTES rest →
+        AnswersPiece D.answers rest piece.now line.new server.old server.new (W.taken writer.old) (W.taken writer.new)) }
+    ensures err { OnErr result ((rest : List ℕ) → NoFeed rest → line.old ≡ take KEPT_BYTES rest →
+        BreaksPiece D.answers rest piece.now server.old server.new (W.taken writer.old) (W.taken writer.new)) }
+    ensures flushed { W.flushed writer.old ≡ true → OnOk result (W.flushed writer.new ≡ true) }
+{
+    let mut left = piece;
+    while let Some(end) = memchr(LINE_FEED, left) {
+        let (front, behind) = left.split_at(end);
+        line.extend(front);
+        server.answer(writer, without_carriage_return(line.as_slice()))?;
+        line.clear();
+        left = &behind[1..];
+    }
+    flush_between_lines(line, writer)?;
+    line.extend(left);
+    Ok(())
+}
+
+/// Reads at most `most` bytes to the front of the buffer.
+fn read_up_to<S: Source>(reader: &mut S, buffer: &mut [u8], most: usize) -> Result<usize, Broken>
+    requires failed { S.failed reader.old ≡ false }
+    requires room { (0 < most) × (most ≤ length buffer.old) }
+    ensures failed { MatchResult result (λ _. S.failed reader.new ≡ false) (λ _. S.failed reader.new ≡ true) }
+    ensures count { IfOk result (λ n. n ≤ most) }
+    ensures ok { IfOk result (λ n. Consumes (S.left reader.old) (S.left reader.new) (take n buffer.new)) }
+    ensures end { IfOk result (λ n. n ≡ 0 → IsAtEnd (S.left reader.new)) }
+    ensures err { OnErr result (Keeps (S.left reader.old) (S.left reader.new)) }
+{
+    reader.read(&mut buffer[..most])
+}
+
+/// Answers the last line, if it has a byte.
+fn finish<D: LineServer, W: Sink>(server: &mut D, line: &Line, writer: &mut W) -> Result<(), Broken>
+    requires { W.failed writer.old ≡ false }
+    ensures failed { MatchResult result (λ _. W.failed writer.new ≡ false) (λ _. W.failed writer.new ≡ true) }
+    ensures empty { length line.now ≡ 0 → OnOk result ((server.new ≡ server.old) × Keeps (W.taken writer.old) (W.taken writer.new)) × IsOk result }
+    ensures ok { 0 < length line.now → OnOk result (WritesAnswer D.answers line.now server.old server.new (W.taken writer.old) (W.taken writer.new)) }
+    ensures err { OnErr result ((0 < length line.now) × BreaksAnswer D.answers line.now server.old server.new (W.taken writer.old) (W.taken writer.new)) }
+    ensures flushed { W.flushed writer.old ≡ true → OnOk result (W.flushed writer.new ≡ true) }
+{
+    let bytes = line.as_slice();
+    if bytes.is_empty() {
+        return Ok(());
+    }
+    server.answer(writer, bytes)?;
+    writer.flush()
+}
+
+/// Reads to the end and answers each line, from a line with nothing in it.
+fn serve_lines<D: LineServer, S: Source, W: Sink>(
+    server: &mut D,
+    line: &mut Line,
+    buffer: &mut [u8],
+    reader: &mut S,
+    writer: &mut W,
+) -> Result<(), SessionFault>
+    requires source { S.failed reader.old ≡ false }
+    requires sink { W.failed writer.old ≡ false }
+    requires start { (line.old ≡ []) × (0 < length buffer.old) }
+    ensures read { IsErrOf result SessionFault.Read ↔ (S.failed reader.new ≡ true) }
+    ensures write { IsErrOf result SessionFault.Write ↔ (W.failed writer.new ≡ true) }
+    ensures memory { IsErrOf result SessionFault.NoMemory → ⊥ }
+    ensures flushed { W.flushed writer.old ≡ true → W.failed writer.new ≡ false
+        → W.flushed writer.new ≡ true }
+    ensures ends { Ends D.answers D.over result server.old server.new (S.left reader.old) (S.left reader.new) (W.taken writer.old) (W.taken writer.new) }
+{
+    let mut unread = MOST_BYTES;
+    while unread > 0 {
+        let most = unread.min(buffer.len() as u64) as usize;
+        let Ok(n) = read_up_to(reader, buffer, most) else {
+            return Err(SessionFault::Read);
+        };
+        if n == 0 {
+            return match finish(server, line, writer) {
+                Ok(()) => Ok(()),
+                Err(Broken) => Err(SessionFault::Write),
+            };
+        }
+        let Ok(()) = feed(server, line, writer, &buffer[..n]) else {
+            return Err(SessionFault::Write);
+        };
+        if server.is_over() {
+            return Ok(());
+        }
+        unread -= n as u64;
+    }
+    Err(SessionFault::Bound)
+}
+
+/// Room for a piece of the input.
+fn new_buffer(alloc: Global) -> Result<Vec<u8>, AllocError>
+    ensures { IfOk result (λ buffer. 0 < length buffer.items) }
+{
+    vec![in alloc; 0; BUFFER_BYTES]
+}
+
+/// Answers the lines that the reader gives, one by one, until its end or until the server is over.
+///
+/// It reads at most 65,536 bytes at a time. `Read` and `Write` are answered exactly where the reader
+/// or the writer has failed, `Bound` where 2^32 bytes were read and the end had not come, and
+/// `NoMemory` before the first read. On `Read` and `Bound` the lines whose line feed has come were
+/// answered. What was written is handed on before each further read, and at the end.
+pub fn serve<D: LineServer, S: Source, W: Sink>(
+    alloc: Global,
+    server: &mut D,
+    reader: &mut S,
+    writer: &mut W,
+) -> Result<(), SessionFault>
+    requires source { S.failed reader.old ≡ false }
+    requires sink { W.failed writer.old ≡ false }
+    ensures read { IsErrOf result SessionFault.Read ↔ (S.failed reader.new ≡ true) }
+    ensures write { IsErrOf result SessionFault.Write ↔ (W.failed writer.new ≡ true) }
+    ensures flushed { W.flushed writer.old ≡ true → W.failed writer.new ≡ false
+        → W.flushed writer.new ≡ true }
+    ensures ends { Ends D.answers D.over result server.old server.new (S.left reader.old) (S.left reader.new) (W.taken writer.old) (W.taken writer.new) }
+{
+    let Ok(mut buffer) = new_buffer(alloc) else {
+        return Err(SessionFault::NoMemory);
+    };
+    let Ok(mut line) = Line::new(alloc) else {
+        return Err(SessionFault::NoMemory);
+    };
+    serve_lines(server, &mut line, buffer.as_mut_slice(), reader, writer)
+}

@@ -1,0 +1,193 @@
+//! The journal of accepted changes, with the tables and rights that it makes.
+ghost use Rattle.std.specs.Prelude.{◌≡◌, ◌+◌, ◌<◌, ◌≤◌, ◌^◌, ◌++◌, ◌∷◌, [], true, length, map, Ok, Some, option_map, IsSome, IfOk, OnOk, OnErr};
+ghost use Rattle.tables_core.specs.Contents.{selected_rows, table_of};
+ghost use Rattle.grants_core.specs.History.{in_force_after};
+ghost use Rattle.monitor_core.specs.Verdict.{columns_of, is_change, allowed_by};
+ghost use Rattle.capture_core.specs.Image.{row_total};
+ghost use Rattle.system_core.specs.Journal.{IsLawful, verdict_at, contents, changes, rights_at};
+ghost use Rattle.system_core.specs.Step.{columns_given};
+ghost use Rattle.system_core.specs.Standing.{AgreeOn};
+
+use crate::machine::carry::carry_out;
+use crate::machine::change::changes_of;
+use crate::machine::event::Entry;
+use base_core::{Column, Condition, Distinct, Lack, Limits, Moment, Name, NoMemory, Row, User};
+use grants_core::{Authority, Change, Replay, audit};
+use monitor_core::{Allowed, columns_of, judge};
+use reader_core::{MAX_ITEMS, Statement};
+use std::alloc::{AllocError, Global};
+use std::marker::Model;
+use tables_core::Tables;
+
+/// Accepted changes, and what they make. Contracts see the journal, and the limits that it is judged by.
+#[derive(Drop)]
+pub struct Ledger {
+    alloc: Global,
+    limits: Limits,
+    journal: Vec<Entry>,
+    tables: Tables,
+    rights: Replay,
+}
+
+impl Model for Ledger {
+    ghost use Rattle.system_core.specs.Standing.{Accepted, KeepsJournal};
+
+    ghost Value = { Accepted };
+
+    ghost view = { λ l. record { journal = l.journal.items; limits = l.limits } };
+
+    ghost invariant = { λ l. KeepsJournal l.limits l.journal.items l.tables l.rights };
+}
+
+fn names_of(alloc: Global, columns: &[Column]) -> Result<Vec<Name>, AllocError>
+    ensures { IfOk result (λ names. names.items ≡ map (λ c. c.name) columns.now) }
+{
+    columns.iter().map(|column| column.name).collect(alloc)
+}
+
+/// The rows of a table that the filter chooses, cut to the columns listed, or with no list to all.
+fn rows_of(
+    alloc: Global,
+    tables: &Tables,
+    list: &Option<Distinct<Name, MAX_ITEMS>>,
+    table: &Name,
+    filter: &[Condition],
+) -> Result<Vec<Row>, NoMemory>
+    requires { IsSome (table_of tables.now table.now) }
+    ensures { IfOk result (λ rows. option_map (selected_rows (columns_given (columns_of tables.now table.now) list.now) filter.now) (table_of tables.now table.now) ≡ Some rows.items) }
+{
+    match list {
+        Some(names) => tables.select(table, names.as_slice(), filter),
+        None => {
+            let names = names_of(alloc, columns_of(tables, *table))?;
+            tables.select(table, &names, filter)
+        }
+    }
+}
+
+fn count(journal: &[Entry]) -> u64
+    ensures { result ≡ length journal.now }
+{
+    journal.len() as u64
+}
+
+impl Ledger {
+    /// Nothing entered. It takes no memory.
+    pub fn new(alloc: Global, limits: Limits) -> Ledger
+        ensures { result ≡ record { journal = []; limits = limits } }
+    {
+        Ledger {
+            alloc,
+            limits,
+            journal: Vec::new(alloc),
+            tables: Tables::new(alloc),
+            rights: Replay::new(alloc),
+        }
+    }
+
+    /// The limits that its changes are judged by.
+    pub fn limits(&self) -> &Limits
+        ensures { result.now ≡ self.now.limits }
+    {
+        &self.limits
+    }
+
+    /// The number of accepted changes.
+    pub fn moment(&self) -> Moment
+        ensures moment { result.0 ≡ length self.now.journal }
+        ensures few { result.0 < 2 ^ 62 }
+    {
+        let _ = &self.tables;
+        Moment(count(&self.journal))
+    }
+
+    /// The accepted changes, in order.
+    pub fn journal(&self) -> &[Entry]
+        ensures journal { result.now ≡ self.now.journal }
+        ensures lawful { IsLawful self.now.limits self.now.journal }
+        ensures few { length self.now.journal ≤ self.now.limits.changes }
+    {
+        self.journal.as_slice()
+    }
+
+    /// The tables that the journal makes.
+    pub fn tables(&self) -> &Tables
+        ensures tables { result.now ≡ contents self.now.journal }
+        ensures few { row_total (contents self.now.journal) < 2 ^ 62 }
+    {
+        &self.tables
+    }
+
+    /// The rights that the journal makes, but for owners of names that are no tables.
+    pub fn rights(&self) -> &Replay
+        ensures rights { AgreeOn (contents self.now.journal) result.now (rights_at self.now.journal) }
+        ensures lawful { IsLawful self.now.limits self.now.journal }
+        ensures few { length (rights_at self.now.journal).in_force < 2 ^ 62 }
+    {
+        &self.rights
+    }
+
+    /// The accepted changes, each as what it changes of rights. `NoMemory` where a request for memory
+    /// was refused.
+    pub fn changes(&self) -> Result<Vec<Change>, NoMemory>
+        ensures { IfOk result (λ found. found.items ≡ changes self.now.journal) }
+    {
+        changes_of(self.alloc, &self.tables, self.journal.as_slice())
+    }
+
+    /// How many grants are in force, if they are exactly those that a replay of the journal leaves in
+    /// force, and else None. They always are. `NoMemory` where a request for memory was refused.
+    pub fn audit(&self) -> Result<Option<usize>, NoMemory>
+        ensures { IfOk result (λ found. found ≡ Some (length (in_force_after (changes self.now.journal)))) }
+    {
+        let changes = self.changes()?;
+        let live = self.rights.live()?;
+        let same = audit(self.alloc, &changes, &live)?;
+        Ok(if same { Some(live.len()) } else { None })
+    }
+
+    /// The verdict of the monitor at the journal.
+    pub fn judged(&self, user: &User, statement: &Statement) -> Result<Allowed, Lack>
+        ensures { result ≡ allowed_by (verdict_at self.now.limits self.now.journal user.now statement.now) statement.now }
+    {
+        let moment = Moment(count(&self.journal));
+        let (tables, rights) = (&self.tables, &self.rights);
+        judge(tables, rights, &self.limits, *user, statement, moment)
+    }
+
+    /// Carries out an allowed change, and enters it. `NoMemory` where a request for memory was refused:
+    /// then nothing has changed.
+    pub fn change(&mut self, entry: Entry) -> Result<(), NoMemory>
+        requires allowed { verdict_at self.old.limits self.old.journal entry.user entry.statement ≡ Ok tt }
+        requires change { is_change entry.statement ≡ true }
+        ensures ok { OnOk result (self.new ≡ record self.old { journal = self.old.journal ++ entry ∷ [] }) }
+        ensures err { OnErr result (self.new ≡ self.old) }
+    {
+        self.journal.reserve(1)?;
+        let moment = count(&self.journal);
+        carry_out(
+            self.alloc,
+            &mut self.tables,
+            &mut self.rights,
+            moment,
+            entry.user,
+            &entry.statement,
+        )?;
+        self.journal.push_reserved(entry);
+        Ok(())
+    }
+
+    /// The rows that answer a query of a table that stands. `NoMemory` where a request for memory was
+    /// refused.
+    pub fn select(
+        &self,
+        list: &Option<Distinct<Name, MAX_ITEMS>>,
+        table: &Name,
+        filter: &[Condition],
+    ) -> Result<Vec<Row>, NoMemory>
+        requires { IsSome (table_of (contents self.now.journal) table.now) }
+        ensures { IfOk result (λ rows. option_map (selected_rows (columns_given (columns_of (contents self.now.journal) table.now) list.now) filter.now) (table_of (contents self.now.journal) table.now) ≡ Some rows.items) }
+    {
+        rows_of(self.alloc, &self.tables, list, table, filter)
+    }
+}

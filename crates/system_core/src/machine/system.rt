@@ -1,0 +1,305 @@
+//! The core: one event after another, each a step of the machine.
+ghost use Rattle.std.specs.Prelude.{ℕ, ◌≡◌, ◌<◌, ◌≤◌, ◌++◌, ◌∷◌, [], true, false, length, Ok, Some, IsSome, IfOk, MatchResult};
+ghost use Rattle.base_core.specs.Full.{IsFull};
+ghost use Rattle.grants_core.specs.History.{in_force_after};
+ghost use Rattle.monitor_core.specs.Verdict.{first_lack, is_change};
+ghost use Rattle.tables_core.specs.Contents.{table_of};
+ghost use Rattle.reader_core.specs.declared.statement.Statement.TheVariants as statements;
+ghost use Rattle.system_core.specs.Journal.{verdict_at, contents, changes};
+ghost use Rattle.system_core.specs.World.{opening, entry, moment_of, IsLawfulWorld};
+ghost use Rattle.system_core.specs.Judging.{checkpoint_checks, verdict_of};
+ghost use Rattle.system_core.specs.Step.{lack_reply, CarriesOut, Responds, Advances, GivesUp, Step, Run, IsRunOfSome};
+
+use crate::machine::checkpoints::{judged_at, listed, may_export};
+use crate::machine::event::{Entry, Event, Reply};
+use crate::machine::ledger::Ledger;
+use base_core::{Condition, Distinct, Lack, Limits, Moment, Name, NoMemory, Sequence, User};
+use capture_core::{Capture, Progress};
+use catalogue_core::Catalogue;
+use export_core::Ticket;
+use grants_core::Change;
+use reader_core::{MAX_ITEMS, Statement};
+use std::alloc::{AllocError, Global};
+use std::marker::Model;
+
+/// The core. Contracts see the world that it stands for: the journal of accepted changes, the
+/// checkpoints, the chunk, and the limits.
+#[derive(Drop)]
+pub struct System {
+    alloc: Global,
+    chunk: usize,
+    ledger: Ledger,
+    capture: Capture,
+    catalogue: Catalogue,
+}
+
+impl Model for System {
+    ghost use Rattle.system_core.specs.World.{World};
+    ghost use Rattle.system_core.specs.Standing.{world_of, KeepsCheckpoints};
+
+    ghost Value = { World };
+
+    ghost view = { λ s. world_of s.chunk s.ledger s.capture s.catalogue };
+
+    ghost invariant = { λ s. KeepsCheckpoints s.chunk s.ledger s.capture s.catalogue };
+}
+
+fn turn_away(at: Moment, lack: Lack) -> Reply
+    ensures { result ≡ lack_reply at lack }
+{
+    if lack.is_denial() {
+        Reply::Denied { at, lack }
+    } else {
+        Reply::Refused { at, lack }
+    }
+}
+
+fn no_memory(at: Moment) -> Reply
+    ensures { result ≡ Reply.Refused at Lack.NoMemory }
+{
+    Reply::Refused {
+        at,
+        lack: Lack::NoMemory,
+    }
+}
+
+impl System {
+    /// Nothing entered, with full limits. The chunk is the number of records that a step of the
+    /// checkpointer takes, from 1 to 64. `NoMemory` where a request for memory was refused.
+    pub fn new(alloc: Global, chunk: usize) -> Result<System, NoMemory>
+        requires some { 0 < chunk }
+        requires small { chunk ≤ 64 }
+        ensures { IfOk result (λ s. IsFull s.limits × (s ≡ opening chunk s.limits)) }
+    {
+        System::with_limits(alloc, chunk, Limits::full())
+    }
+
+    /// The same with these limits.
+    pub fn with_limits(alloc: Global, chunk: usize, limits: Limits) -> Result<System, NoMemory>
+        requires some { 0 < chunk }
+        requires small { chunk ≤ 64 }
+        ensures { IfOk result (λ s. s ≡ opening chunk limits) }
+    {
+        let catalogue = Catalogue::new(alloc)?;
+        Ok(System {
+            alloc,
+            chunk,
+            ledger: Ledger::new(alloc, limits),
+            capture: Capture::new(alloc),
+            catalogue,
+        })
+    }
+
+    /// The number of accepted changes.
+    pub fn moment(&self) -> Moment
+        ensures { result ≡ moment_of self.now }
+    {
+        self.ledger.moment()
+    }
+
+    /// The accepted changes, in order: entry m, counted from 1, made moment m. Each was allowed at
+    /// the journal before it, and the checkpoints are as those of a world are.
+    pub fn journal(&self) -> &[Entry]
+        ensures journal { result.now ≡ self.now.journal }
+        ensures lawful { IsLawfulWorld self.now }
+    {
+        self.ledger.journal()
+    }
+
+    /// The accepted changes, each as what it changes of rights: the privileges of GRANT and REVOKE as
+    /// atoms in the order written, UPDATE without columns as that of every column that the table then
+    /// had. `NoMemory` where a request for memory was refused.
+    pub fn changes(&self) -> Result<Vec<Change>, NoMemory>
+        ensures { IfOk result (λ found. found.items ≡ changes self.now.journal) }
+    {
+        self.ledger.changes()
+    }
+
+    /// How many grants are in force, if they are exactly those that a replay of the journal leaves in
+    /// force, and else None. They always are. `NoMemory` where a request for memory was refused.
+    pub fn audit(&self) -> Result<Option<usize>, NoMemory>
+        ensures { IfOk result (λ found. found ≡ Some (length (in_force_after (changes self.now.journal)))) }
+    {
+        self.ledger.audit()
+    }
+
+    /// Carries out an allowed change.
+    fn change(&mut self, entry: Entry) -> Reply
+        requires allowed { verdict_at self.old.limits self.old.journal entry.user entry.statement ≡ Ok tt }
+        requires change { is_change entry.statement ≡ true }
+        ensures { CarriesOut self.old entry result self.new }
+    {
+        let at = self.ledger.moment();
+        match self.ledger.change(entry) {
+            Ok(()) => Reply::Done {
+                at: Moment(at.0 + 1),
+            },
+            Err(NoMemory) => no_memory(at),
+        }
+    }
+
+    /// Answers a query of a table that stands.
+    fn select(
+        &self,
+        list: &Option<Distinct<Name, MAX_ITEMS>>,
+        table: &Name,
+        filter: &[Condition],
+    ) -> Reply
+        requires { IsSome (table_of (contents self.now.journal) table.now) }
+        ensures { (pass : ℕ) (user : User) → CarriesOut self.now (entry pass user (statements.Select list.now table.now filter.now)) result self.now }
+    {
+        let at = self.ledger.moment();
+        match self.ledger.select(list, table, filter) {
+            Ok(rows) => Reply::Rows {
+                at,
+                rows: Sequence::from_vec(rows),
+            },
+            Err(NoMemory) => no_memory(at),
+        }
+    }
+
+    /// Lists the checkpoints.
+    fn list(&self) -> Reply
+        ensures { (pass : ℕ) (user : User) → CarriesOut self.now (entry pass user statements.Checkpoints) result self.now }
+    {
+        let at = self.ledger.moment();
+        match listed(self.alloc, &self.catalogue, &self.capture) {
+            Ok(entries) => Reply::Listed { at, entries },
+            Err(NoMemory) => no_memory(at),
+        }
+    }
+
+    /// Begins a checkpoint, where none is active and there is room for one more.
+    fn begin(&mut self) -> Reply
+        ensures { (pass : ℕ) (user : User) → Responds self.old (entry pass user statements.Checkpoint) (first_lack (checkpoint_checks self.old user statements.Checkpoint)) result self.new }
+    {
+        let at = self.ledger.moment();
+        let limit = self.ledger.limits().checkpoints;
+        let (tables, rights) = (self.ledger.tables(), self.ledger.rights());
+        let number = match self.capture.begin(tables, rights, at, limit) {
+            Ok(number) => number,
+            Err(lack) => return turn_away(at, lack),
+        };
+        Reply::Begun { number, at }
+    }
+
+    /// Issues an export, where its checkpoint is kept and, of one table alone, that may be exported. A
+    /// table of which it is to be has to stand now.
+    fn export(&self, user: User, number: u64, only: Option<Name>) -> Reply
+        requires { verdict_at self.now.limits self.now.journal user (statements.Export number only) ≡ Ok tt }
+        ensures { (pass : ℕ) → Responds self.now (entry pass user (statements.Export number only)) (first_lack (checkpoint_checks self.now user (statements.Export number only))) result self.now }
+    {
+        let at = self.ledger.moment();
+        let rights = self.ledger.rights();
+        let Some(image) = self.catalogue.find(number) else {
+            return turn_away(at, Lack::NoCheckpoint(number));
+        };
+        if let Err(lack) = may_export(image, rights, &user, &only) {
+            return turn_away(judged_at(image.point, at, &lack), lack);
+        }
+        match Ticket::issue(self.alloc, image, user, rights, only, at) {
+            Ok(ticket) => Reply::Export(ticket),
+            Err(NoMemory) => no_memory(at),
+        }
+    }
+
+    /// Answers what is no change, as the monitor allowed it.
+    fn look(&mut self, entry: &Entry) -> Reply
+        requires allowed { verdict_at self.old.limits self.old.journal entry.now.user entry.now.statement ≡ Ok tt }
+        requires look { is_change entry.now.statement ≡ false }
+        ensures { Responds self.old entry.now (first_lack (checkpoint_checks self.old entry.now.user entry.now.statement)) result self.new }
+    {
+        match &entry.statement {
+            Statement::Select {
+                list,
+                table,
+                filter,
+            } => self.select(list, table, filter.as_slice()),
+            Statement::Checkpoint => self.begin(),
+            Statement::Checkpoints => self.list(),
+            Statement::Export { number, only } => self.export(entry.user, number.get(), *only),
+            _ => unreachable!(),
+        }
+    }
+
+    fn say(&mut self, entry: Entry) -> Reply
+        ensures { Responds self.old entry (verdict_of self.old entry.user entry.statement) result self.new }
+    {
+        match self.ledger.judged(&entry.user, &entry.statement) {
+            Err(lack) => turn_away(self.ledger.moment(), lack),
+            Ok(allowed) => {
+                if allowed.change {
+                    self.change(entry)
+                } else {
+                    self.look(&entry)
+                }
+            }
+        }
+    }
+
+    /// A step of the checkpointer.
+    fn advance(&mut self) -> Reply
+        ensures { Advances self.old self.old.active result self.new }
+    {
+        let Some((number, _, _)) = self.capture.active() else {
+            return Reply::Idle;
+        };
+        let (tables, rights) = (self.ledger.tables(), self.ledger.rights());
+        match self.capture.step(tables, rights, self.chunk) {
+            Ok(Progress::Left(left)) => Reply::Stepped { number, left },
+            Ok(Progress::Done(image)) => {
+                self.catalogue.add(image);
+                Reply::Finished { number }
+            }
+            Ok(Progress::Idle) => Reply::Idle,
+            Err(NoMemory) => no_memory(self.ledger.moment()),
+        }
+    }
+
+    /// Gives the active checkpoint up.
+    fn give_up(&mut self) -> Reply
+        ensures { GivesUp self.old self.old.active result self.new }
+    {
+        let (tables, rights) = (self.ledger.tables(), self.ledger.rights());
+        match self.capture.abandon(tables, rights) {
+            Some(number) => Reply::Abandoned { number },
+            None => Reply::Idle,
+        }
+    }
+
+    /// One event: a step of the machine. What the verdict allows is carried out, and a change is
+    /// entered; else the reply names the first lack, and nothing changes. Want of memory is Refused
+    /// with NoMemory, and changes nothing.
+    pub fn step(&mut self, event: Event) -> Reply
+        ensures { Step self.old event result self.new }
+    {
+        match event {
+            Event::Say {
+                pass,
+                user,
+                statement,
+            } => self.say(Entry {
+                pass,
+                user,
+                statement,
+            }),
+            Event::Step => self.advance(),
+            Event::Abandon => self.give_up(),
+        }
+    }
+
+    /// One step after another. Where there is no memory to note a reply, the events before it were
+    /// done, with these replies, and no later one.
+    pub fn run(&mut self, events: Vec<Event>) -> Result<Vec<Reply>, (NoMemory, Vec<Reply>)>
+        ensures { MatchResult result (λ replies. Run self.old events.items replies.items self.new) (λ e. IsRunOfSome self.old events.items e.1.items self.new) }
+    {
+        let mut replies = Vec::new(self.alloc);
+        for event in events {
+            if let Err(AllocError) = replies.reserve(1) {
+                return Err((NoMemory, replies));
+            }
+            replies.push_reserved(self.step(event));
+        }
+        Ok(replies)
+    }
+}
