@@ -53,5 +53,3 @@ pub use text::Text;
 pub use value::{ColType, Column, Moment, Row, Value};
 pub use word::{MAX_NAME, Word, is_word_byte};
 
-#[cfg(test)]
-mod tests;

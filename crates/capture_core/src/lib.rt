@@ -48,5 +48,3 @@ pub use image::{Image, TableImage};
 pub use laws::images_tell_the_same;
 pub use progress::Progress;
 
-#[cfg(test)]
-mod tests;

@@ -26,5 +26,3 @@ mod catalogue;
 
 pub use catalogue::Catalogue;
 
-#[cfg(test)]
-mod tests;

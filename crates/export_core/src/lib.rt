@@ -60,5 +60,3 @@ pub use record::{Field, write_record};
 pub use rows::write_rows;
 pub use ticket::Ticket;
 
-#[cfg(test)]
-mod tests;

@@ -50,5 +50,3 @@ pub use owners::Owners;
 pub use replay::Replay;
 pub use singles::single_grants;
 
-#[cfg(test)]
-mod tests;

@@ -45,5 +45,3 @@ pub use text::unquoted;
 pub use token::{Kind, Mark, Token};
 pub use word::word_len;
 
-#[cfg(test)]
-mod tests;

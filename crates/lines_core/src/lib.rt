@@ -33,5 +33,3 @@ mod serving;
 
 pub use serving::{LineServer, MOST_BYTES, SessionFault, serve};
 
-#[cfg(test)]
-mod tests;

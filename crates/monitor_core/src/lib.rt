@@ -52,5 +52,3 @@ pub use allowed::Allowed;
 pub use checks::columns_of;
 pub use monitor::judge;
 
-#[cfg(test)]
-mod tests;

@@ -55,5 +55,3 @@ pub use privilege::{MAX_PRIVILEGES, Privilege, Privileges};
 pub use reading::read;
 pub use statement::{MAX_ITEMS, MAX_USERS, Statement};
 
-#[cfg(test)]
-mod tests;

@@ -41,5 +41,3 @@ pub use laws::{look_ups_after_changes, numbers_rise};
 pub use rows::NumberedRow;
 pub use tables::{TableView, Tables};
 
-#[cfg(test)]
-mod tests;

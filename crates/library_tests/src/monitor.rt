@@ -4,9 +4,9 @@
 
 mod nobody;
 
-use crate::{Allowed, judge};
 use base_core::{Atom, ColType, Column, Kind, Lack, Limits, Moment, Name, Sequence, User, What};
 use grants_core::{Authority, Replay};
+use monitor_core::{Allowed, judge};
 use reader_core::read;
 use std::alloc::Global;
 use std::process::Abort;

@@ -2,10 +2,10 @@
 ghost use Rattle.std.specs.Prelude.{◌≡◌};
 ghost use Rattle.capture_core.specs.Image.{row_total};
 
-use crate::{Capture, Image, Progress};
 use base_core::{
     Assignment, Atom, ColType, Column, Kind, Lack, Moment, Name, Row, Sequence, User, Value, What,
 };
+use capture_core::{Capture, Image, Progress};
 use grants_core::{Authority, Replay};
 use std::alloc::Global;
 use std::process::Abort;

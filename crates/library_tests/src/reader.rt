@@ -1,8 +1,6 @@
 //! Lines from outside: statements at the limits, and printed text.
-use crate::printing::{PrintFault, print};
-use crate::reading::read;
-use crate::statement::Statement;
 use base_core::{Name, Several, Twin, Value};
+use reader_core::{PrintFault, Statement, print, read};
 use std::alloc::Global;
 use std::test::Fail;
 

@@ -1,8 +1,8 @@
 //! Records of rows and of numbers.
 ghost use Rattle.base_core.specs.Texts.{IsText};
 
-use crate::{write_record, write_rows};
 use base_core::{NoMemory, Row, Sequence, Text, Value};
+use export_core::{write_record, write_rows};
 use std::alloc::Global;
 use std::test::Fail;
 

@@ -1,7 +1,7 @@
 //! Worked examples, told to a `Replay` and audited from their list of changes. They are about SELECT
 //! on the table t, whose owner is o. Users are named by one letter.
-use crate::{Authority, Change, Replay, audit};
 use base_core::{Atom, Kind, Moment, Name, Sequence, User};
+use grants_core::{Authority, Change, Replay, audit};
 use std::alloc::Global;
 use std::process::Abort;
 use std::test::Fail;

@@ -1,9 +1,6 @@
 //! Tokens and faults from outside.
 
-use crate::fault::{Code, ReadFault};
-use crate::lexer::{MAX_LINE, tokens};
-use crate::text::unquoted;
-use crate::token::{Kind, Mark};
+use lexer_core::{Code, Kind, MAX_LINE, Mark, ReadFault, tokens, unquoted};
 use std::alloc::{AllocError, Global};
 use std::process::Abort;
 use std::test::Fail;

@@ -1,5 +1,5 @@
 //! What no clause says: that calls which take memory succeed, and each generic type at work.
-use crate::{
+use base_core::{
     Broken, Distinct, Limited, Name, Row, Sequence, Several, Sink, Source, StdSink, StdSource,
     Twin, Value, twins_of, write_all,
 };

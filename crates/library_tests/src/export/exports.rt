@@ -1,9 +1,9 @@
 //! Exports of the table t, whose owner is o, to the user u or to o. Names are of one letter.
-use crate::{ExportFault, Ticket};
 use base_core::{
     Atom, Broken, ColType, Column, Kind, Moment, Name, Row, Sequence, Sink, StdSink, User, Value,
 };
 use capture_core::{Image, TableImage};
+use export_core::{ExportFault, Ticket};
 use grants_core::{Authority, Replay};
 use std::alloc::Global;
 use std::io::BufWriter;

@@ -2,9 +2,9 @@
 //! is written when a reader or a writer fails in between.
 ghost use Rattle.std.specs.Prelude.{◌≡◌, false};
 
-use crate::{LineServer, SessionFault, serve};
 use base_core::{Broken, Sink, Source, StdSink, StdSource, write_all};
 use lexer_core::MAX_LINE;
+use lines_core::{LineServer, SessionFault, serve};
 use std::io;
 use std::io::BufWriter;
 use std::test::Fail;

@@ -2,9 +2,9 @@
 ghost use Rattle.std.specs.Prelude.{[]};
 
 use super::{First, Right, lack, tables, user};
-use crate::{Allowed, judge};
 use base_core::{Atom, Lack, Limits, Moment, Name, NoMemory, User};
 use grants_core::{Authority, Grant};
+use monitor_core::{Allowed, judge};
 use reader_core::read;
 use std::alloc::Global;
 use std::test::Fail;

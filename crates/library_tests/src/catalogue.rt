@@ -1,7 +1,7 @@
 //! What no clause says: that the calls which take memory succeed. The example was worked by hand.
-use crate::Catalogue;
 use base_core::{Moment, NoMemory, Sequence};
 use capture_core::Image;
+use catalogue_core::Catalogue;
 use std::alloc::Global;
 use std::sync::Arc;
 use std::test::Fail;

@@ -1,7 +1,7 @@
 //! Faults at places counted by hand from the rules of the language.
-use crate::reading::read;
-use crate::tests::repeated;
+use super::repeated;
 use lexer_core::{Code, ReadFault};
+use reader_core::read;
 use std::alloc::Global;
 use std::process::Abort;
 use std::test::Fail;

@@ -1,11 +1,11 @@
 //! What no clause says: that the calls which take memory succeed, on an example worked by hand.
-use crate::Tables;
 use base_core::{
     Assignment, ColType, Column, Comparison, Condition, Name, Row, Sequence, User, Value,
 };
 use std::alloc::Global;
 use std::process::Abort;
 use std::test::Fail;
+use tables_core::Tables;
 
 fn named(word: &[u8]) -> Result<Name, Fail> {
     let name = Name::read(word).ok_or("no name")?;
