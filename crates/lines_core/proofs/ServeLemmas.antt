@@ -1,7 +1,7 @@
 -- What each step of `serve` does, and what holds at its ends.
-use Rattle.std.proofs.Common.{◌≡◌, ◌≤◌, ◌<◌, ◌-◌, ◌^◌, ℕ, List, [], ◌∷◌, ◌++◌, refl, sym, ap, ◌∙◌, append_assoc, append-nil, map, length, take, arith, subst, Option}
+use Rattle.std.proofs.Common.{◌≡◌, ◌≤◌, ◌<◌, ◌-◌, ◌^◌, ℕ, List, [], ◌∷◌, ◌++◌, refl, sym, ap, ◌∙◌, append_assoc, append-nil, map, length, take, arith, subst, inl, inr, Option}
 use Rattle.std.specs.Str.Lines.{lines, strip_carriage_return}
-use Rattle.std.specs.Io.KnownBytes.{Consumes, Keeps}
+use Rattle.std.specs.Io.KnownBytes.{Consumes, Keeps, IsAtEnd}
 use Rattle.std.proofs.lemmas.List.{map-append, length-append}
 use Rattle.std.proofs.KnownBytes.{Appends-trans, Appends-kept, Consumes-trans, Consumes-kept, Consumes-nil}
 use Rattle.lexer_core.specs.declared.lexer.TheConstants.{MAX_LINE}
@@ -94,12 +94,13 @@ module _ {X : Type 0} (R : X → List ℕ → List ℕ → X → Type 0)
 
   -- The writer failed at the last line.
   pub BrokenRun-last : (kept : List ℕ) (start mid new : X) (unread : ℕ) (left0 left1 left2 taken0 taken1 taken2 : Option (List ℕ))
-      → (s : HasServed R kept start mid unread left0 left1 taken0 taken1) → Consumes left1 left2 [] → 0 < length kept → BreaksAnswer R kept mid new taken1 taken2
+      → (s : HasServed R kept start mid unread left0 left1 taken0 taken1) → Consumes left1 left2 [] → IsAtEnd left2 → 0 < length kept → BreaksAnswer R kept mid new taken1 taken2
       → BreaksInput R start new left0 left2 taken0 taken2
-  BrokenRun-last kept start mid new unread left0 left1 left2 taken0 taken1 taken2 s read some last = record {
+  BrokenRun-last kept start mid new unread left0 left1 left2 taken0 taken1 taken2 s read end some last = record {
     done = s.bytes;
     undone = [];
     text = s.fed.text ++ last.text;
+    line_end = inr (refl, end);
     answered = all_answers s.bytes start mid new s.fed.text last.text s.fed.parts s.fed.now kept s.fed.cut s.fed.kept_is some s.fed.answered last.answered;
     read = Consumes-trans left0 left1 left2 s.bytes [] s.read read;
     wrote = WritesFront-after taken0 taken1 taken2 s.fed.text last.text s.fed.wrote last.wrote;
@@ -117,6 +118,7 @@ module _ {X : Type 0} (R : X → List ℕ → List ℕ → X → Type 0)
         done = s.bytes ++ broken.done;
         undone = broken.undone;
         text = s.fed.text ++ broken.text;
+        line_end = inl (says ∙ sym (whole_lines-Cut (s.bytes ++ broken.done) (s.fed.parts ++ broken.parts) [] cut));
         answered = subst (λ ls. AnswersAll R start ls (s.fed.text ++ broken.text) new) (sym says)
             (answers-parts start mid new s.fed.text broken.text s.fed.parts broken.parts s.fed.answered broken.answered);
         read = subst (λ b. Consumes left0 left2 b) (ap (λ p. s.bytes ++ p) broken.front ∙ sym (append_assoc s.bytes broken.done broken.undone))

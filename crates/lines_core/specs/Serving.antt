@@ -57,10 +57,13 @@ pub record AnswersInput {X : Type 0} (answers : X → List ℕ → List ℕ → 
   pub wrote : Appends taken taken' text
 
 -- The writer failed: what was written is a front of the answers to the lines of a front of what was read.
-pub record BreaksInput {X : Type 0} (answers : X → List ℕ → List ℕ → X → Type 0) (old new : X) (left left' taken taken' : Option (List ℕ)) : Type 0 where
+-- That ends with a line: each of its lines has its line feed, or it is the whole input.
+pub record BreaksInput {X : Type 0} (answers : X → List ℕ → List ℕ → X → Type 0)
+    (old new : X) (left left' taken taken' : Option (List ℕ)) : Type 0 where
   pub done : List ℕ
   pub undone : List ℕ
   pub text : List ℕ
+  pub line_end : (lines done ≡ whole_lines done) ⊎ ((undone ≡ []) × IsAtEnd left')
   pub answered : AnswersAll answers old (lines done) text new
   pub read : Consumes left left' (done ++ undone)
   pub wrote : WritesFront taken taken' text

@@ -183,7 +183,8 @@ fn new_buffer(alloc: Global) -> Result<Vec<u8>, AllocError>
 /// It reads at most 65,536 bytes at a time. `Read` and `Write` are answered exactly where the reader
 /// or the writer has failed, `Bound` where 2^32 bytes were read and the end had not come, and
 /// `NoMemory` before the first read. On `Read` and `Bound` the lines whose line feed has come were
-/// answered. What was written is handed on before each further read, and at the end.
+/// answered. On `Write` what was written is a front of the answers to lines of which the last has its
+/// line feed or ends the input. What was written is handed on before each further read, and at the end.
 pub fn serve<D: LineServer, S: Source, W: Sink>(
     alloc: Global,
     server: &mut D,

@@ -53,6 +53,7 @@ returns-in-Err-clause-ends g c =
     (g.W.Sink.taken c.args.writer.now) (g.W.Sink.taken c.loop-unread.writer) (g.W.Sink.taken c.finish.new.writer)
     c.loop-unread.invariant.serving
     (nothing left1 left2 c.in-Ok.n c.read_up_to.new.buffer c.if-n-eq0.true c.in-Ok.ensures.ok)
+    (c.in-Ok.ensures.end c.if-n-eq0.true)
     c.in-Err.ensures.err.0 c.in-Err.ensures.err.1
 
 pub returns-clause-ends : goal.returns-clause-ends
