@@ -1,18 +1,35 @@
-//! How an audit ends.
-ghost use Rattle.std.specs.Prelude.{◌≡◌, ◌++◌, codes, decimal, IfOk, MatchOption};
+//! How the program ends: what it tells of a fault, and how an audit ends.
+ghost use Rattle.std.specs.Prelude.{◌≡◌, IfOk};
+ghost use Rattle.sysr.specs.Endings.{audit_line, audit_status, fault_text};
 
 use base_core::NoMemory;
 use itoa::Buffer;
+use lines_core::SessionFault;
 use std::alloc::Global;
 
 const AUDIT_FAILED: u8 = 3;
 
-/// The last line of an audit, with its line feed, and the exit status: `audit ok n` and 0 where the rights
-/// in force are those of the journal, with n grants among them; else `audit failed` and 3. `NoMemory`
-/// where a request for memory was refused.
+/// What is told where there was no memory.
+pub const NO_MEMORY: &str = "sysr: no memory";
+
+/// What is told of a fault that ended the answering of lines.
+pub fn fault_text(fault: SessionFault) -> &'static str
+    ensures { result.now ≡ fault_text fault }
+{
+    match fault {
+        SessionFault::Read => "sysr: read fault",
+        SessionFault::Write => "sysr: write fault",
+        SessionFault::Bound => "sysr: bound reached",
+        SessionFault::NoMemory => NO_MEMORY,
+    }
+}
+
+/// The last line of an audit, with its line feed, and the exit status: `audit ok n` and 0 where the
+/// rights in force are those of the journal, with n grants among them; else `audit failed` and 3.
+/// `NoMemory` where a request for memory was refused.
 pub fn audit_end(alloc: Global, found: Option<usize>) -> Result<(Vec<u8>, u8), NoMemory>
-    ensures line { IfOk result (λ end. MatchOption found (end.0.items ≡ codes "audit failed\n") (λ n. end.0.items ≡ codes "audit ok " ++ decimal n ++ codes "\n")) }
-    ensures status { IfOk result (λ end. MatchOption found (end.1 ≡ 3) (λ n. end.1 ≡ 0)) }
+    ensures line { IfOk result (λ end. end.0.items ≡ audit_line found) }
+    ensures status { IfOk result (λ end. end.1 ≡ audit_status found) }
 {
     let mut line = Vec::new(alloc);
     let Some(grants) = found else {

@@ -3,13 +3,14 @@
 //! Each line is `user: statement`, and what was read is answered before more is read. The exit status is
 //! 0 where the input was read to its end, whatever the replies; 1 where the program itself could not
 //! go on, with the reason on standard error; 2 where the command line was refused; 3 where an audit
-//! failed. Help goes to standard output, with status 0.
+//! failed. Help and the version go to standard output, with status 0.
 //!
 //! What is written for what was read is the contract of [`script`], and what the command line may
 //! say is that of [`options`]; this file joins the two with the streams of the process.
 #![tactic(auto)]
 
 ghost use Rattle.std.specs.Prelude.{◌≡◌, ◌<◌, ◌≤◌, false};
+ghost use Rattle.std.specs.Process.{exit_status};
 
 mod command_line;
 mod ending;
@@ -18,34 +19,26 @@ mod tests;
 
 use base_core::{Broken, Sink, StdSink, StdSource, write_all};
 use command_line::{CommandLine, options};
-use ending::audit_end;
+use ending::{NO_MEMORY, audit_end, fault_text};
+use lines_core::SessionFault;
 use std::io::BufWriter;
 use std::mem::forget;
 use std::process::ExitCode;
 use std::{env, io};
-use system_core::{SessionFault, System, script};
+use system_core::{System, script};
 
 // What is gathered of the output before it is written.
 const OUTPUT_BYTES: usize = 65536;
 
-const NO_MEMORY: &str = "sysr: no memory";
-
-fn fault_text(fault: SessionFault) -> &'static str {
-    match fault {
-        SessionFault::Read => "sysr: read fault",
-        SessionFault::Write => "sysr: write fault",
-        SessionFault::Bound => "sysr: bound reached",
-        SessionFault::NoMemory => NO_MEMORY,
-    }
-}
-
 /// Says why the program could not go on.
-fn give_up(rt: &HostRuntime, text: &str) -> ExitCode {
+fn give_up(rt: &HostRuntime, text: &str) -> ExitCode
+    ensures { exit_status result ≡ 1 }
+{
     let _ = eprintln!(rt; "{text}");
     ExitCode::FAILURE
 }
 
-/// Shows help, or why the command line was refused.
+/// Shows help or the version, or says why the command line was refused.
 fn refuse(rt: &HostRuntime, error: &clap::Error) -> ExitCode {
     if error.kind() == clap::error::ErrorKind::OutOfMemory {
         return give_up(rt, NO_MEMORY);
