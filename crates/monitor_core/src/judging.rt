@@ -1,4 +1,7 @@
-//! The judgement of a statement.
+//! The judge of a statement: a method for each check of `specs/Verdict.antt`, and one for each kind
+//! of statement that makes its checks in their order and answers the first lack. A check of several
+//! names, values or users goes over them in the order written. It borrows what there is and keeps
+//! nothing.
 ghost use Rattle.std.specs.Prelude.{◌≡◌, ℕ, ◌∷◌, [], ◌≤◌, nat_lt, length};
 ghost use Rattle.base_core.specs.declared.name.User.{User};
 ghost use Rattle.base_core.specs.declared.privilege.Kind.TheVariants as kinds;
@@ -6,8 +9,11 @@ ghost use Rattle.reader_core.specs.declared.statement.Statement.TheVariants as s
 ghost use Rattle.monitor_core.specs.Verdict.{verdict, first_lack, holds_privilege, each, column_stands, column_takes, table_stands, table_is_new, with_filter, list_stands, room_for_change, room_for_table, listed_columns_stand, atoms_at, holds_grant_option, made_grant, has_room, room_for_grants};
 ghost use Rattle.monitor_core.specs.Atoms.{to_update, columns_listed};
 
+use crate::atoms::{
+    AtomCheck, HoldsGrantOption, HoldsPrivilege, MadeGrants, RoomForGrants, columns_listed,
+    each_atom, each_update,
+};
 use crate::checks::{Literal, columns_of, each_takes, is_table, require, takes};
-use crate::each::{AtomCheck, columns_listed, each_atom, each_update};
 use base_core::{
     Assignment, Atom, Condition, Distinct, Kind, Lack, Limits, Moment, Name, Named, User, Value,
     What,
@@ -34,68 +40,6 @@ impl<'a, A: Authority> Model for Judge<'a, A> {
     ghost view = { λ j. record { tables = j.tables.now; rights = A.content j.rights.now; limits = j.limits.now; moment = j.moment.0 } };
 }
 
-/// That the user holds an atom.
-#[derive(Drop)]
-struct Held<'a, A: Authority> {
-    judge: &'a Judge<'a, A>,
-    user: User,
-}
-
-impl<'a, A: Authority> AtomCheck for Held<'a, A> {
-    ghost check_of = { λ c atom. holds_privilege c.judge.now c.user atom };
-
-    fn check(&self, atom: Atom) -> Result<(), Lack> {
-        self.judge.may(&self.user, atom)
-    }
-}
-
-/// That the user may grant an atom.
-#[derive(Drop)]
-struct Grantable<'a, A: Authority> {
-    judge: &'a Judge<'a, A>,
-    user: User,
-}
-
-impl<'a, A: Authority> AtomCheck for Grantable<'a, A> {
-    ghost check_of = { λ c atom. holds_grant_option c.judge.now c.user atom };
-
-    fn check(&self, atom: Atom) -> Result<(), Lack> {
-        self.judge.may_grant(&self.user, atom)
-    }
-}
-
-/// That there is room for grants of an atom to each of the users.
-#[derive(Drop)]
-struct Roomy<'a, A: Authority> {
-    judge: &'a Judge<'a, A>,
-    users: &'a [User],
-}
-
-impl<'a, A: Authority> AtomCheck for Roomy<'a, A> {
-    ghost check_of = { λ c atom. room_for_grants c.judge.now c.users.now atom };
-
-    fn check(&self, atom: Atom) -> Result<(), Lack> {
-        let room = self.judge.has_room_for(&atom, self.users.len() as u64);
-        require(room, Lack::Full(What::Grants))
-    }
-}
-
-/// That grants of an atom by the one to each of the users are in force.
-#[derive(Drop)]
-struct Granted<'a, A: Authority> {
-    judge: &'a Judge<'a, A>,
-    by: User,
-    users: &'a [User],
-}
-
-impl<'a, A: Authority> AtomCheck for Granted<'a, A> {
-    ghost check_of = { λ c atom. each c.users.now (made_grant c.judge.now c.by atom) };
-
-    fn check(&self, atom: Atom) -> Result<(), Lack> {
-        self.judge.has_made_each(&self.by, self.users, &atom)
-    }
-}
-
 impl<A: Authority> Judge<'_, A> {
     fn table_stands(&self, table: Name) -> Result<(), Lack>
         ensures { result ≡ table_stands self.now table }
@@ -103,7 +47,7 @@ impl<A: Authority> Judge<'_, A> {
         require(is_table(self.tables, table), Lack::NoTable(table))
     }
 
-    fn may(&self, user: &User, atom: Atom) -> Result<(), Lack>
+    pub fn may(&self, user: &User, atom: Atom) -> Result<(), Lack>
         ensures { result ≡ holds_privilege self.now user.now atom }
     {
         let may = self.rights.holds(*user, &atom);
@@ -124,14 +68,14 @@ impl<A: Authority> Judge<'_, A> {
     fn may_update(&self, user: &User, table: Name, sets: &[Assignment]) -> Result<(), Lack>
         ensures { result ≡ each sets.now (λ a. holds_privilege self.now user.now (to_update table a.column)) }
     {
-        let held = Held {
+        let holds = HoldsPrivilege {
             judge: self,
             user: *user,
         };
-        each_update(&held, table, sets)
+        each_update(&holds, table, sets)
     }
 
-    fn may_grant(&self, user: &User, atom: Atom) -> Result<(), Lack>
+    pub fn may_grant(&self, user: &User, atom: Atom) -> Result<(), Lack>
         ensures { result ≡ holds_grant_option self.now user.now atom }
     {
         let may = self.rights.may_grant(*user, &atom);
@@ -151,7 +95,7 @@ impl<A: Authority> Judge<'_, A> {
         require(made, lack)
     }
 
-    fn has_made_each(&self, by: &User, users: &[User], atom: &Atom) -> Result<(), Lack>
+    pub fn has_made_each(&self, by: &User, users: &[User], atom: &Atom) -> Result<(), Lack>
         ensures { result ≡ each users.now (made_grant self.now by.now atom.now) }
     {
         for to in users {
@@ -163,7 +107,7 @@ impl<A: Authority> Judge<'_, A> {
     }
 
     #[tactic(auto, unfolding(crate::specs::Verdict::has_room))]
-    fn has_room_for(&self, atom: &Atom, more: u64) -> bool
+    pub fn has_room_for(&self, atom: &Atom, more: u64) -> bool
         ensures { result ≡ has_room self.now.rights.in_force atom.now more self.now.limits.grants }
     {
         self.rights.room(atom, more, self.limits.grants)
@@ -345,7 +289,8 @@ impl<A: Authority> Judge<'_, A> {
         self.room_for_change()
     }
 
-    // No `?` in the next two, nor in a loop that names no atom: the toolchain can't build a proof of it.
+    // No `?` in the next two, nor in a loop that names no atom: the toolchain can't build a proof
+    // of it.
     fn grant(
         &self,
         user: &User,
@@ -357,21 +302,21 @@ impl<A: Authority> Judge<'_, A> {
         ensures { result ≡ verdict self.now user.now (statements.Grant privileges.now table users.now option) }
     {
         let user = *user;
-        let grantable = Grantable { judge: self, user };
-        let roomy = Roomy { judge: self, users };
+        let may_grant = HoldsGrantOption { judge: self, user };
+        let room = RoomForGrants { judge: self, users };
         if let Err(lack) = self.table_stands(table) {
             return Err(lack);
         }
         if let Err(lack) = self.listed_stand(table, privileges) {
             return Err(lack);
         }
-        if let Err(lack) = self.each_atom(&grantable, table, privileges) {
+        if let Err(lack) = self.each_atom(&may_grant, table, privileges) {
             return Err(lack);
         }
         if let Err(lack) = self.room_for_change() {
             return Err(lack);
         }
-        self.each_atom(&roomy, table, privileges)
+        self.each_atom(&room, table, privileges)
     }
 
     fn revoke(
@@ -384,7 +329,7 @@ impl<A: Authority> Judge<'_, A> {
         ensures { result ≡ verdict self.now user.now (statements.Revoke privileges.now table users.now) }
     {
         let by = *user;
-        let granted = Granted {
+        let made = MadeGrants {
             judge: self,
             by,
             users,
@@ -395,7 +340,7 @@ impl<A: Authority> Judge<'_, A> {
         if let Err(lack) = self.listed_stand(table, privileges) {
             return Err(lack);
         }
-        if let Err(lack) = self.each_atom(&granted, table, privileges) {
+        if let Err(lack) = self.each_atom(&made, table, privileges) {
             return Err(lack);
         }
         self.room_for_change()

@@ -30,28 +30,28 @@ fn is_change(statement: &Statement) -> bool
 /// these limits.
 ///
 /// `rights` are the owners of the tables and the grants in force. `moment` is the number of changes
-/// accepted so far, `limits.changes` how many there may be; `limits.tables` is how many tables there
-/// may be, and `limits.grants` how many grants of one privilege on one table (of UPDATE: on one column)
-/// may be in force. The checkpoints' limit is not read.
+/// accepted so far, `limits.changes` how many there may be; `limits.tables` is how many tables
+/// there may be, and `limits.grants` how many grants of one privilege on one table (of UPDATE: on
+/// one column) may be in force. The checkpoints' limit is not read.
 ///
-/// The answer is the verdict of `specs/Verdict.antt`: `Ok`, with whether the statement is a change, or
-/// the first of these lacks in the order of the statement's checks.
+/// The answer is the verdict of `specs/Verdict.antt`: `Ok`, with whether the statement is a change,
+/// or the first of these lacks in the order of the statement's checks.
 ///
 /// - `NoTable`: the table named is none. Of every statement but CREATE TABLE, CHECKPOINT and
 ///   CHECKPOINTS; of EXPORT where one table is named.
 /// - `TableExists`: the name of CREATE TABLE is a table's.
-/// - `NoColumn`: the table has no such column: of the list of SELECT, of SET, of WHERE, and of UPDATE
-///   with columns in GRANT and REVOKE.
-/// - `NoPrivilege`: the user neither owns the table nor has a grant in force of what is needed: INSERT,
-///   SELECT, DELETE, or UPDATE of each column of SET, and with WHERE then SELECT.
+/// - `NoColumn`: the table has no such column: of the list of SELECT, of SET, of WHERE, and of
+///   UPDATE with columns in GRANT and REVOKE.
+/// - `NoPrivilege`: the user neither owns the table nor has a grant in force of what is needed:
+///   INSERT, SELECT, DELETE, or UPDATE of each column of SET, and with WHERE then SELECT.
 /// - `NoGrantOption`: GRANT, where he neither owns the table nor has such a grant with the option.
 /// - `NoGrant`: REVOKE, where no grant by him to that user is in force: only who
 ///   granted revokes (Griffiths and Wade 1976).
 /// - `WrongCount`: INSERT with more or fewer values than the table has columns.
 /// - `WrongType`: a column does not take the value that INSERT, SET or WHERE gives for it.
-/// - `Full`: of changes, where as many were accepted as there may be, for a statement that is a change;
-///   of tables, for CREATE TABLE; of grants, where with a grant to each user named there would be too
-///   many of one privilege.
+/// - `Full`: of changes, where as many were accepted as there may be, for a statement that is a
+///   change; of tables, for CREATE TABLE; of grants, where with a grant to each user named there
+///   would be too many of one privilege.
 ///
 /// Nothing is changed, and no memory is taken.
 pub fn judge<A: Authority>(

@@ -1,7 +1,7 @@
 use Rattle.std.proofs.Common.{◌≡◌, drop}
 use Rattle.monitor_core.specs.Verdict.{each}
 use Rattle.monitor_core.specs.Atoms.{atoms_of_one}
-use Rattle.monitor_core.proofs.each.each_privilege.Given as goal
+use Rattle.monitor_core.proofs.atoms.each_privilege.Given as goal
 
 -- all before passed: what is found of the rest is what is found of all
 abbrev pub invariant-loop-privilege : goal.invariant-loop-privilege

@@ -2,7 +2,7 @@ use Rattle.std.proofs.Common.{◌∙◌, sym}
 use Rattle.base_core.specs.declared.value.Column.{Column}
 use Rattle.monitor_core.specs.Atoms.{to_update}
 use Rattle.monitor_core.proofs.Checking.{each-map}
-use Rattle.monitor_core.proofs.each.each_of_one.Goals as goal
+use Rattle.monitor_core.proofs.atoms.each_of_one.Goals as goal
 
 pub returns-in-None : goal.returns-in-None
 returns-in-None g c = rw (c.in-Update.is, c.in-None.is) (c.each_update.ensures ∙ sym (each-map (λ (column : Column). to_update c.args.table column.name) (g.C.AtomCheck.check_of c.args.check.now) c.args.columns.now))

@@ -1,10 +1,16 @@
-//! A check of each atom that privileges name, without a list of them.
+//! The atoms that a statement asks for: the single privileges on a table that its list of
+//! privileges names, and UPDATE alone is the privilege to update each of the table's columns. A
+//! check goes over them in the order written and makes no list of them, so it takes no memory. What
+//! is checked of an atom is an [`AtomCheck`]; the four that GRANT, REVOKE and UPDATE need are here.
 ghost use Rattle.std.specs.Prelude.{◌≡◌};
 ghost use Rattle.base_core.specs.declared.privilege.Atom as atom;
-ghost use Rattle.monitor_core.specs.Verdict.{Check, each};
+ghost use Rattle.monitor_core.specs.Verdict.{Check, each, holds_privilege, holds_grant_option, room_for_grants, made_grant};
 ghost use Rattle.monitor_core.specs.Atoms.{to_update, atoms_of_one, atoms_of, columns_listed};
 
-use base_core::{Atom, Column, Kind, Lack, Name, Named};
+use crate::checks::require;
+use crate::judging::Judge;
+use base_core::{Atom, Column, Kind, Lack, Name, Named, User, What};
+use grants_core::Authority;
 use reader_core::Privilege;
 
 /// The columns that a privilege lists.
@@ -26,6 +32,68 @@ pub trait AtomCheck {
 
     fn check(&self, atom: Atom) -> Result<(), Lack>
         ensures { result ≡ check_of self.now atom };
+}
+
+/// That the user holds an atom.
+#[derive(Drop)]
+pub struct HoldsPrivilege<'a, A: Authority> {
+    pub judge: &'a Judge<'a, A>,
+    pub user: User,
+}
+
+impl<'a, A: Authority> AtomCheck for HoldsPrivilege<'a, A> {
+    ghost check_of = { λ c atom. holds_privilege c.judge.now c.user atom };
+
+    fn check(&self, atom: Atom) -> Result<(), Lack> {
+        self.judge.may(&self.user, atom)
+    }
+}
+
+/// That the user may grant an atom.
+#[derive(Drop)]
+pub struct HoldsGrantOption<'a, A: Authority> {
+    pub judge: &'a Judge<'a, A>,
+    pub user: User,
+}
+
+impl<'a, A: Authority> AtomCheck for HoldsGrantOption<'a, A> {
+    ghost check_of = { λ c atom. holds_grant_option c.judge.now c.user atom };
+
+    fn check(&self, atom: Atom) -> Result<(), Lack> {
+        self.judge.may_grant(&self.user, atom)
+    }
+}
+
+/// That there is room for grants of an atom to each of the users.
+#[derive(Drop)]
+pub struct RoomForGrants<'a, A: Authority> {
+    pub judge: &'a Judge<'a, A>,
+    pub users: &'a [User],
+}
+
+impl<'a, A: Authority> AtomCheck for RoomForGrants<'a, A> {
+    ghost check_of = { λ c atom. room_for_grants c.judge.now c.users.now atom };
+
+    fn check(&self, atom: Atom) -> Result<(), Lack> {
+        let room = self.judge.has_room_for(&atom, self.users.len() as u64);
+        require(room, Lack::Full(What::Grants))
+    }
+}
+
+/// That grants of an atom by the one to each of the users are in force.
+#[derive(Drop)]
+pub struct MadeGrants<'a, A: Authority> {
+    pub judge: &'a Judge<'a, A>,
+    pub by: User,
+    pub users: &'a [User],
+}
+
+impl<'a, A: Authority> AtomCheck for MadeGrants<'a, A> {
+    ghost check_of = { λ c atom. each c.users.now (made_grant c.judge.now c.by atom) };
+
+    fn check(&self, atom: Atom) -> Result<(), Lack> {
+        self.judge.has_made_each(&self.by, self.users, &atom)
+    }
 }
 
 /// Passed where the privilege to update each of the columns passes.
