@@ -39,30 +39,30 @@ fn any_gives(grants: &[Grant], user: &User, atom: &Atom) -> bool
 }
 
 impl Image {
-    fn table(&self, name: &Name) -> Option<&TableImage>
-        ensures { option_copied result ≡ find (λ t. same_name name.now t.name) self.now.tables }
+    fn table(&self, name: Name) -> Option<&TableImage>
+        ensures { option_copied result ≡ find (λ t. same_name name t.name) self.now.tables }
     {
         self.tables
             .as_slice()
             .iter()
-            .find(|table| *name == table.name)
+            .find(|table| name == table.name)
     }
 
     /// Whether a table of this name stood at the point. It takes no memory.
-    pub fn has(&self, name: &Name) -> bool
-        ensures { result ≡ images.has self.now name.now }
+    pub fn has(&self, name: Name) -> bool
+        ensures { result ≡ images.has self.now name }
     {
         self.tables
             .as_slice()
             .iter()
-            .any(|table| *name == table.name)
+            .any(|table| name == table.name)
     }
 
     #[tactic(auto, unfolding(crate::specs::Image::owns_in_image))]
     fn owns(&self, user: &User, atom: &Atom) -> bool
         ensures { result ≡ images.owns_in_image self.now user.now atom.now }
     {
-        match self.table(&atom.table) {
+        match self.table(atom.table) {
             Some(table) => table.owner == *user,
             None => false,
         }

@@ -25,7 +25,7 @@
 //! capture.begin(&tables, &rights, Moment(4), 1_000_000)?;  // 1: t has three rows, nothing was granted
 //! capture.active()                                         // Some((1, Moment(4), 3))
 //! capture.step(&tables, &rights, 2)?;                      // Left(1)
-//! tables.delete(&t, &[]);
+//! tables.delete(t, &[]);
 //! capture.step(&tables, &rights, 2)?;                      // Done: the image, with its three rows
 //! ```
 //!

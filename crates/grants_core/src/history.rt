@@ -15,12 +15,12 @@ fn apply(
     alloc: Global,
     owners: &mut Owners,
     made: &mut Vec<Made>,
-    moment: u64,
+    moment: Moment,
     change: &Change,
 ) -> Result<(), NoMemory>
-    requires { All (λ g. g.moment.0 < moment) (unstruck made.old.items) }
+    requires { All (λ g. g.moment.0 < moment.0) (unstruck made.old.items) }
     ensures owners { OnOk result (owners.new ≡ owners_with owners.old change.now) }
-    ensures unstruck { OnOk result (unstruck made.new.items ≡ filter (λ g. not (is_struck_by moment change.now g)) (unstruck made.old.items) ++ grants_of (length made.old.items) moment change.now) }
+    ensures unstruck { OnOk result (unstruck made.new.items ≡ filter (λ g. not (is_struck_by moment.0 change.now g)) (unstruck made.old.items) ++ grants_of (length made.old.items) moment.0 change.now) }
     ensures made { OnOk result (length made.new.items ≡ length made.old.items + made_by change.now) }
 {
     match change {
@@ -32,7 +32,7 @@ fn apply(
             option,
         } => {
             let (atoms, whom) = (atoms.as_slice(), whom.as_slice());
-            append(alloc, made, by, atoms, whom, *option, Moment(moment))?;
+            append(alloc, made, by, atoms, whom, *option, moment)?;
             owners.mark_granted(atoms);
         }
         Change::Revoke { by, atoms, whom } => {
@@ -52,7 +52,7 @@ fn in_force_after(alloc: Global, changes: &[Change]) -> Result<Vec<Grant>, NoMem
     let mut moment = 0;
     for change in changes {
         moment += 1;
-        apply(alloc, &mut owners, &mut made, moment, change)?;
+        apply(alloc, &mut owners, &mut made, Moment(moment), change)?;
     }
     refold(&owners, &mut made);
     live(alloc, &made)

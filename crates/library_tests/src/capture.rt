@@ -66,7 +66,7 @@ impl State {
     /// A table of this name with the column v INTEGER, owned by o.
     fn create(&mut self, rt: &impl Abort, table: u8) -> Result<(), Fail> {
         let (table, owner) = (name(table)?, user(b'o')?);
-        assert!(rt; self.tables.owner(&table).is_none());
+        assert!(rt; self.tables.owner(table).is_none());
         let column = Column {
             name: name(b'v')?,
             ty: ColType::Integer,
@@ -79,28 +79,28 @@ impl State {
     /// A row of t.
     fn insert(&mut self, rt: &impl Abort, number: i64) -> Result<(), Fail> {
         let t = name(b't')?;
-        assert!(rt; self.tables.owner(&t).is_some());
-        assert!(rt; self.tables.inserted(&t) < 1 << 63);
+        assert!(rt; self.tables.owner(t).is_some());
+        assert!(rt; self.tables.inserted(t) < 1 << 63);
         let values = Sequence::from_vec(vec![in self.alloc; Value::Int(number)]?);
-        self.tables.insert(&t, Row { values })?;
+        self.tables.insert(t, Row { values })?;
         Ok(())
     }
 
     /// Sets v to 9 in each row of t.
     fn update(&mut self, rt: &impl Abort) -> Result<(), Fail> {
         let t = name(b't')?;
-        assert!(rt; self.tables.owner(&t).is_some());
+        assert!(rt; self.tables.owner(t).is_some());
         let nine = [Assignment {
             column: name(b'v')?,
             value: Value::Int(9),
         }];
-        self.tables.update(&t, &nine, &[])?;
+        self.tables.update(t, &nine, &[])?;
         Ok(())
     }
 
     /// Deletes each row of t.
     fn delete(&mut self) -> Result<(), Fail> {
-        self.tables.delete(&name(b't')?, &[]);
+        self.tables.delete(name(b't')?, &[]);
         Ok(())
     }
 
@@ -175,7 +175,7 @@ fn numbers(alloc: Global, image: &Image) -> Result<Vec<i64>, Fail> {
 
 /// Whether t stood in the image, and whether s did.
 fn stood(image: &Image) -> Result<[bool; 2], Fail> {
-    Ok([image.has(&name(b't')?), image.has(&name(b's')?)])
+    Ok([image.has(name(b't')?), image.has(name(b's')?)])
 }
 
 /// Whether o held the atom, and whether u did.

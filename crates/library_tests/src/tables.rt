@@ -13,7 +13,7 @@ fn named(word: &[u8]) -> Result<Name, Fail> {
 }
 
 fn create(rt: &impl Abort, alloc: Global, tables: &mut Tables, name: Name) -> Result<(), Fail> {
-    assert!(rt; tables.owner(&name).is_none());
+    assert!(rt; tables.owner(name).is_none());
     let ty = ColType::Integer;
     let grade = named(b"grade")?;
     let wage = named(b"wage")?;
@@ -26,7 +26,7 @@ fn insert(
     rt: &impl Abort,
     alloc: Global,
     tables: &mut Tables,
-    name: &Name,
+    name: Name,
     (grade, wage): (i64, i64),
 ) -> Result<(), Fail> {
     assert!(rt; tables.owner(name).is_some());
@@ -38,7 +38,7 @@ fn insert(
 }
 
 /// Sets the wage to 0 where it is at least 7 and the grade is not 3.
-fn update(rt: &impl Abort, tables: &mut Tables, name: &Name) -> Result<(), Fail> {
+fn update(rt: &impl Abort, tables: &mut Tables, name: Name) -> Result<(), Fail> {
     assert!(rt; tables.owner(name).is_some());
     let grade = named(b"grade")?;
     let wage = named(b"wage")?;
@@ -64,7 +64,7 @@ fn asks(column: Name, comparison: Comparison, literal: i64) -> Condition {
 }
 
 /// The numbers of the rows, wage before grade.
-fn numbers(rt: &impl Abort, tables: &Tables, name: &Name) -> Result<Vec<i64>, Fail> {
+fn numbers(rt: &impl Abort, tables: &Tables, name: Name) -> Result<Vec<i64>, Fail> {
     assert!(rt; tables.owner(name).is_some());
     let columns = [named(b"wage")?, named(b"grade")?];
     let rows = tables.select(name, &columns, &[])?;
@@ -86,18 +86,18 @@ fn rows_are_changed_in_place(rt: HostRuntime) -> Result<(), Fail> {
     let mut tables = Tables::new(alloc);
     create(&rt, alloc, &mut tables, pay)?;
     for numbers in [(1, i64::MAX), (2, i64::MIN), (3, 7)] {
-        insert(&rt, alloc, &mut tables, &pay, numbers)?;
+        insert(&rt, alloc, &mut tables, pay, numbers)?;
     }
-    update(&rt, &mut tables, &pay)?;
-    let updated = numbers(&rt, &tables, &pay)?;
+    update(&rt, &mut tables, pay)?;
+    let updated = numbers(&rt, &tables, pay)?;
     assert_eq!(rt; updated.as_slice(), [0, 1, i64::MIN, 2, 7, 3].as_slice());
 
     let wage = named(b"wage")?;
-    tables.delete(&pay, &[asks(wage, Comparison::Less, 0)]);
-    insert(&rt, alloc, &mut tables, &pay, (4, 8))?;
-    let left = numbers(&rt, &tables, &pay)?;
+    tables.delete(pay, &[asks(wage, Comparison::Less, 0)]);
+    insert(&rt, alloc, &mut tables, pay, (4, 8))?;
+    let left = numbers(&rt, &tables, pay)?;
     assert_eq!(rt; left.as_slice(), [0, 1, 7, 3, 8, 4].as_slice());
-    assert_eq!(rt; tables.row_count(&pay), 3);
-    assert_eq!(rt; tables.inserted(&pay), 4);
+    assert_eq!(rt; tables.row_count(pay), 3);
+    assert_eq!(rt; tables.inserted(pay), 4);
     Ok(())
 }

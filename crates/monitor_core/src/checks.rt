@@ -41,7 +41,7 @@ pub fn require(holds: bool, lack: Lack) -> Result<(), Lack>
 pub fn is_table(tables: &Tables, name: Name) -> bool
     ensures { result ≡ is_table tables.now name }
 {
-    tables.owner(&name).is_some()
+    tables.owner(name).is_some()
 }
 
 /// The columns of the table of this name, in order, and none where there is no such table: by these
@@ -49,17 +49,17 @@ pub fn is_table(tables: &Tables, name: Name) -> bool
 pub fn columns_of(tables: &Tables, name: Name) -> &[Column]
     ensures { result.now ≡ columns_of tables.now name }
 {
-    match tables.columns(&name) {
+    match tables.columns(name) {
         Some(columns) => columns,
         None => &[],
     }
 }
 
 /// Passed where the column takes the value.
-pub fn takes(column: &Column, value: &Value) -> Result<(), Lack>
-    ensures { result ≡ takes column.now value.now }
+pub fn takes(column: Column, value: &Value) -> Result<(), Lack>
+    ensures { result ≡ takes column value.now }
 {
-    let Column { name, ty } = *column;
+    let Column { name, ty } = column;
     let lack = Lack::WrongType {
         column: name,
         wanted: ty,
@@ -72,7 +72,7 @@ pub fn each_takes(columns: &[Column], values: &[Value]) -> Result<(), Lack>
     ensures { result ≡ each (zip columns.now values.now) (λ pair. takes pair.0 pair.1) }
 {
     for (column, value) in columns.iter().zip(values) {
-        if let Err(lack) = takes(column, value) {
+        if let Err(lack) = takes(*column, value) {
             return Err(lack);
         }
     }

@@ -116,7 +116,7 @@ impl<A: Authority> Judge<'_, A> {
     fn column_stands(&self, table: Name, column: Name) -> Result<(), Lack>
         ensures { result ≡ column_stands self.now table column }
     {
-        let stands = self.tables.column(&table, column).is_some();
+        let stands = self.tables.column(table, column).is_some();
         require(stands, Lack::NoColumn { table, column })
     }
 
@@ -176,8 +176,8 @@ impl<A: Authority> Judge<'_, A> {
     fn column_takes(&self, table: Name, column: Name, value: &Value) -> Result<(), Lack>
         ensures { result ≡ column_takes self.now table column value.now }
     {
-        match self.tables.column(&table, column) {
-            Some(column) => takes(&column, value),
+        match self.tables.column(table, column) {
+            Some(column) => takes(column, value),
             None => Ok(()),
         }
     }

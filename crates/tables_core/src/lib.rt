@@ -18,9 +18,9 @@
 //! ```text
 //! let mut tables = Tables::new(alloc);
 //! tables.create(pay, ann, columns)?;         // pay: wage INTEGER
-//! tables.insert(&pay, row)?;                 // row 0 is (5)
-//! tables.update(&pay, &wage_is_7, &[])?;     // row 0 is (7)
-//! tables.select(&pay, &[wage], &[])?         // the one row (7)
+//! tables.insert(pay, row)?;                  // row 0 is (5)
+//! tables.update(pay, &wage_is_7, &[])?;      // row 0 is (7)
+//! tables.select(pay, &[wage], &[])?          // the one row (7)
 //! ```
 //!
 //! A table is found by its name in constant time, by a hash, however many tables there are. So

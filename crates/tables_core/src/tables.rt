@@ -89,33 +89,33 @@ impl Tables {
     }
 
     /// The owner of the table of this name. None where there is no such table.
-    pub fn owner(&self, name: &Name) -> Option<User>
-        ensures { result ≡ option_map (λ t. t.owner) (table_of self.now name.now) }
+    pub fn owner(&self, name: Name) -> Option<User>
+        ensures { result ≡ option_map (λ t. t.owner) (table_of self.now name) }
     {
-        Some(self.tables.get(name)?.owner())
+        Some(self.tables.get(&name)?.owner())
     }
 
     /// The columns of the table of this name, in order. None where there is no such table.
-    pub fn columns(&self, name: &Name) -> Option<&[Column]>
-        ensures { option_copied result ≡ option_map (λ t. t.columns) (table_of self.now name.now) }
+    pub fn columns(&self, name: Name) -> Option<&[Column]>
+        ensures { option_copied result ≡ option_map (λ t. t.columns) (table_of self.now name) }
     {
-        Some(self.tables.get(name)?.columns())
+        Some(self.tables.get(&name)?.columns())
     }
 
     /// The column of this name in the table of that name. None where there is no such table, or no
     /// such column in it.
-    pub fn column(&self, name: &Name, column: Name) -> Option<Column>
-        ensures { result ≡ column_of self.now name.now column }
+    pub fn column(&self, name: Name, column: Name) -> Option<Column>
+        ensures { result ≡ column_of self.now name column }
     {
         let columns = self.columns(name)?;
         columns.get(place_of(columns, column)?).copied()
     }
 
     /// How many rows the table of this name has now. 0 where there is no such table.
-    pub fn row_count(&self, name: &Name) -> usize
-        ensures { result ≡ option_map_or (λ t. length t.rows) (table_of self.now name.now) 0 }
+    pub fn row_count(&self, name: Name) -> usize
+        ensures { result ≡ option_map_or (λ t. length t.rows) (table_of self.now name) 0 }
     {
-        match self.tables.get(name) {
+        match self.tables.get(&name) {
             Some(table) => table.row_count(),
             None => 0,
         }
@@ -123,10 +123,10 @@ impl Tables {
 
     /// How many rows were ever inserted into the table of this name: the number of the next one.
     /// 0 where there is no such table.
-    pub fn inserted(&self, name: &Name) -> u64
-        ensures { result ≡ option_map_or (λ t. t.inserted) (table_of self.now name.now) 0 }
+    pub fn inserted(&self, name: Name) -> u64
+        ensures { result ≡ option_map_or (λ t. t.inserted) (table_of self.now name) 0 }
     {
-        match self.tables.get(name) {
+        match self.tables.get(&name) {
             Some(table) => table.inserted(),
             None => 0,
         }
@@ -152,12 +152,12 @@ impl Tables {
     /// Appends a row to a table, under the number of rows inserted before it. The table must be
     /// there, with fewer than 2^63 rows ever inserted. `NoMemory` where a request for memory was
     /// refused.
-    pub fn insert(&mut self, name: &Name, row: Row) -> Result<(), NoMemory>
-        requires { IsSomeAnd (table_of self.old name.now) (λ t. t.inserted < 2 ^ 63) }
-        ensures ok { OnOk result (self.new ≡ with_change name.now (with_row row) self.old) }
+    pub fn insert(&mut self, name: Name, row: Row) -> Result<(), NoMemory>
+        requires { IsSomeAnd (table_of self.old name) (λ t. t.inserted < 2 ^ 63) }
+        ensures ok { OnOk result (self.new ≡ with_change name (with_row row) self.old) }
         ensures no_memory { OnErr result (self.new ≡ self.old) }
     {
-        match self.tables.get_mut(name) {
+        match self.tables.get_mut(&name) {
             Some(table) => table.insert(row),
             None => unreachable!(),
         }
@@ -168,14 +168,14 @@ impl Tables {
     /// request for memory was refused.
     pub fn select(
         &self,
-        name: &Name,
+        name: Name,
         columns: &[Name],
         filter: &[Condition],
     ) -> Result<Vec<Row>, NoMemory>
-        requires { IsSome (table_of self.now name.now) }
-        ensures { IfOk result (λ rows. option_map (selected_rows columns.now filter.now) (table_of self.now name.now) ≡ Some rows.items) }
+        requires { IsSome (table_of self.now name) }
+        ensures { IfOk result (λ rows. option_map (selected_rows columns.now filter.now) (table_of self.now name) ≡ Some rows.items) }
     {
-        match self.tables.get(name) {
+        match self.tables.get(&name) {
             Some(table) => table.select(self.alloc, columns, filter),
             None => unreachable!(),
         }
@@ -186,15 +186,15 @@ impl Tables {
     /// refused: then no row has changed.
     pub fn update(
         &mut self,
-        name: &Name,
+        name: Name,
         sets: &[Assignment],
         filter: &[Condition],
     ) -> Result<(), NoMemory>
-        requires { IsSome (table_of self.old name.now) }
-        ensures ok { OnOk result (self.new ≡ with_change name.now (with_updated_rows sets.now filter.now) self.old) }
+        requires { IsSome (table_of self.old name) }
+        ensures ok { OnOk result (self.new ≡ with_change name (with_updated_rows sets.now filter.now) self.old) }
         ensures no_memory { OnErr result (self.new ≡ self.old) }
     {
-        match self.tables.get_mut(name) {
+        match self.tables.get_mut(&name) {
             Some(table) => table.update(self.alloc, sets, filter),
             None => unreachable!(),
         }
@@ -202,10 +202,10 @@ impl Tables {
 
     /// Drops the rows that the filter chooses; the others keep their order and numbers. Where there
     /// is no such table, nothing changes.
-    pub fn delete(&mut self, name: &Name, filter: &[Condition])
-        ensures { self.new ≡ with_change name.now (without_chosen_rows filter.now) self.old }
+    pub fn delete(&mut self, name: Name, filter: &[Condition])
+        ensures { self.new ≡ with_change name (without_chosen_rows filter.now) self.old }
     {
-        if let Some(table) = self.tables.get_mut(name) {
+        if let Some(table) = self.tables.get_mut(&name) {
             table.delete(filter);
         }
     }

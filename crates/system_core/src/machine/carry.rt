@@ -42,22 +42,22 @@ fn grant(
     alloc: Global,
     tables: &Tables,
     rights: &mut Replay,
-    moment: u64,
+    moment: Moment,
     user: User,
     privileges: &Privileges,
     table: Name,
     users: &Distinct<User, MAX_USERS>,
     option: bool,
 ) -> Result<(), NoMemory>
-    requires can { CanGrant rights.old moment user (atoms_at tables.now table privileges.now) }
+    requires can { CanGrant rights.old moment.0 user (atoms_at tables.now table privileges.now) }
     requires narrow { length (columns_of tables.now table) ≤ most_columns }
-    requires early { moment < 2 ^ 63 }
-    ensures ok { OnOk result (rights.new ≡ after_grant rights.old user (atoms_at tables.now table privileges.now) users.now option (record { 0 = moment + 1 })) }
+    requires early { moment.0 < 2 ^ 63 }
+    ensures ok { OnOk result (rights.new ≡ after_grant rights.old user (atoms_at tables.now table privileges.now) users.now option (record { 0 = moment.0 + 1 })) }
     ensures few { OnOk result (rights.new.made ≤ rights.old.made + most_grants) }
     ensures err { OnErr result (rights.new ≡ rights.old) }
 {
     let atoms = atoms_of(alloc, table, columns_of(tables, table), privileges)?;
-    let at = Moment(moment + 1);
+    let at = Moment(moment.0 + 1);
     rights.grant(user, &atoms, users.as_slice(), option, at)
 }
 
@@ -85,14 +85,14 @@ pub fn carry_out(
     alloc: Global,
     tables: &mut Tables,
     rights: &mut Replay,
-    moment: u64,
+    moment: Moment,
     user: User,
     statement: &Statement,
 ) -> Result<(), NoMemory>
-    requires can { CanCarry tables.old rights.old moment user statement.now }
-    requires early { moment < 2 ^ 63 }
+    requires can { CanCarry tables.old rights.old moment.0 user statement.now }
+    requires early { moment.0 < 2 ^ 63 }
     ensures tables { OnOk result (tables.new ≡ tables_after tables.old user statement.now) }
-    ensures rights { OnOk result (rights.new ≡ rights_after rights.old moment (change_of tables.old user statement.now)) }
+    ensures rights { OnOk result (rights.new ≡ rights_after rights.old moment.0 (change_of tables.old user statement.now)) }
     ensures narrow { OnOk result (HasFewColumns statement.now) }
     ensures few { OnOk result (rights.new.made ≤ rights.old.made + most_grants) }
     ensures same { OnErr result (tables.new ≡ tables.old) }
@@ -104,17 +104,17 @@ pub fn carry_out(
         }
         Statement::Insert { table, values } => {
             let values = Sequence::from_vec(twins_of(alloc, values.as_slice())?);
-            tables.insert(table, Row { values })
+            tables.insert(*table, Row { values })
         }
         Statement::Delete { table, filter } => {
-            tables.delete(table, filter.as_slice());
+            tables.delete(*table, filter.as_slice());
             Ok(())
         }
         Statement::Update {
             table,
             sets,
             filter,
-        } => { tables.update(table, sets.as_slice(), filter.as_slice()) }
+        } => { tables.update(*table, sets.as_slice(), filter.as_slice()) }
         Statement::Grant {
             privileges,
             table,

@@ -66,31 +66,25 @@ fn may_export_table<A: Authority>(
     image: &Image,
     rights: &A,
     user: &User,
-    table: &Name,
+    table: Name,
 ) -> Result<(), Lack>
-    ensures { result ≡ image_check image.now (A.content rights.now) user.now (Some table.now) }
+    ensures { result ≡ image_check image.now (A.content rights.now) user.now (Some table) }
 {
     let atom = Atom {
-        table: *table,
+        table,
         kind: Kind::Select,
     };
     if !image.has(table) {
         return Err(Lack::NoTableThen {
-            table: *table,
+            table,
             number: image.number,
         });
     }
     if !image.holds(*user, &atom) {
-        return Err(Lack::NoSelectThen {
-            user: *user,
-            table: *table,
-        });
+        return Err(Lack::NoSelectThen { user: *user, table });
     }
     if !rights.holds(*user, &atom) {
-        return Err(Lack::NoSelectNow {
-            user: *user,
-            table: *table,
-        });
+        return Err(Lack::NoSelectNow { user: *user, table });
     }
     Ok(())
 }
@@ -107,7 +101,7 @@ pub fn may_export<A: Authority>(
 {
     match only {
         None => Ok(()),
-        Some(table) => may_export_table(image, rights, user, table),
+        Some(table) => may_export_table(image, rights, user, *table),
     }
 }
 

@@ -50,16 +50,16 @@ fn rows_of(
     alloc: Global,
     tables: &Tables,
     list: &Option<Distinct<Name, MAX_ITEMS>>,
-    table: &Name,
+    table: Name,
     filter: &[Condition],
 ) -> Result<Vec<Row>, NoMemory>
-    requires { IsSome (table_of tables.now table.now) }
-    ensures { IfOk result (λ rows. option_map (selected_rows (columns_given (columns_of tables.now table.now) list.now) filter.now) (table_of tables.now table.now) ≡ Some rows.items) }
+    requires { IsSome (table_of tables.now table) }
+    ensures { IfOk result (λ rows. option_map (selected_rows (columns_given (columns_of tables.now table) list.now) filter.now) (table_of tables.now table) ≡ Some rows.items) }
 {
     match list {
         Some(names) => tables.select(table, names.as_slice(), filter),
         None => {
-            let names = names_of(alloc, columns_of(tables, *table))?;
+            let names = names_of(alloc, columns_of(tables, table))?;
             tables.select(table, &names, filter)
         }
     }
@@ -147,12 +147,12 @@ impl Ledger {
     }
 
     /// The verdict of the monitor at the journal.
-    pub fn judged(&self, user: &User, statement: &Statement) -> Result<Allowed, Lack>
-        ensures { result ≡ allowed_by (verdict_at self.now.limits self.now.journal user.now statement.now) statement.now }
+    pub fn judged(&self, user: User, statement: &Statement) -> Result<Allowed, Lack>
+        ensures { result ≡ allowed_by (verdict_at self.now.limits self.now.journal user statement.now) statement.now }
     {
         let moment = Moment(count(&self.journal));
         let (tables, rights) = (&self.tables, &self.rights);
-        judge(tables, rights, &self.limits, *user, statement, moment)
+        judge(tables, rights, &self.limits, user, statement, moment)
     }
 
     /// Carries out an allowed change, and enters it. `NoMemory` where a request for memory was refused:
@@ -169,7 +169,7 @@ impl Ledger {
             self.alloc,
             &mut self.tables,
             &mut self.rights,
-            moment,
+            Moment(moment),
             entry.user,
             &entry.statement,
         )?;
@@ -182,11 +182,11 @@ impl Ledger {
     pub fn select(
         &self,
         list: &Option<Distinct<Name, MAX_ITEMS>>,
-        table: &Name,
+        table: Name,
         filter: &[Condition],
     ) -> Result<Vec<Row>, NoMemory>
-        requires { IsSome (table_of (contents self.now.journal) table.now) }
-        ensures { IfOk result (λ rows. option_map (selected_rows (columns_given (columns_of (contents self.now.journal) table.now) list.now) filter.now) (table_of (contents self.now.journal) table.now) ≡ Some rows.items) }
+        requires { IsSome (table_of (contents self.now.journal) table) }
+        ensures { IfOk result (λ rows. option_map (selected_rows (columns_given (columns_of (contents self.now.journal) table) list.now) filter.now) (table_of (contents self.now.journal) table) ≡ Some rows.items) }
     {
         rows_of(self.alloc, &self.tables, list, table, filter)
     }

@@ -142,11 +142,11 @@ impl System {
     fn select(
         &self,
         list: &Option<Distinct<Name, MAX_ITEMS>>,
-        table: &Name,
+        table: Name,
         filter: &[Condition],
     ) -> Reply
-        requires { IsSome (table_of (contents self.now.journal) table.now) }
-        ensures { (pass : ℕ) (user : User) → CarriesOut self.now (entry pass user (statements.Select list.now table.now filter.now)) result self.now }
+        requires { IsSome (table_of (contents self.now.journal) table) }
+        ensures { (pass : ℕ) (user : User) → CarriesOut self.now (entry pass user (statements.Select list.now table filter.now)) result self.now }
     {
         let at = self.ledger.moment();
         match self.ledger.select(list, table, filter) {
@@ -214,7 +214,7 @@ impl System {
                 list,
                 table,
                 filter,
-            } => self.select(list, table, filter.as_slice()),
+            } => self.select(list, *table, filter.as_slice()),
             Statement::Checkpoint => self.begin(),
             Statement::Checkpoints => self.list(),
             Statement::Export { number, only } => self.export(entry.user, number.get(), *only),
@@ -225,7 +225,7 @@ impl System {
     fn say(&mut self, entry: Entry) -> Reply
         ensures { Responds self.old entry (verdict_of self.old entry.user entry.statement) result self.new }
     {
-        match self.ledger.judged(&entry.user, &entry.statement) {
+        match self.ledger.judged(entry.user, &entry.statement) {
             Err(lack) => turn_away(self.ledger.moment(), lack),
             Ok(allowed) => {
                 if allowed.change {

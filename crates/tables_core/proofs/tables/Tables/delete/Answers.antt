@@ -13,8 +13,8 @@ returns c =
     rw (← c.self.view_is) (elim c.match-get_mut.branch [
       | in-Some w ↦ (
           let found = sym c.get_mut.ensures.value ∙ ap option_copied_mut w.in-Some.is in
-          ap (λ i. i.tables.entries) w.self-inside-is ∙ ((c.get_mut.follows.holds w.delete.new.self).0 ∙ (ap (set_value (same_name c.args.name.now) c.self.inside.tables.entries) w.delete.ensures ∙ sym (with_change-some c.args.name.now change _ _ found))))
+          ap (λ i. i.tables.entries) w.self-inside-is ∙ ((c.get_mut.follows.holds w.delete.new.self).0 ∙ (ap (set_value (same_name c.args.name) c.self.inside.tables.entries) w.delete.ensures ∙ sym (with_change-some c.args.name change _ _ found))))
       | in_default w ↦ (
           let none = sym c.get_mut.ensures.value ∙ ap option_copied_mut w.in_default.is in
-          ap (λ i. i.tables.entries) w.self-inside-is ∙ (ap (λ m. m.entries) c.get_mut.follows.holds-at-none ∙ sym (with_change-none c.args.name.now change _ none)))
+          ap (λ i. i.tables.entries) w.self-inside-is ∙ (ap (λ m. m.entries) c.get_mut.follows.holds-at-none ∙ sym (with_change-none c.args.name change _ none)))
     ])

@@ -11,7 +11,7 @@ use Rattle.tables_core.proofs.tables.Tables.update.Goals as goal
 pub returns-clause-ok : goal.returns-clause-ok
 returns-clause-ok c =
     let found = sym c.get_mut.ensures.value ∙ ap option_copied_mut c.in-Some.is in
-    rw (← c.self.view_is) (on_ok_weaker c.update.result (λ made. (c.get_mut.follows.holds c.update.new.self).0 ∙ (ap (set_value (same_name c.args.name.now) c.self.inside.tables.entries) made ∙ sym (with_change-some c.args.name.now (with_updated_rows c.args.sets.now c.args.filter.now) _ _ found))) c.update.ensures.ok)
+    rw (← c.self.view_is) (on_ok_weaker c.update.result (λ made. (c.get_mut.follows.holds c.update.new.self).0 ∙ (ap (set_value (same_name c.args.name) c.self.inside.tables.entries) made ∙ sym (with_change-some c.args.name (with_updated_rows c.args.sets.now c.args.filter.now) _ _ found))) c.update.ensures.ok)
 
 pub returns-clause-no_memory : goal.returns-clause-no_memory
 returns-clause-no_memory c =

@@ -5,5 +5,5 @@ use Rattle.system_core.proofs.machine.ledger.Ledger.select.Goals as goal
 
 pub rows_of-requires : goal.rows_of-requires
 rows_of-requires c =
-    let Stands : List (Name × Contents) → Type 0 = λ ts. IsSome (table_of ts c.args.table.now) in
+    let Stands : List (Name × Contents) → Type 0 = λ ts. IsSome (table_of ts c.args.table) in
     subst Stands (sym c.self.invariant.tables_of) (rw (← c.self.view_is) at c.requires)
