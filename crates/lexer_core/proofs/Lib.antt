@@ -5,6 +5,7 @@ pub mod Chars
 pub mod Texts
 pub mod Halfway
 pub mod Undoubled
+pub mod Proper
 pub mod Reached
 pub mod Spelled
 pub mod Class

@@ -6,7 +6,8 @@ use Rattle.std.specs.Str.{encode_utf8_all}
 use Rattle.std.specs.Str.Parse.{IsNumeral, without_leading_sign, signed_digits_value}
 use mir.Syntax.{w64}
 use mir.Val.{SFits as FitsSigned}
-use Rattle.base_core.specs.Words.{is_word_byte, is_word, keyword_of, name_of}
+use Rattle.base_core.specs.Words.{is_word_byte, is_word, keyword_of, name_of, IsName}
+use Rattle.base_core.specs.Texts.{IsText}
 use Rattle.base_core.specs.declared.keyword.Keyword.{Keyword}
 use Rattle.lexer_core.specs.Text.{BeginsText, BeginsWithNoPlain, written_all}
 use Rattle.lexer_core.specs.declared.fault.Code.{Code}
@@ -35,6 +36,14 @@ kind_of (Named n) = kinds.Name n
 kind_of (Number z) = kinds.Number z
 kind_of (Text t) = kinds.Text
 kind_of (Sign m) = kinds.Mark m
+
+-- a name, a number or a text that its type allows
+abbrev pub IsProper : Lexeme → Type 0
+IsProper (Key k) = Unit {0}
+IsProper (Named n) = IsName n
+IsProper (Number z) = FitsSigned w64 z
+IsProper (Text t) = IsText t
+IsProper (Sign m) = Unit {0}
 
 abbrev pub mark_text : Mark → List ℕ
 mark_text marks.Open = codes "("

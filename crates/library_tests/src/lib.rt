@@ -21,6 +21,8 @@ mod lines;
 #[cfg(test)]
 mod monitor;
 #[cfg(test)]
+mod printer;
+#[cfg(test)]
 mod reader;
 #[cfg(test)]
 mod tables;

@@ -12,7 +12,7 @@ use Rattle.reader_core.specs.Matches.{IsWhole}
 use Rattle.reader_core.specs.Language.{statement, Spells, IsReadFault, lexical, nothing, ungrammatical}
 use Rattle.reader_core.proofs.Theory.{sound, fault_from_first_fault, whole_from_first_fault}
 use Rattle.reader_core.proofs.Exactness.{lexed_kinds}
-use Rattle.reader_core.proofs.Back.{proper_lexed}
+use Rattle.lexer_core.proofs.Proper.{proper_lexed}
 use Rattle.reader_core.proofs.EachStatement.{whole_said}
 
 module _ (line : List ℕ) where

@@ -1,5 +1,5 @@
 -- A whole sentence with no wrong token is said by a statement.
-use Rattle.std.proofs.Common.{◌≡◌, ℕ, pos, ◌+◌, ◌<◌, ◌^◌, false, List, [], ◌∷◌, ◌++◌, All, ap, sym, subst, ◌∙◌, refl, inl, inr}
+use Rattle.std.proofs.Common.{◌≡◌, ℕ, pos, ◌<◌, ◌^◌, false, List, [], ◌∷◌, ◌++◌, All, ap, sym, subst, ◌∙◌, refl, inl, inr}
 use Rattle.std.proofs.lemmas.List.Elements.{All-head, All-tail}
 use mir.Syntax.{w64}
 use mir.Val.{SFits as FitsSigned}
@@ -11,9 +11,9 @@ use Rattle.lexer_core.specs.declared.token.Kind.TheVariants as kinds
 use Rattle.lexer_core.specs.declared.token.Mark.TheVariants as marks
 use Rattle.reader_core.specs.declared.statement.Statement.{Statement}
 use Rattle.reader_core.specs.declared.statement.Statement.TheVariants as statements
-use Rattle.reader_core.specs.Grammar.{Grammar, End, One, Case, Items, Key, Sign, AnyName, AtLeastOne, fits}
+use Rattle.reader_core.specs.Grammar.{Grammar, End, One, Case, Items, Key, Sign, AnyName, AtLeastOne}
 use Rattle.reader_core.specs.Matches.{Matches}
-use Rattle.reader_core.specs.Printing.{IsProper}
+use Rattle.lexer_core.specs.Lexing.{IsProper}
 use Rattle.reader_core.specs.Language.{names_rule, commas, privileges_rule, column_item, literal_item, set_item, privilege_item, name_list, optional, filter, selected, from_table, grant_option, only_table, statement, finish, comma, listed, user_says, column_says, value_says, value_lexeme, set_says, filter_says, selection_says, privilege_says, option_says, statement_says, IsLawful, IsFinished, SaysStatement}
 use Rattle.reader_core.proofs.Fine.{few_if_fine, distinct_if_fine}
 use Rattle.reader_core.proofs.Lines.{says_statement}

@@ -11,10 +11,6 @@ pub mod Whole
 pub mod Once
 pub mod Lines
 pub mod Exactness
-pub mod Doubled
-pub mod Proper
-pub mod Writing
-pub mod Back
 pub mod Choices
 pub mod Fronts
 pub mod Said

@@ -1,8 +1,6 @@
 -- A whole sentence with no wrong token is said by a statement.
-use Rattle.std.proofs.Common.{◌≡◌, ℕ, ◌+◌, ◌<◌, ◌≤◌, true, false, List, [], ◌∷◌, ◌++◌, map, length, Option, Some, None, ap, ◌∙◌, refl, arith, inl, inr}
-use Rattle.base_core.specs.declared.keyword.Keyword.{Keyword}
+use Rattle.std.proofs.Common.{◌≡◌, ℕ, ◌<◌, ◌≤◌, true, false, List, [], ◌∷◌, ◌++◌, map, length, Some, None, ap, ◌∙◌, refl, arith, inl, inr}
 use Rattle.base_core.specs.declared.keyword.Keyword.TheVariants as keywords
-use Rattle.base_core.specs.declared.name.Name.{Name}
 use Rattle.base_core.specs.declared.condition.Condition.{Condition}
 use Rattle.lexer_core.specs.Lexing.{Lexeme, kind_of}
 use Rattle.lexer_core.specs.Lexing as lexemes

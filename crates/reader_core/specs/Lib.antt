@@ -3,7 +3,6 @@ pub mod Matches
 pub mod Privileges
 pub mod Cursor
 pub mod Language
-pub mod Printing
 pub use Rattle.base_core.specs.Words
 pub use Rattle.base_core.specs.Distinct
 pub use Rattle.base_core.specs.Texts

@@ -1,11 +1,10 @@
 //! Laws of the language, each the contract of an empty function.
-ghost use Rattle.std.specs.Prelude.{◌≡◌, ◌≤◌, ◌⊎◌, ℕ, List, All, length, map};
-ghost use Rattle.lexer_core.specs.Lexing.{Lexeme, kind_of};
+ghost use Rattle.std.specs.Prelude.{◌≡◌, ◌⊎◌, ℕ, List, All, map};
+ghost use Rattle.lexer_core.specs.Lexing.{Lexeme, IsProper, kind_of};
 ghost use Rattle.lexer_core.specs.declared.fault.Code.{Code};
 ghost use Rattle.reader_core.specs.declared.statement.Statement.{Statement};
 ghost use Rattle.reader_core.specs.Matches.{Spot, Matches, Derives, IsWhole, IsPredictive, never};
 ghost use Rattle.reader_core.specs.Language.{statement, SaysStatement, Spells, IsLawful, IsReadFault};
-ghost use Rattle.reader_core.specs.Printing.{canonical, HoldsProper, IsProper};
 
 /// No line spells two statements.
 pub fn one_statement()
@@ -22,21 +21,6 @@ pub fn one_fault()
 pub fn spelled_or_faulty()
     ensures { (line : List ℕ) (s : Statement) (code : Code) (offset : ℕ) → Spells line s
         → IsReadFault line code offset → ⊥ }
-{}
-
-/// The canonical text of a statement spells it, where it has at most 4,096 bytes, and where the
-/// statement holds what its types keep: lists with their limits and distinctness (`IsLawful`), and
-/// names, numbers and texts as they may be (`HoldsProper`). So what is printed is read back.
-pub fn printed_is_read()
-    ensures { (s : Statement) → IsLawful s → HoldsProper s → length (canonical s) ≤ 4096
-        → Spells (canonical s) s }
-{}
-
-/// The canonical text of a statement that some line spells spells it too, where it has at most 4,096
-/// bytes: to print what was read and to read it again gives the same statement.
-pub fn read_is_printed()
-    ensures { (line : List ℕ) (s : Statement) → Spells line s → length (canonical s) ≤ 4096
-        → Spells (canonical s) s }
 {}
 
 /// No choice of the grammar is between parts that begin with the same token. And tokens are a sentence

@@ -1,4 +1,4 @@
-//! Statements read from lines, and printed.
+//! Statements read from lines.
 //!
 //! A [`Statement`] is one of ten: CREATE TABLE, INSERT, SELECT, DELETE, UPDATE, GRANT, REVOKE,
 //! CHECKPOINT, CHECKPOINTS and EXPORT. Its lists keep the limits of the language by their types: 1 to
@@ -19,19 +19,14 @@
 //! statements and never two faults, are laws, each on an empty function of [`laws`], and so is that no
 //! choice of the grammar is between parts that begin with the same token.
 //!
-//! [`print`] gives a statement's canonical text (`specs/Printing.antt`), unless it has more than 4,096
-//! bytes, which is more than a line may have. What is printed is read back as the statement.
-//!
 //! ```text
 //! read(alloc, b"select NAME from PAY where WAGE<0;")  // Ok: a Select
-//! print(alloc, &statement)                            // Ok: SELECT name FROM pay WHERE wage < 0
 //! read(alloc, b"SELECT a, a FROM t")                  // Err: Duplicate at 10
 //! ```
 //!
 //! Reading goes over the tokens of a line once, with no look back and one token ahead. An item of a
 //! list is compared with those before it, of which there are at most 32. [`read`] takes memory for the
-//! tokens, the lists and the texts, [`print`] for the text; either answers `NoMemory` where it is
-//! refused.
+//! tokens, the lists and the texts, and answers `NoMemory` where it is refused.
 #![tactic(auto)]
 
 mod checkpoint;
@@ -39,10 +34,7 @@ mod heads;
 mod items;
 pub mod laws;
 mod list;
-mod page;
 mod parts;
-mod printed;
-mod printing;
 mod privilege;
 mod reader;
 mod reading;
@@ -50,7 +42,6 @@ mod sentence;
 mod statement;
 
 pub use checkpoint::CheckpointNumber;
-pub use printing::{PrintFault, print};
 pub use privilege::{MAX_PRIVILEGES, Privilege, Privileges};
 pub use reading::read;
 pub use statement::{MAX_ITEMS, MAX_USERS, Statement};

@@ -1,0 +1,4 @@
+pub mod Doubled
+pub mod Names
+pub mod Writing
+pub mod Back

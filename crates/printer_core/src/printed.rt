@@ -1,0 +1,238 @@
+//! Items and lists on a page.
+ghost use Rattle.std.specs.Prelude.{◌≡◌, ◌∷◌, ◌++◌, [], List, All, OnOk};
+ghost use Rattle.std.specs.List.{flat_map};
+ghost use Rattle.lexer_core.specs.Lexing as lexemes;
+ghost use Rattle.lexer_core.specs.Lexing.{Lexeme};
+ghost use Rattle.lexer_core.specs.declared.token.Mark.TheVariants as marks;
+ghost use Rattle.reader_core.specs.Language.{listed, names_say, columns_say, type_lexeme, comparison_mark, AreNamed, IsSelection};
+ghost use Rattle.printer_core.specs.Printing.{Writes};
+
+use crate::page::Page;
+use base_core::{
+    Assignment, ColType, Column, Comparison, Condition, Distinct, Keyword, Name, NoMemory, User,
+    Value,
+};
+use lexer_core::Mark;
+use reader_core::{MAX_ITEMS, Privilege};
+
+/// What can stand on a page as an item of a list.
+pub trait Printed: Sized {
+    // What stands between two items.
+    ghost separator: { Lexeme };
+    // What an item says, token by token.
+    ghost says: { Self → List Lexeme };
+    // What the language asks of an item by itself.
+    ghost lawful: { Self → Type 0 } = { λ _. Unit {0} };
+
+    fn write(&self, page: &mut Page) -> Result<(), NoMemory>
+        ensures written { OnOk result (Writes (Self.says self.now) page.old page.new) }
+        ensures lawful { OnOk result (Self.lawful self.now) };
+
+    fn write_separator(page: &mut Page) -> Result<(), NoMemory>
+        ensures { OnOk result (Writes (Self.separator ∷ []) page.old page.new) };
+}
+
+fn write_behind<T: Printed>(page: &mut Page, items: &[T]) -> Result<(), NoMemory>
+    ensures written { OnOk result (Writes (flat_map (λ x. T.separator ∷ T.says x) items.now) page.old page.new) }
+    ensures lawful { OnOk result (All T.lawful items.now) }
+{
+    for item in items {
+        T::write_separator(page)?;
+        item.write(page)?;
+    }
+    Ok(())
+}
+
+/// The items, with a separator between each two.
+pub fn write_list<T: Printed>(page: &mut Page, items: &[T]) -> Result<(), NoMemory>
+    ensures written { OnOk result (Writes (listed T.separator T.says items.now) page.old page.new) }
+    ensures lawful { OnOk result (All T.lawful items.now) }
+{
+    match items {
+        [] => Ok(()),
+        [first, rest @ ..] => {
+            first.write(page)?;
+            write_behind(page, rest)?;
+            Ok(())
+        }
+    }
+}
+
+impl Printed for Name {
+    ghost use Rattle.reader_core.specs.Language.{comma, name_says};
+
+    ghost separator = { comma };
+
+    ghost says = { name_says };
+
+    fn write(&self, page: &mut Page) -> Result<(), NoMemory> {
+        page.name(*self)
+    }
+
+    fn write_separator(page: &mut Page) -> Result<(), NoMemory> {
+        page.mark(Mark::Comma)
+    }
+}
+
+impl Printed for User {
+    ghost use Rattle.reader_core.specs.Language.{comma, user_says};
+
+    ghost separator = { comma };
+
+    ghost says = { user_says };
+
+    fn write(&self, page: &mut Page) -> Result<(), NoMemory> {
+        page.name(self.0)
+    }
+
+    fn write_separator(page: &mut Page) -> Result<(), NoMemory> {
+        page.mark(Mark::Comma)
+    }
+}
+
+fn type_keyword(ty: ColType) -> Keyword
+    ensures { lexemes.Key result ≡ type_lexeme ty }
+{
+    match ty {
+        ColType::Integer => Keyword::Integer,
+        ColType::Text => Keyword::Text,
+    }
+}
+
+impl Printed for Column {
+    ghost use Rattle.reader_core.specs.Language.{comma, column_says};
+
+    ghost separator = { comma };
+
+    ghost says = { column_says };
+
+    fn write(&self, page: &mut Page) -> Result<(), NoMemory> {
+        page.name(self.name)?;
+        page.keyword(type_keyword(self.ty))?;
+        Ok(())
+    }
+
+    fn write_separator(page: &mut Page) -> Result<(), NoMemory> {
+        page.mark(Mark::Comma)
+    }
+}
+
+impl Printed for Value {
+    ghost use Rattle.reader_core.specs.Language.{comma, value_says};
+
+    ghost separator = { comma };
+
+    ghost says = { value_says };
+
+    fn write(&self, page: &mut Page) -> Result<(), NoMemory> {
+        page.value(self)
+    }
+
+    fn write_separator(page: &mut Page) -> Result<(), NoMemory> {
+        page.mark(Mark::Comma)
+    }
+}
+
+impl Printed for Assignment {
+    ghost use Rattle.reader_core.specs.Language.{comma, set_says};
+
+    ghost separator = { comma };
+
+    ghost says = { set_says };
+
+    fn write(&self, page: &mut Page) -> Result<(), NoMemory> {
+        page.name(self.column)?;
+        page.mark(Mark::Equal)?;
+        page.value(&self.value)?;
+        Ok(())
+    }
+
+    fn write_separator(page: &mut Page) -> Result<(), NoMemory> {
+        page.mark(Mark::Comma)
+    }
+}
+
+fn mark_of(comparison: Comparison) -> Mark
+    ensures { result ≡ comparison_mark comparison }
+{
+    match comparison {
+        Comparison::Equal => Mark::Equal,
+        Comparison::NotEqual => Mark::NotEqual,
+        Comparison::Less => Mark::Less,
+        Comparison::LessEqual => Mark::LessEqual,
+        Comparison::Greater => Mark::Greater,
+        Comparison::GreaterEqual => Mark::GreaterEqual,
+    }
+}
+
+impl Printed for Condition {
+    ghost use Rattle.lexer_core.specs.Lexing as lexemes;
+    ghost use Rattle.base_core.specs.declared.keyword.Keyword.TheVariants as keywords;
+    ghost use Rattle.reader_core.specs.Language.{condition_says};
+
+    ghost separator = { lexemes.Key keywords.And };
+
+    ghost says = { condition_says };
+
+    fn write(&self, page: &mut Page) -> Result<(), NoMemory> {
+        page.name(self.column)?;
+        page.mark(mark_of(self.comparison))?;
+        page.value(&self.literal)?;
+        Ok(())
+    }
+
+    fn write_separator(page: &mut Page) -> Result<(), NoMemory> {
+        page.keyword(Keyword::And)
+    }
+}
+
+fn write_in_brackets(page: &mut Page, names: &Distinct<Name, MAX_ITEMS>) -> Result<(), NoMemory>
+    ensures written { OnOk result (Writes (lexemes.Sign marks.Open ∷ (names_say names.now ++ lexemes.Sign marks.Close ∷ [])) page.old page.new) }
+    ensures lawful { OnOk result (AreNamed 32 (λ n. n) names.now) }
+{
+    page.mark(Mark::Open)?;
+    write_list(page, names.as_slice())?;
+    page.mark(Mark::Close)?;
+    Ok(())
+}
+
+/// Columns in brackets, or nothing for all of them.
+fn write_columns(
+    page: &mut Page,
+    columns: &Option<Distinct<Name, MAX_ITEMS>>,
+) -> Result<(), NoMemory>
+    ensures written { OnOk result (Writes (columns_say columns.now) page.old page.new) }
+    ensures lawful { OnOk result (IsSelection columns.now) }
+{
+    match columns {
+        Some(names) => write_in_brackets(page, names),
+        None => Ok(()),
+    }
+}
+
+impl Printed for Privilege {
+    ghost use Rattle.reader_core.specs.Language.{comma, privilege_says, IsLawfulPrivilege};
+
+    ghost separator = { comma };
+
+    ghost says = { privilege_says };
+
+    ghost lawful = { IsLawfulPrivilege };
+
+    fn write(&self, page: &mut Page) -> Result<(), NoMemory> {
+        match self {
+            Privilege::Select => page.keyword(Keyword::Select),
+            Privilege::Insert => page.keyword(Keyword::Insert),
+            Privilege::Delete => page.keyword(Keyword::Delete),
+            Privilege::Update(columns) => {
+                page.keyword(Keyword::Update)?;
+                write_columns(page, columns)?;
+                Ok(())
+            }
+        }
+    }
+
+    fn write_separator(page: &mut Page) -> Result<(), NoMemory> {
+        page.mark(Mark::Comma)
+    }
+}

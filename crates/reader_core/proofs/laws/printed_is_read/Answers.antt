@@ -1,5 +1,0 @@
-use Rattle.reader_core.proofs.Back.{spells_back}
-use Rattle.reader_core.proofs.laws.printed_is_read.Goals as goal
-
-pub returns : goal.returns
-returns c = spells_back

@@ -1,5 +1,0 @@
-use Rattle.reader_core.proofs.Back.{spells_again}
-use Rattle.reader_core.proofs.laws.read_is_printed.Goals as goal
-
-pub returns : goal.returns
-returns c = spells_again

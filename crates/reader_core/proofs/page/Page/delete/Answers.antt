@@ -1,5 +1,0 @@
-use Rattle.reader_core.proofs.Writing.{then}
-use Rattle.reader_core.proofs.page.Page.delete.Goals as goal
-
-pub returns-clause-written : goal.returns-clause-written
-returns-clause-written c = then c.in_ok-keyword.ensures (then c.in_ok-keyword-2.ensures (then c.in_ok-name.ensures c.in_ok-filter.ensures.written))

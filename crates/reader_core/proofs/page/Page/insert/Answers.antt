@@ -1,5 +1,0 @@
-use Rattle.reader_core.proofs.Writing.{then}
-use Rattle.reader_core.proofs.page.Page.insert.Goals as goal
-
-pub returns-clause-written : goal.returns-clause-written
-returns-clause-written c = then c.in_ok-keyword.ensures (then c.in_ok-keyword-2.ensures (then c.in_ok-name.ensures (then c.in_ok-keyword-3.ensures (then c.in_ok-mark.ensures (then (rw c.as_slice.ensures.items at c.in_ok-write_list.ensures.written) c.in_ok-mark-2.ensures)))))

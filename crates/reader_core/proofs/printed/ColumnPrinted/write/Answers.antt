@@ -1,5 +1,0 @@
-use Rattle.reader_core.proofs.Writing.{then}
-use Rattle.reader_core.proofs.printed.ColumnPrinted.write.Goals as goal
-
-pub returns-clause-written : goal.returns-clause-written
-returns-clause-written c = then c.in_ok-name.ensures (rw c.type_keyword.ensures at c.in_ok-keyword.ensures)
