@@ -7,7 +7,8 @@ use Rattle.lexer_core.specs.declared.fault.Code.{Code}
 use Rattle.lexer_core.specs.declared.fault.Code.TheVariants as codes
 use Rattle.lexer_core.proofs.EachLine as lexing
 use Rattle.reader_core.specs.declared.statement.Statement.{Statement}
-use Rattle.reader_core.specs.Grammar.{Fault, first_fault}
+use Rattle.reader_core.specs.Grammar.{Fault}
+use Rattle.reader_core.specs.Recogniser.{first_fault}
 use Rattle.reader_core.specs.Matches.{IsWhole}
 use Rattle.reader_core.specs.Language.{statement, Spells, IsReadFault, lexical, nothing, ungrammatical}
 use Rattle.reader_core.proofs.Theory.{sound, fault_from_first_fault, whole_from_first_fault}

@@ -11,7 +11,8 @@ use Rattle.lexer_core.specs.declared.token.Kind.{Kind}
 use Rattle.lexer_core.specs.declared.token.Kind.TheVariants as kinds
 use Rattle.lexer_core.specs.declared.fault.Code.{Code}
 use Rattle.lexer_core.specs.declared.fault.Code.TheVariants as codes
-use Rattle.reader_core.specs.Grammar.{Rule, AreFine, mark_from, same}
+use Rattle.reader_core.specs.Grammar.{Rule, mark_from, same}
+use Rattle.reader_core.specs.Recogniser.{AreFine}
 use Rattle.reader_core.specs.declared.privilege.Privilege.{Privilege}
 use Rattle.reader_core.specs.Privileges.{word_of, word_keyword, same_word, are_different}
 use Rattle.reader_core.specs.Language.{names_rule, commas, privileges_rule}

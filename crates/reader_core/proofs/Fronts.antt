@@ -20,7 +20,8 @@ use Rattle.lexer_core.specs.declared.token.Kind.TheVariants as kinds
 use Rattle.lexer_core.specs.declared.token.Mark.{Mark}
 use Rattle.lexer_core.specs.declared.token.Mark.TheVariants as marks
 use Rattle.lexer_core.specs.declared.fault.Code.{Code}
-use Rattle.reader_core.specs.Grammar.{Grammar, Class, One, Case, Items, More, Rule, Key, Sign, AnyName, AnyLiteral, AnyType, AnyTest, AtLeastOne, fits, mark_of, followed_by, AreFine}
+use Rattle.reader_core.specs.Grammar.{Grammar, Class, One, Case, Items, More, Rule, Key, Sign, AnyName, AnyLiteral, AnyType, AnyTest, AtLeastOne, fits, mark_of, followed_by}
+use Rattle.reader_core.specs.Recogniser.{AreFine}
 use Rattle.reader_core.specs.Matches.{Spot, fine, Matches, one, this, other, item, next, last}
 use Rattle.reader_core.specs.Language.{listed, value_lexeme, type_lexeme, comparison_mark}
 use Rattle.reader_core.proofs.Taking.{key_fits, sign_fits}

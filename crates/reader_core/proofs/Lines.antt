@@ -9,7 +9,8 @@ use Rattle.lexer_core.specs.declared.fault.Code.TheVariants as codes
 use Rattle.lexer_core.specs.declared.fault.ReadFault.{ReadFault}
 use Rattle.lexer_core.specs.declared.fault.ReadFault.TheVariants as faults
 use Rattle.reader_core.specs.declared.statement.Statement.{Statement}
-use Rattle.reader_core.specs.Grammar.{Fault, first_fault}
+use Rattle.reader_core.specs.Grammar.{Fault}
+use Rattle.reader_core.specs.Recogniser.{first_fault}
 use Rattle.reader_core.specs.Cursor.{Cursor, Takes, Faults, fault_left, fault_of, left_says}
 use Rattle.reader_core.specs.Language.{statement, body, finish, statement_says, SaysStatement, IsFinished, IsLawful, Spells, IsReadFault, lexical, nothing, ungrammatical, IsReadFaultOf}
 use Rattle.reader_core.proofs.Theory.{sound, fault_from_first_fault}

@@ -11,7 +11,8 @@ use Rattle.lexer_core.specs.declared.fault.ReadFault.{ReadFault}
 use Rattle.lexer_core.specs.declared.fault.ReadFault.TheVariants as faults
 use Rattle.lexer_core.specs.declared.fault.Code.{Code}
 use Rattle.lexer_core.specs.declared.fault.Code.TheVariants as codes
-use Rattle.reader_core.specs.Grammar.{Grammar, Class, Rule, Items, More, One, Case, first_fault, fits, mark_of, marked, step, followed_by, can_end, same, mark_from, AreFine}
+use Rattle.reader_core.specs.Grammar.{Grammar, Class, Rule, Items, More, One, Case, fits, mark_of, followed_by, same, mark_from}
+use Rattle.reader_core.specs.Recogniser.{first_fault, marked, step, can_end, AreFine}
 use Rattle.reader_core.specs.Cursor.{Cursor, Takes, Faults, fault_of, fault_left, left_says, next_kind, next_lexeme, next_is, offset_at}
 use Rattle.reader_core.specs.Language.{listed}
 use Rattle.reader_core.proofs.Theory.{first_fault_nil, first_fault_none, first_fault_some}

@@ -8,7 +8,8 @@ use Rattle.lexer_core.specs.declared.token.Kind.TheVariants as kinds
 use Rattle.lexer_core.specs.declared.token.Token as tokens
 use Rattle.lexer_core.specs.declared.fault.Code.{Code}
 use Rattle.lexer_core.specs.declared.fault.Code.TheVariants as codes
-use Rattle.reader_core.specs.Grammar.{Grammar, End, One, Case, Items, More, Class, Key, Sign, AnyName, AnyLiteral, AnyType, AnyTest, AtLeastOne, fits, mark_of, mark_from, marked, enter, step, can_end, followed_by, Fault, first_fault}
+use Rattle.reader_core.specs.Grammar.{Grammar, End, One, Case, Items, More, Class, Key, Sign, AnyName, AnyLiteral, AnyType, AnyTest, AtLeastOne, fits, mark_of, mark_from, followed_by, Fault}
+use Rattle.reader_core.specs.Recogniser.{marked, enter, step, can_end, first_fault}
 use Rattle.reader_core.specs.Language.{statement}
 use Rattle.reader_core.specs.Matches.{Spot, fine, is_next, Matches, done, one, this, other, item, next, last, IsWhole, Begins, GoesOn, IsWrongAt, IsWrongHere, IsFault}
 

@@ -19,7 +19,8 @@ use Rattle.reader_core.specs.declared.privilege.Privilege.{Privilege}
 use Rattle.reader_core.specs.declared.privilege.Privilege.TheVariants as privileges_of
 use Rattle.reader_core.specs.declared.statement.Statement.{Statement}
 use Rattle.reader_core.specs.declared.statement.Statement.TheVariants as statements
-use Rattle.reader_core.specs.Grammar.{Grammar, Class, Key, Sign, Rule, Items, More, One, fits, mark_of, followed_by, AreFine}
+use Rattle.reader_core.specs.Grammar.{Grammar, Class, Key, Sign, Rule, Items, More, One, fits, mark_of, followed_by}
+use Rattle.reader_core.specs.Recogniser.{AreFine}
 use Rattle.reader_core.specs.Matches.{Spot, fine, is_next, Matches, done, one, this, other, item, next, last, IsWhole}
 use Rattle.reader_core.specs.Privileges.{word_of, word_keyword}
 use Rattle.reader_core.specs.Language.{commas, names_rule, conditions_rule, privileges_rule, column_item, literal_item, name_item, set_item, condition_item, privilege_item, optional, filter, selected, from_table, grant_option, only_table, statement, finish, comma, listed, name_says, names_say, user_says, column_says, value_says, value_lexeme, type_lexeme, comparison_mark, condition_says, set_says, filter_says, selection_says, columns_say, privilege_says, privilege_columns, option_says, only_says, statement_says, AreNamed, IsSelection, IsLawfulPrivilege, ArePrivileges, AreUsers, IsLawful, SaysStatement}

@@ -11,7 +11,8 @@ use Rattle.lexer_core.specs.declared.fault.ReadFault.{ReadFault}
 use Rattle.lexer_core.specs.declared.fault.ReadFault.TheVariants as faults
 use Rattle.reader_core.specs.declared.privilege.Word.{Word}
 use Rattle.reader_core.specs.declared.privilege.Word.TheVariants as words
-use Rattle.reader_core.specs.Grammar.{Grammar, Items, More, first_fault, mark_of, marked, enter, step, is_keyword, is_privilege}
+use Rattle.reader_core.specs.Grammar.{Grammar, Items, More, mark_of, is_keyword, is_privilege}
+use Rattle.reader_core.specs.Recogniser.{first_fault, marked, enter, step}
 use Rattle.reader_core.specs.Cursor.{Cursor, Takes, Faults, fault_left, fault_of, next_kind, next_is_privilege, offset_at}
 use Rattle.reader_core.specs.Privileges.{word_keyword}
 use Rattle.reader_core.specs.Language.{privileges_rule, privilege_item, behind_word, word_says}

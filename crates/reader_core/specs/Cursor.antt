@@ -6,7 +6,8 @@ use Rattle.lexer_core.specs.declared.token.Token as tokens
 use Rattle.lexer_core.specs.declared.fault.Code.{Code}
 use Rattle.lexer_core.specs.declared.fault.ReadFault.{ReadFault}
 use Rattle.lexer_core.specs.declared.fault.ReadFault.TheVariants as faults
-use Rattle.reader_core.specs.Grammar.{Grammar, Class, Fault, fits, is_privilege, first_fault}
+use Rattle.reader_core.specs.Grammar.{Grammar, Class, Fault, fits, is_privilege}
+use Rattle.reader_core.specs.Recogniser.{first_fault}
 
 -- a line, and those of its tokens that are left
 pub record Cursor : Type 0 where

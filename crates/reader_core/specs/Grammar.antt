@@ -1,5 +1,5 @@
--- Grammars as data, and what is wrong with a list of tokens.
-use Rattle.std.specs.Prelude.{◌≡◌, ℕ, Bool, true, false, if◌then◌else◌, ◌||◌, ◌&&◌, List, [], ◌∷◌, ◌++◌, length, Option, Some, None, nat_eq, nat_le, pos}
+-- Grammars as data.
+use Rattle.std.specs.Prelude.{ℕ, Bool, true, false, if◌then◌else◌, ◌||◌, ◌&&◌, List, length, Option, Some, None, nat_eq, nat_le, pos}
 use Rattle.std.specs.List.{list_any}
 use Rattle.base_core.specs.Words.{same_name}
 use Rattle.base_core.specs.declared.keyword.Keyword.{Keyword}
@@ -8,7 +8,6 @@ use Rattle.lexer_core.specs.declared.token.Mark.{Mark}
 use Rattle.lexer_core.specs.declared.token.Mark.TheVariants as marks
 use Rattle.lexer_core.specs.declared.token.Kind.{Kind}
 use Rattle.lexer_core.specs.declared.token.Kind.TheVariants as kinds
-use Rattle.lexer_core.specs.declared.token.Token as tokens
 use Rattle.lexer_core.specs.declared.fault.Code.{Code}
 use Rattle.lexer_core.specs.declared.fault.Code.TheVariants as codes
 
@@ -133,15 +132,8 @@ followed_by (Case c a b) k = Case c (followed_by a k) (followed_by b k)
 followed_by (Items r s i g) k = Items r s i (followed_by g k)
 followed_by (More r s i g) k = More r s i (followed_by g k)
 
--- ---- the leftmost fault
-abbrev pub can_end : Grammar → Bool
-can_end End = true
-can_end (One c g) = false
-can_end (Case c a b) = can_end b
-can_end (Items r s i g) = false
-can_end (More r s i g) = can_end g
-
--- what is wrong with an item that comes after so many
+-- ---- what is wrong with an item
+-- of one that comes after so many, and is repeated or is not
 unfoldable pub mark_from : Bool → ℕ → ℕ → Option Code
 mark_from repeated count limit = if repeated then Some codes.Duplicate else if nat_le limit count then Some codes.TooMany else None
 
@@ -149,37 +141,6 @@ mark_from repeated count limit = if repeated then Some codes.Duplicate else if n
 abbrev pub mark_of : Rule → List Kind → Kind → Option Code
 mark_of r seen t = mark_from (r.distinct && list_any (λ x. same x t) seen) (length seen) r.limit
 
--- each of the first tokens is as the list's rule wants it, after those seen
-abbrev pub AreFine : Rule → List Kind → List Kind → Type 0
-AreFine r seen [] = Unit {0}
-AreFine r seen (t ∷ ts) = (mark_of r seen t ≡ None) × AreFine r (seen ++ t ∷ []) ts
-
--- what may follow a token, the first of the grammar
-abbrev pub enter : Grammar → Grammar → Kind → Option Grammar
-enter End k t = None
-enter (One c g) k t = if fits c t then Some (followed_by g k) else None
-enter (Case c a b) k t = if fits c t then Some (followed_by a k) else enter b k t
-enter (Items r s i g) k t = None
-enter (More r s i g) k t = None
-
-abbrev pub marked : Option Code → Option Grammar → Option (Option Code × Grammar)
-marked m None = None
-marked m (Some g) = Some (m, g)
-
-abbrev pub step : Grammar → Kind → Option (Option Code × Grammar)
-step End t = None
-step (One c g) t = if fits c t then Some (None, g) else None
-step (Case c a b) t = if fits c t then Some (None, a) else step b t
-step (Items r s i g) t = marked (mark_of r s t) (enter i (More r (s ++ t ∷ []) i g) t)
-step (More r s i g) t = if fits r.separator t then Some (None, Items r s i g) else step g t
-
+-- a code, and the byte where it stands
 abbrev pub Fault : Type 0
 Fault = Code × ℕ
-
--- the first token that is wrong, as its code and its place; or `Expected` at the end, where they are not whole
-unfoldable pub first_fault : ℕ → Grammar → List tokens.Token → Option Fault
-first_fault end g [] = if can_end g then None else Some (codes.Expected, end)
-first_fault end g (t ∷ ts) = elim (step g t.kind) [
-  | None ↦ Some ((if can_end g then codes.Trailing else codes.Expected), t.start)
-  | Some s ↦ elim s.0 [ None ↦ first_fault end s.1 ts | Some code ↦ Some (code, t.start) ]
-]

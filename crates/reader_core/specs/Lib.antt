@@ -1,8 +1,10 @@
 pub mod Grammar
 pub mod Matches
 pub mod Privileges
-pub mod Cursor
 pub mod Language
+pub mod Choices
+pub mod Recogniser
+pub mod Cursor
 pub use Rattle.base_core.specs.Words
 pub use Rattle.base_core.specs.Distinct
 pub use Rattle.base_core.specs.Texts

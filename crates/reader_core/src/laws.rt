@@ -3,7 +3,8 @@ ghost use Rattle.std.specs.Prelude.{◌≡◌, ◌⊎◌, ℕ, List, All, map};
 ghost use Rattle.lexer_core.specs.Lexing.{Lexeme, IsProper, kind_of};
 ghost use Rattle.lexer_core.specs.declared.fault.Code.{Code};
 ghost use Rattle.reader_core.specs.declared.statement.Statement.{Statement};
-ghost use Rattle.reader_core.specs.Matches.{Spot, Matches, Derives, IsWhole, IsPredictive, never};
+ghost use Rattle.reader_core.specs.Matches.{Spot, Matches, IsWhole};
+ghost use Rattle.reader_core.specs.Choices.{Derives, IsPredictive, never};
 ghost use Rattle.reader_core.specs.Language.{statement, SaysStatement, Spells, IsLawful, IsReadFault};
 
 /// No line spells two statements.

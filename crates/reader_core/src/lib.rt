@@ -24,21 +24,22 @@
 //! read(alloc, b"SELECT a, a FROM t")                  // Err: Duplicate at 10
 //! ```
 //!
+//! Read first [`Statement`] and its parts in `statement`, `privilege` and `checkpoint`, and then
+//! `specs/Language.antt`, which stands on `specs/Grammar.antt` and `specs/Matches.antt`: what is read, and
+//! what it means. The rest is machinery, of which no public clause speaks: the reader in `parsing`, with
+//! `specs/Cursor.antt` for what each part of it takes and `specs/Recogniser.antt` for how the one fault is
+//! found token by token. `specs/Choices.antt` is what the law `one_choice` says.
+//!
 //! Reading goes over the tokens of a line once, with no look back and one token ahead. An item of a
 //! list is compared with those before it, of which there are at most 32. [`read`] takes memory for the
 //! tokens, the lists and the texts, and answers `NoMemory` where it is refused.
 #![tactic(auto)]
 
 mod checkpoint;
-mod heads;
-mod items;
 pub mod laws;
-mod list;
-mod parts;
+mod parsing;
 mod privilege;
-mod reader;
 mod reading;
-mod sentence;
 mod statement;
 
 pub use checkpoint::CheckpointNumber;

@@ -4,7 +4,7 @@ ghost use Rattle.lexer_core.specs.declared.fault.Code.{Code};
 ghost use Rattle.reader_core.specs.declared.statement.Statement.{Statement as Said};
 ghost use Rattle.reader_core.specs.Language.{Spells, IsReadFault, IsReadFaultOf, UnlessNoMemory};
 
-use crate::reader::Reader;
+use crate::parsing::reader::Reader;
 use crate::statement::Statement;
 use lexer_core::{Code, ReadFault, tokens};
 use std::alloc::Global;

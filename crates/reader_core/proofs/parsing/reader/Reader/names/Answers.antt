@@ -1,0 +1,10 @@
+use Rattle.std.proofs.Common.{arith}
+use Rattle.lexer_core.specs.declared.token.Kind.TheVariants as kinds
+use Rattle.reader_core.specs.Language.{names_rule}
+use Rattle.reader_core.proofs.Fine.{few_if_fine, distinct_if_fine}
+use Rattle.reader_core.proofs.parsing.reader.Reader.names.Goals as goal
+
+pub from_vec-requires : goal.from_vec-requires
+from_vec-requires c =
+    let names = c.in_ok-names.names.items in
+    (omega arith, (c.in_ok-names.ensures.some, (few_if_fine (names_rule 32) (λ x. kinds.Name x) names c.in_ok-names.ensures.fine, distinct_if_fine 32 (λ x. x) names c.in_ok-names.ensures.fine)))

@@ -1,0 +1,216 @@
+//! The items of the language's lists.
+ghost use Rattle.std.specs.Prelude.{◌≡◌, ◌∷◌, ◌++◌, [], ◌<◌, None, Some, IfOk, map};
+ghost use Rattle.lexer_core.specs.Lexing.{kind_of};
+ghost use Rattle.reader_core.specs.Grammar.{Items, More, mark_of};
+ghost use Rattle.reader_core.specs.Cursor.{Leads, next_is};
+
+use crate::parsing::list::Item;
+use crate::privilege::{Privilege, Word};
+use crate::parsing::reader::Reader;
+use crate::statement::{MAX_ITEMS, MAX_USERS};
+use base_core::{Assignment, Column, Condition, Keyword, Name, User, Value};
+use lexer_core::{Code, Mark, ReadFault};
+use std::alloc::Global;
+
+impl Item for Column {
+    ghost use Rattle.lexer_core.specs.declared.token.Kind.TheVariants as kinds;
+    ghost use Rattle.reader_core.specs.Language.{names_rule, comma, column_item, column_says};
+
+    ghost rule = { names_rule 32 };
+
+    ghost separator = { comma };
+
+    ghost grammar = { column_item };
+
+    ghost first = { λ c. kinds.Name c.name };
+
+    ghost says = { column_says };
+
+    fn read(
+        reader: &mut Reader<'_>,
+        _alloc: Global,
+        before: &[Column],
+    ) -> Result<Column, ReadFault> {
+        let name = reader.item_name(before, MAX_ITEMS)?;
+        let ty = reader.column_type()?;
+        Ok(Column { name, ty })
+    }
+
+    fn at_separator(reader: &Reader<'_>) -> bool {
+        reader.at_mark(Mark::Comma)
+    }
+}
+
+impl Item for Value {
+    ghost use Rattle.std.specs.Prelude.{false};
+    ghost use Rattle.lexer_core.specs.Lexing.{kind_of};
+    ghost use Rattle.reader_core.specs.Language.{commas, comma, literal_item, value_lexeme, value_says};
+
+    ghost rule = { commas 32 false };
+
+    ghost separator = { comma };
+
+    ghost grammar = { literal_item };
+
+    ghost first = { λ v. kind_of (value_lexeme v) };
+
+    ghost says = { value_says };
+
+    fn read(reader: &mut Reader<'_>, alloc: Global, before: &[Value]) -> Result<Value, ReadFault> {
+        if !reader.at_literal() {
+            return Err(reader.fault(Code::Expected));
+        }
+        reader.check_item(false, before.len(), MAX_ITEMS)?;
+        let value = reader.value(alloc)?;
+        reader.advance();
+        Ok(value)
+    }
+
+    fn at_separator(reader: &Reader<'_>) -> bool {
+        reader.at_mark(Mark::Comma)
+    }
+}
+
+impl Item for Name {
+    ghost use Rattle.lexer_core.specs.declared.token.Kind.TheVariants as kinds;
+    ghost use Rattle.reader_core.specs.Language.{names_rule, comma, name_item, name_says};
+
+    ghost rule = { names_rule 32 };
+
+    ghost separator = { comma };
+
+    ghost grammar = { name_item };
+
+    ghost first = { λ n. kinds.Name n };
+
+    ghost says = { name_says };
+
+    fn read(reader: &mut Reader<'_>, _alloc: Global, before: &[Name]) -> Result<Name, ReadFault> {
+        reader.item_name(before, MAX_ITEMS)
+    }
+
+    fn at_separator(reader: &Reader<'_>) -> bool {
+        reader.at_mark(Mark::Comma)
+    }
+}
+
+impl Item for User {
+    ghost use Rattle.lexer_core.specs.declared.token.Kind.TheVariants as kinds;
+    ghost use Rattle.reader_core.specs.Language.{names_rule, comma, name_item, user_says};
+
+    ghost rule = { names_rule 16 };
+
+    ghost separator = { comma };
+
+    ghost grammar = { name_item };
+
+    ghost first = { λ u. kinds.Name u.0 };
+
+    ghost says = { user_says };
+
+    fn read(reader: &mut Reader<'_>, _alloc: Global, before: &[User]) -> Result<User, ReadFault> {
+        let name = reader.item_name(before, MAX_USERS)?;
+        Ok(User(name))
+    }
+
+    fn at_separator(reader: &Reader<'_>) -> bool {
+        reader.at_mark(Mark::Comma)
+    }
+}
+
+impl Item for Assignment {
+    ghost use Rattle.lexer_core.specs.declared.token.Kind.TheVariants as kinds;
+    ghost use Rattle.reader_core.specs.Language.{names_rule, comma, set_item, set_says};
+
+    ghost rule = { names_rule 32 };
+
+    ghost separator = { comma };
+
+    ghost grammar = { set_item };
+
+    ghost first = { λ a. kinds.Name a.column };
+
+    ghost says = { set_says };
+
+    fn read(
+        reader: &mut Reader<'_>,
+        alloc: Global,
+        before: &[Assignment],
+    ) -> Result<Assignment, ReadFault> {
+        let column = reader.item_name(before, MAX_ITEMS)?;
+        reader.mark(Mark::Equal)?;
+        let value = reader.literal(alloc)?;
+        Ok(Assignment { column, value })
+    }
+
+    fn at_separator(reader: &Reader<'_>) -> bool {
+        reader.at_mark(Mark::Comma)
+    }
+}
+
+impl Item for Condition {
+    ghost use Rattle.lexer_core.specs.Lexing as lexemes;
+    ghost use Rattle.lexer_core.specs.declared.token.Kind.TheVariants as kinds;
+    ghost use Rattle.base_core.specs.declared.keyword.Keyword.TheVariants as keywords;
+    ghost use Rattle.reader_core.specs.Language.{conditions_rule, condition_item, condition_says};
+
+    ghost rule = { conditions_rule };
+
+    ghost separator = { lexemes.Key keywords.And };
+
+    ghost grammar = { condition_item };
+
+    ghost first = { λ c. kinds.Name c.column };
+
+    ghost says = { condition_says };
+
+    fn read(
+        reader: &mut Reader<'_>,
+        alloc: Global,
+        before: &[Condition],
+    ) -> Result<Condition, ReadFault> {
+        let column = reader.tested_column(before)?;
+        let comparison = reader.comparison()?;
+        let literal = reader.literal(alloc)?;
+        Ok(Condition {
+            column,
+            comparison,
+            literal,
+        })
+    }
+
+    fn at_separator(reader: &Reader<'_>) -> bool {
+        reader.at_keyword(Keyword::And)
+    }
+}
+
+impl Item for Privilege {
+    ghost use Rattle.lexer_core.specs.declared.token.Kind.TheVariants as kinds;
+    ghost use Rattle.reader_core.specs.Privileges.{word_of, word_keyword};
+    ghost use Rattle.reader_core.specs.Language.{privileges_rule, comma, privilege_item, privilege_says, IsLawfulPrivilege};
+
+    ghost rule = { privileges_rule };
+
+    ghost separator = { comma };
+
+    ghost grammar = { privilege_item };
+
+    ghost first = { λ p. kinds.Keyword (word_keyword (word_of p)) };
+
+    ghost says = { privilege_says };
+
+    ghost lawful = { IsLawfulPrivilege };
+
+    fn read(
+        reader: &mut Reader<'_>,
+        alloc: Global,
+        before: &[Privilege],
+    ) -> Result<Privilege, ReadFault> {
+        let word = reader.item_word(before)?;
+        reader.privilege(alloc, word)
+    }
+
+    fn at_separator(reader: &Reader<'_>) -> bool {
+        reader.at_mark(Mark::Comma)
+    }
+}

@@ -1,0 +1,57 @@
+//! Lists of items with a separator between each two.
+ghost use Rattle.std.specs.Prelude.{◌≡◌, ◌<◌, ◌∷◌, ◌++◌, [], List, None, Some, true, All, IfOk, length, map};
+ghost use Rattle.lexer_core.specs.Lexing.{Lexeme};
+ghost use Rattle.lexer_core.specs.declared.token.Kind.{Kind};
+ghost use Rattle.reader_core.specs.Grammar.{Grammar, Rule, Items, More, mark_of};
+ghost use Rattle.reader_core.specs.Recogniser.{AreFine};
+ghost use Rattle.reader_core.specs.Cursor.{Reads, Leads, next_is, next_lexeme};
+ghost use Rattle.reader_core.specs.Language.{listed};
+
+use crate::parsing::reader::Reader;
+use lexer_core::ReadFault;
+use std::alloc::Global;
+
+/// What a list of the language holds.
+pub trait Item: Drop + Sized {
+    // How many there may be, whether they differ by their first tokens, and what stands between them.
+    ghost rule: { Rule };
+    // The separator as a token says it.
+    ghost separator: { Lexeme };
+    // An item.
+    ghost grammar: { Grammar };
+    // The kind of its first token.
+    ghost first: { Self → Kind };
+    // What it says, token by token.
+    ghost says: { Self → List Lexeme };
+    // What the language asks of an item by itself.
+    ghost lawful: { Self → Type 0 } = { λ _. Unit {0} };
+
+    /// Reads the item that comes after these.
+    fn read(reader: &mut Reader<'_>, alloc: Global, before: &[Self]) -> Result<Self, ReadFault>
+        ensures leads { Leads (λ k. Items rule (map first before.now) grammar k) (λ x k. More rule (map first (before.now ++ x ∷ [])) grammar k) says result reader.old reader.new }
+        ensures fine { IfOk result (λ x. mark_of rule (map first before.now) (first x) ≡ None) }
+        ensures lawful { IfOk result (λ x. lawful x) };
+
+    /// Whether a separator comes next.
+    fn at_separator(reader: &Reader<'_>) -> bool
+        ensures next { result ≡ next_is rule.separator reader.now }
+        ensures said { result ≡ true → next_lexeme reader.now ≡ Some separator };
+}
+
+/// One item, and more of them behind separators.
+pub fn list<T: Item>(reader: &mut Reader<'_>, alloc: Global) -> Result<Vec<T>, ReadFault>
+    ensures reads { Reads (λ k. Items T.rule [] T.grammar k) (λ v. listed T.separator T.says v.items) result reader.old reader.new }
+    ensures some { IfOk result (λ v. 0 < length v.items) }
+    ensures fine { IfOk result (λ v. AreFine T.rule [] (map T.first v.items)) }
+    ensures lawful { IfOk result (λ v. All T.lawful v.items) }
+{
+    let mut items = Vec::new(alloc);
+    loop {
+        let item = T::read(reader, alloc, &items)?;
+        items.push(item)?;
+        if !T::at_separator(reader) {
+            return Ok(items);
+        }
+        reader.advance();
+    }
+}

@@ -1,0 +1,151 @@
+//! Parts of statements.
+ghost use Rattle.std.specs.Prelude.{◌≡◌, ◌∷◌, ◌++◌, [], IfOk};
+ghost use Rattle.base_core.specs.declared.keyword.Keyword.TheVariants as keywords;
+ghost use Rattle.lexer_core.specs.Lexing as lexemes;
+ghost use Rattle.lexer_core.specs.declared.token.Mark.TheVariants as marks;
+ghost use Rattle.reader_core.specs.Grammar.{Items};
+ghost use Rattle.reader_core.specs.Cursor.{Reads};
+ghost use Rattle.reader_core.specs.Privileges.{word_of};
+ghost use Rattle.reader_core.specs.Language.{optional, comma, listed, name_list, names_say, name_says, user_says, selected, selection_says, in_brackets, columns_say, behind_word, privilege_columns, IsLawfulPrivilege, privileges_rule, privilege_item, privilege_says, ArePrivileges, filter, filter_says, grant_option, option_says, only_table, only_says};
+
+use crate::parsing::list::list;
+use crate::privilege::{Privilege, Privileges, Word};
+use crate::parsing::reader::Reader;
+use crate::statement::{MAX_ITEMS, MAX_USERS};
+use base_core::{Condition, Distinct, Keyword, Limited, Name, User};
+use lexer_core::{Mark, ReadFault};
+use std::alloc::Global;
+
+impl Reader<'_> {
+    /// Names of columns.
+    fn names(&mut self, alloc: Global) -> Result<Distinct<Name, MAX_ITEMS>, ReadFault>
+        ensures { Reads (name_list 32) (λ names. names_say names) result self.old self.new }
+    {
+        let names = list::<Name>(self, alloc)?;
+        Ok(Distinct::from_vec(names))
+    }
+
+    pub fn users(&mut self, alloc: Global) -> Result<Distinct<User, MAX_USERS>, ReadFault>
+        ensures { Reads (name_list 16) (λ users. listed comma user_says users) result self.old self.new }
+    {
+        let users = list::<User>(self, alloc)?;
+        Ok(Distinct::from_vec(users))
+    }
+
+    /// The columns of SELECT, or None for all.
+    pub fn selection(
+        &mut self,
+        alloc: Global,
+    ) -> Result<Option<Distinct<Name, MAX_ITEMS>>, ReadFault>
+        ensures { Reads selected (λ list. selection_says list) result self.old self.new }
+    {
+        if self.at_mark(Mark::Star) {
+            self.advance();
+            return Ok(None);
+        }
+        let names = self.names(alloc)?;
+        Ok(Some(names))
+    }
+
+    fn in_brackets(&mut self, alloc: Global) -> Result<Distinct<Name, MAX_ITEMS>, ReadFault>
+        ensures { Reads in_brackets (λ names. lexemes.Sign marks.Open ∷ (names_say names ++ lexemes.Sign marks.Close ∷ [])) result self.old self.new }
+    {
+        self.mark(Mark::Open)?;
+        let names = self.names(alloc)?;
+        self.mark(Mark::Close)?;
+        Ok(names)
+    }
+
+    /// The columns of UPDATE as a privilege, or None for all.
+    fn columns(&mut self, alloc: Global) -> Result<Option<Distinct<Name, MAX_ITEMS>>, ReadFault>
+        ensures { Reads (optional in_brackets) (λ columns. columns_say columns) result self.old self.new }
+    {
+        if !self.at_mark(Mark::Open) {
+            return Ok(None);
+        }
+        let columns = self.in_brackets(alloc)?;
+        Ok(Some(columns))
+    }
+
+    /// The privilege of a word that was read.
+    pub fn privilege(&mut self, alloc: Global, word: Word) -> Result<Privilege, ReadFault>
+        ensures reads { Reads (behind_word word) (λ p. columns_say (privilege_columns p)) result self.old self.new }
+        ensures word { IfOk result (λ p. word_of p ≡ word) }
+        ensures lawful { IfOk result (λ p. IsLawfulPrivilege p) }
+    {
+        match word {
+            Word::Select => Ok(Privilege::Select),
+            Word::Insert => Ok(Privilege::Insert),
+            Word::Delete => Ok(Privilege::Delete),
+            Word::Update => {
+                let columns = self.columns(alloc)?;
+                Ok(Privilege::Update(columns))
+            }
+        }
+    }
+
+    pub fn privileges(&mut self, alloc: Global) -> Result<Privileges, ReadFault>
+        ensures reads { Reads (λ k. Items privileges_rule [] privilege_item k) (λ ps. listed comma privilege_says ps) result self.old self.new }
+        ensures lawful { IfOk result (λ ps. ArePrivileges ps) }
+    {
+        let privileges = list::<Privilege>(self, alloc)?;
+        Ok(Privileges::from_vec(privileges))
+    }
+
+    fn conditions(&mut self, alloc: Global) -> Result<Limited<Condition, MAX_ITEMS>, ReadFault>
+        ensures { Reads filter (λ conditions. filter_says conditions) result self.old self.new }
+    {
+        self.keyword(Keyword::Where)?;
+        let conditions = list::<Condition>(self, alloc)?;
+        Ok(Limited::from_vec(conditions))
+    }
+
+    /// The conditions behind WHERE, or none.
+    pub fn filter(&mut self, alloc: Global) -> Result<Limited<Condition, MAX_ITEMS>, ReadFault>
+        ensures { Reads (optional filter) (λ conditions. filter_says conditions) result self.old self.new }
+    {
+        if !self.at_keyword(Keyword::Where) {
+            return Ok(Limited::new(alloc));
+        }
+        self.conditions(alloc)
+    }
+
+    fn with_grant_option(&mut self) -> Result<(), ReadFault>
+        ensures { Reads grant_option (λ _. lexemes.Key keywords.With ∷ lexemes.Key keywords.Grant ∷ lexemes.Key keywords.Option ∷ []) result self.old self.new }
+    {
+        self.keyword(Keyword::With)?;
+        self.keyword(Keyword::Grant)?;
+        self.keyword(Keyword::Option)?;
+        Ok(())
+    }
+
+    /// Whether WITH GRANT OPTION comes.
+    pub fn option(&mut self) -> Result<bool, ReadFault>
+        ensures { Reads (optional grant_option) option_says result self.old self.new }
+    {
+        if !self.at_keyword(Keyword::With) {
+            return Ok(false);
+        }
+        self.with_grant_option()?;
+        Ok(true)
+    }
+
+    fn only_table(&mut self) -> Result<Name, ReadFault>
+        ensures { Reads only_table (λ table. lexemes.Key keywords.Only ∷ lexemes.Named table ∷ []) result self.old self.new }
+    {
+        self.keyword(Keyword::Only)?;
+        let table = self.name()?;
+        Ok(table)
+    }
+
+    /// The table behind ONLY, if it comes.
+    pub fn only(&mut self) -> Result<Option<Name>, ReadFault>
+        ensures { Reads (optional only_table) (λ only. only_says only) result self.old self.new }
+    {
+        if !self.at_keyword(Keyword::Only) {
+            return Ok(None);
+        }
+        let table = self.only_table()?;
+        Ok(Some(table))
+    }
+}
