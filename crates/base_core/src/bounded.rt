@@ -7,7 +7,7 @@ use std::alloc::Global;
 use std::marker::Model;
 
 /// At least one item and at most `LIMIT`, in order. Contracts see the list of them.
-#[derive(Debug, Drop)]
+#[derive(Drop)]
 pub struct Several<T, const LIMIT: usize> {
     items: Vec<T>,
 }
@@ -42,7 +42,7 @@ impl<T, const LIMIT: usize> Several<T, LIMIT> {
 }
 
 /// At most `LIMIT` items, in order, or none. Contracts see the list of them.
-#[derive(Debug, Drop)]
+#[derive(Drop)]
 pub struct Limited<T, const LIMIT: usize> {
     items: Vec<T>,
 }
@@ -93,7 +93,7 @@ pub trait Named {
 
 /// At least one item and at most `LIMIT`, with different names, in order. Contracts see the list of
 /// them.
-#[derive(Debug, Drop)]
+#[derive(Drop)]
 pub struct Distinct<T: Named, const LIMIT: usize> {
     items: Vec<T>,
 }

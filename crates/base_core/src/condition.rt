@@ -10,7 +10,7 @@ use crate::value::{Column, Value};
 use std::cmp::Ordering;
 
 /// How a value stands to a literal.
-#[derive(Clone, Copy, Debug, PartialEq, Eq)]
+#[derive(Clone, Copy, PartialEq, Eq)]
 pub enum Comparison {
     Equal,
     NotEqual,
@@ -21,7 +21,7 @@ pub enum Comparison {
 }
 
 /// What WHERE asks of one column.
-#[derive(Debug, Drop)]
+#[derive(Drop)]
 pub struct Condition {
     pub column: Name,
     pub comparison: Comparison,
@@ -29,7 +29,7 @@ pub struct Condition {
 }
 
 /// What SET makes of one column.
-#[derive(Debug, Drop)]
+#[derive(Drop)]
 pub struct Assignment {
     pub column: Name,
     pub value: Value,

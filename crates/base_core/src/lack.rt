@@ -7,7 +7,7 @@ use crate::privilege::Atom;
 use crate::value::ColType;
 
 /// What may be full.
-#[derive(Clone, Copy, Debug, PartialEq, Eq)]
+#[derive(Clone, Copy, PartialEq, Eq)]
 pub enum What {
     Changes,
     Tables,
@@ -17,7 +17,7 @@ pub enum What {
 
 /// What is missing where a statement is not carried out. Each leaves everything unchanged. Codes 11
 /// to 20 are denials, those from 21 on are refusals.
-#[derive(Clone, Copy, Debug, PartialEq, Eq)]
+#[derive(Clone, Copy, PartialEq, Eq)]
 pub enum Lack {
     NoTable(Name),
     TableExists(Name),

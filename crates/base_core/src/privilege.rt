@@ -3,7 +3,7 @@
 use crate::name::Name;
 
 /// What a privilege allows (Griffiths and Wade 1976, section 2).
-#[derive(Clone, Copy, Debug, PartialEq, Eq)]
+#[derive(Clone, Copy, PartialEq, Eq)]
 pub enum Kind {
     Select,
     Insert,
@@ -13,7 +13,7 @@ pub enum Kind {
 }
 
 /// One privilege on one table: the least that can be granted.
-#[derive(Clone, Copy, Debug, PartialEq, Eq)]
+#[derive(Clone, Copy, PartialEq, Eq)]
 pub struct Atom {
     pub table: Name,
     pub kind: Kind,

@@ -7,7 +7,7 @@ use std::marker::Model;
 
 /// At most 1,024 bytes of UTF-8 with no control character (U+0000 to U+001F, U+007F to U+009F).
 /// Contracts see its bytes.
-#[derive(Debug, Drop)]
+#[derive(Drop)]
 pub struct Text {
     text: String,
 }

@@ -14,7 +14,7 @@ use std::cmp::Ordering;
 pub struct Moment(pub u64);
 
 /// What a column holds.
-#[derive(Clone, Copy, Debug, PartialEq, Eq)]
+#[derive(Clone, Copy, PartialEq, Eq)]
 pub enum ColType {
     /// Whole numbers from -2^63 to 2^63 - 1.
     Integer,
@@ -23,7 +23,7 @@ pub enum ColType {
 }
 
 /// A column of a table.
-#[derive(Clone, Copy, Debug, PartialEq, Eq)]
+#[derive(Clone, Copy, PartialEq, Eq)]
 pub struct Column {
     pub name: Name,
     pub ty: ColType,
@@ -46,7 +46,7 @@ impl Named for Name {
 }
 
 /// A value of a row, or a literal.
-#[derive(Debug, PartialEq, Eq, Drop)]
+#[derive(PartialEq, Eq, Drop)]
 pub enum Value {
     Int(i64),
     Text(Text),
@@ -86,7 +86,7 @@ impl Twin for Value {
 }
 
 /// The values of one row, in the order of its table's columns.
-#[derive(Debug, Drop)]
+#[derive(Drop)]
 pub struct Row {
     pub values: Sequence<Value>,
 }

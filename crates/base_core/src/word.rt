@@ -11,7 +11,7 @@ use crate::name::Name;
 pub const MAX_NAME: usize = 30;
 
 /// What a word is: reserved, or else a name.
-#[derive(Clone, Copy, Debug, PartialEq, Eq)]
+#[derive(Clone, Copy, PartialEq, Eq)]
 pub enum Word {
     Keyword(Keyword),
     Name(Name),

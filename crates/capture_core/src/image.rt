@@ -10,7 +10,7 @@ use base_core::{Atom, Column, Moment, Name, Row, Sequence, User};
 use grants_core::Grant;
 
 /// A table as it stood at a checkpoint's point.
-#[derive(Debug, Drop)]
+#[derive(Drop)]
 pub struct TableImage {
     pub name: Name,
     pub owner: User,
@@ -20,7 +20,7 @@ pub struct TableImage {
 }
 
 /// The state at a checkpoint's point.
-#[derive(Debug, Drop)]
+#[derive(Drop)]
 pub struct Image {
     /// The number of the checkpoint, from 1 on.
     pub number: u64,

@@ -8,7 +8,7 @@ use grants_core::Authority;
 use std::alloc::Global;
 
 /// What an export tells of a table.
-#[derive(Clone, Copy, Debug, PartialEq, Eq)]
+#[derive(Clone, Copy, PartialEq, Eq)]
 pub enum Judgement {
     /// Its rows: the user held SELECT of it at the point, and holds it now.
     Listed,

@@ -31,7 +31,7 @@ const ROWS_OF_A_WRITER: usize = 128;
 /// moment of the request, the records given so far, and those to come.
 ///
 /// It shares the checkpoint's image and copies nothing of it: each record is made when it is asked for.
-#[derive(Debug, Drop)]
+#[derive(Drop)]
 pub struct Ticket {
     image: Arc<Image>,
     at: Moment,

@@ -4,7 +4,7 @@ ghost use Rattle.std.specs.Prelude.{◌≡◌};
 use base_core::{Atom, Moment, Name, NoMemory, Sequence, Twin, User};
 
 /// A single grant: who gave which privilege to whom, when, and whether he may grant it on.
-#[derive(Clone, Copy, Debug, PartialEq, Eq)]
+#[derive(Clone, Copy, PartialEq, Eq)]
 pub struct Grant {
     /// How many single grants were made before it.
     pub number: u64,
@@ -26,7 +26,7 @@ impl Twin for Grant {
 }
 
 /// A table's owner, and whether a grant on the table was ever made.
-#[derive(Clone, Copy, Debug, PartialEq, Eq)]
+#[derive(Clone, Copy, PartialEq, Eq)]
 pub struct Ownership {
     pub table: Name,
     pub owner: User,
@@ -34,7 +34,7 @@ pub struct Ownership {
 }
 
 /// An accepted change, as far as it touches grants.
-#[derive(Debug, Drop)]
+#[derive(Drop)]
 pub enum Change {
     Create {
         table: Name,

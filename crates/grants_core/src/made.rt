@@ -14,7 +14,7 @@ use base_core::{Atom, Moment, NoMemory, User};
 use std::alloc::Global;
 
 /// A grant that was made. One that was struck doesn't stand.
-#[derive(Clone, Copy, Debug)]
+#[derive(Clone, Copy)]
 pub struct Made {
     pub grant: Grant,
     pub struck: bool,

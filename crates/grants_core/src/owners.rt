@@ -11,7 +11,7 @@ use std::marker::Model;
 
 /// The tables' owners, each with whether a grant on the table was ever made. Contracts see the list
 /// of them, in the order in which the tables were first given an owner.
-#[derive(Debug, Drop)]
+#[derive(Drop)]
 pub struct Owners {
     entries: Vec<Ownership>,
 }

@@ -71,7 +71,7 @@ impl Code {
 }
 
 /// A fault, and the byte of the slice, from 0, that it stands at.
-#[derive(Clone, Copy, Debug, PartialEq, Eq)]
+#[derive(Clone, Copy, PartialEq, Eq)]
 pub struct Fault {
     pub code: Code,
     pub offset: usize,

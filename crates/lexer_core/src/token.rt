@@ -2,7 +2,7 @@
 
 use base_core::{Keyword, Name};
 
-#[derive(Clone, Copy, Debug, PartialEq, Eq)]
+#[derive(Clone, Copy, PartialEq, Eq)]
 pub enum Mark {
     Open,
     Close,
@@ -18,7 +18,7 @@ pub enum Mark {
 }
 
 /// What a token is. A text's bytes stay in the line; `unquoted` makes the text of them.
-#[derive(Clone, Copy, Debug, PartialEq, Eq)]
+#[derive(Clone, Copy, PartialEq, Eq)]
 pub enum Kind {
     Keyword(Keyword),
     Name(Name),
@@ -28,7 +28,7 @@ pub enum Kind {
 }
 
 /// A token and its slice of the line, in bytes from 0: from `start` to before `end`.
-#[derive(Clone, Copy, Debug, PartialEq, Eq)]
+#[derive(Clone, Copy, PartialEq, Eq)]
 pub struct Token {
     pub kind: Kind,
     pub start: usize,

@@ -173,7 +173,7 @@ fn names(rt: &impl Abort, alloc: Global, limits: &Limits, rows: &[Row]) -> Resul
         let (by, first) = (user(*by)?, lack(*first)?);
         let statement = read(alloc, text.as_bytes())?;
         let answer = judge(&tables, &rights, limits, by, &statement, NOW);
-        assert_eq!(rt; answer, Err(first), "{text}");
+        assert!(rt; answer == Err(first), "{text}");
     }
     Ok(())
 }
@@ -441,7 +441,7 @@ fn allows(rt: &impl Abort, alloc: Global, texts: &[&str], change: bool) -> Resul
     for text in texts {
         let statement = read(alloc, text.as_bytes())?;
         let answer = judge(&tables, &rights, &limits, by, &statement, NOW);
-        assert_eq!(rt; answer, Ok(Allowed { change }), "{text}");
+        assert!(rt; answer == Ok(Allowed { change }), "{text}");
     }
     Ok(())
 }

@@ -1,7 +1,7 @@
 //! What the monitor allows.
 
 /// A statement that may be carried out at the state that it was judged at.
-#[derive(Clone, Copy, Debug, PartialEq, Eq)]
+#[derive(Clone, Copy, PartialEq, Eq)]
 pub struct Allowed {
     /// Whether the statement is a change: one that makes a moment and is entered into the journal.
     /// CREATE TABLE, INSERT, DELETE, UPDATE, GRANT and REVOKE are, whatever they find to change.

@@ -12,7 +12,7 @@ use std::marker::Model;
 pub const MAX_PRIVILEGES: usize = 4;
 
 /// What a privilege is named by.
-#[derive(Clone, Copy, Debug, PartialEq, Eq)]
+#[derive(Clone, Copy, PartialEq, Eq)]
 pub(crate) enum Word {
     Select,
     Insert,
@@ -21,7 +21,7 @@ pub(crate) enum Word {
 }
 
 /// A privilege. UPDATE may be limited to columns.
-#[derive(Debug, Drop)]
+#[derive(Drop)]
 pub enum Privilege {
     Select,
     Insert,
@@ -49,7 +49,7 @@ impl Privilege {
 }
 
 /// One to four privileges with different words, in the order written. Contracts see the list of them.
-#[derive(Debug, Drop)]
+#[derive(Drop)]
 pub struct Privileges {
     items: Vec<Privilege>,
 }

@@ -12,7 +12,7 @@ pub const MAX_USERS: usize = 16;
 
 /// A statement. Its lists keep the limits and the distinctness of the language, and come in the order
 /// written. A filter without conditions is no WHERE: every row is chosen.
-#[derive(Debug, Drop)]
+#[derive(Drop)]
 pub enum Statement {
     CreateTable {
         table: Name,

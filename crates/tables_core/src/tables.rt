@@ -11,7 +11,7 @@ use std::alloc::Global;
 use std::marker::Model;
 
 /// One of several tables, to look at. It is `Copy`.
-#[derive(Clone, Copy, Debug)]
+#[derive(Clone, Copy)]
 pub struct TableView<'a> {
     pub name: Name,
     pub owner: User,

@@ -20,7 +20,7 @@ use std::marker::Model;
 use std::sync::Wait;
 
 /// All turns are drawn: their count, from the turnstile's start on, is 2^62.
-#[derive(Debug, Drop)]
+#[derive(Drop)]
 pub struct Worn;
 
 const LAST: u64 = 1 << 62;

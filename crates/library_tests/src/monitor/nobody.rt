@@ -109,7 +109,7 @@ fn nobody_holds_anything(rt: HostRuntime) -> Result<(), Fail> {
     for (text, wanted) in &rows {
         let (statement, wanted) = (read(rt.alloc(), text.as_bytes())?, answer(*wanted)?);
         let answer = judge(&tables, &Nobody, &limits, by, &statement, Moment(1));
-        assert_eq!(rt; answer, wanted, "{text}");
+        assert!(rt; answer == wanted, "{text}");
     }
     Ok(())
 }

@@ -5,7 +5,7 @@ use export_core::Ticket;
 use reader_core::Statement;
 
 /// An accepted change: through which pass, by whom, and what. Entry m, counted from 1, made moment m.
-#[derive(Debug, Drop)]
+#[derive(Drop)]
 pub struct Entry {
     pub pass: u64,
     pub user: User,
@@ -13,7 +13,7 @@ pub struct Entry {
 }
 
 /// What the core is asked.
-#[derive(Debug, Drop)]
+#[derive(Drop)]
 pub enum Event {
     Say {
         pass: u64,
@@ -27,7 +27,7 @@ pub enum Event {
 }
 
 /// A checkpoint, as CHECKPOINTS lists it. Its point is the moment at which it was begun.
-#[derive(Clone, Copy, Debug)]
+#[derive(Clone, Copy)]
 pub enum Checkpoint {
     /// It was finished, and is kept.
     Kept {
@@ -43,7 +43,7 @@ pub enum Checkpoint {
 }
 
 /// What the core answers.
-#[derive(Debug, Drop)]
+#[derive(Drop)]
 pub enum Reply {
     /// The change was accepted, and made this moment.
     Done {

@@ -21,7 +21,7 @@ const LOST: &[u8] = b"reply lost: no memory\n";
 const CUT: &[u8] = b"export cut: no memory\n";
 
 /// What is said of a line.
-#[derive(Debug, Drop)]
+#[derive(Drop)]
 pub enum Said {
     /// It has this fault, at this byte.
     Fault { code: Code, offset: usize },
