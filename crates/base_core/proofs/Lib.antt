@@ -2,3 +2,4 @@ pub mod Filled
 pub mod Folded
 pub mod Initials
 pub mod Printable
+pub mod SameLemmas

@@ -2,6 +2,7 @@ pub mod Words
 pub mod Named
 pub mod Spelled
 pub mod Users
+pub mod Privileges
 pub mod Distinct
 pub mod Texts
 pub mod Values

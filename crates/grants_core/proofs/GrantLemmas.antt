@@ -6,12 +6,12 @@ use Rattle.base_core.specs.declared.name.User.{User}
 use Rattle.base_core.specs.declared.privilege.Atom.{Atom}
 use Rattle.base_core.specs.declared.value.Moment.{Moment}
 use Rattle.base_core.specs.Words.{same_name}
-use Rattle.grants_core.specs.Same.{same_atom}
+use Rattle.base_core.specs.Privileges.{same_atom}
 use Rattle.grants_core.specs.Owners.{owns, with_granted, was_granted}
 use Rattle.grants_core.specs.Valid.{is_supported, kept_with, valid, AreSupported}
 use Rattle.grants_core.specs.Content.{gives, may_grant, singles}
 use Rattle.grants_core.specs.Made.{AreMarked}
-use Rattle.grants_core.proofs.SameLemmas.{same_atom-true, same_name-refl}
+use Rattle.base_core.proofs.SameLemmas.{same_atom-true, same_name-refl}
 use Rattle.grants_core.specs.declared.grant.Grant.{Grant}
 use Rattle.grants_core.specs.declared.grant.Ownership.{Ownership}
 use Rattle.grants_core.proofs.OwnersLemmas.{was_granted-owned, was_granted-with_granted, AllByRecursion-append, singles-all, supported-from_may}

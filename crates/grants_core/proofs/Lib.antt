@@ -1,5 +1,4 @@
 pub mod WorkedExamples
-pub mod SameLemmas
 pub mod ValidLemmas
 pub mod OwnersLemmas
 pub mod SinglesLemmas

@@ -14,12 +14,12 @@ use Rattle.grants_core.specs.declared.grant.Grant.{Grant}
 use Rattle.grants_core.specs.declared.grant.Ownership.{Ownership}
 use Rattle.grants_core.specs.declared.grant.Change.{Change}
 use Rattle.grants_core.specs.declared.grant.Change.TheVariants as change
-use Rattle.grants_core.specs.Same.{same_atom}
+use Rattle.base_core.specs.Privileges.{same_atom}
 use Rattle.grants_core.specs.Owners.{owner_of, owns, was_granted, with_owner, with_granted}
 use Rattle.grants_core.specs.Content.{gives, may_grant, to_each, singles}
 use Rattle.grants_core.specs.History.{made_by, grants_of, owners_with, granted_from, granted, is_granted, is_struck, owners_after, unstruck_after, in_force_after}
 use Rattle.grants_core.specs.Marks.{is_marked, creates, grants_on, is_granted_once_created, is_granted_uncreated, AreToSomebody, AreGrantable}
-use Rattle.grants_core.proofs.SameLemmas.{same_name-true, same_name-refl, same_atom-true}
+use Rattle.base_core.proofs.SameLemmas.{same_name-true, same_name-refl, same_atom-true}
 use Rattle.grants_core.proofs.OwnersLemmas.{was_granted-with_owner, owner_of-cons}
 use Rattle.grants_core.proofs.GrantLemmas.{All-filtered, All-valid}
 use Rattle.grants_core.proofs.HistoryLemmas.{or_assoc, none_of}

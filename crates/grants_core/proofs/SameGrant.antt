@@ -7,7 +7,7 @@ use Rattle.grants_core.specs.declared.grant.Grant.{Grant}
 use Rattle.base_core.specs.declared.privilege.Atom.{Atom}
 use Rattle.base_core.specs.declared.name.User.{User}
 use Rattle.base_core.specs.declared.value.Moment.{Moment}
-use Rattle.grants_core.proofs.SameLemmas.{same_user-true, same_atom-true, same_user-refl, same_atom-refl}
+use Rattle.base_core.proofs.SameLemmas.{same_user-true, same_atom-true, same_user-refl, same_atom-refl}
 
 beq-true : (a b : Bool) → beq a b ≡ true → a ≡ b
 beq-true true true h = refl

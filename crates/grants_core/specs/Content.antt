@@ -6,7 +6,7 @@ use Rattle.base_core.specs.declared.name.Name.{Name}
 use Rattle.base_core.specs.declared.name.User.{User}
 use Rattle.base_core.specs.declared.privilege.Atom.{Atom}
 use Rattle.base_core.specs.declared.value.Moment.{Moment}
-use Rattle.grants_core.specs.Same.{same_atom}
+use Rattle.base_core.specs.Privileges.{same_atom}
 use Rattle.grants_core.specs.Owners.{owns, with_owner, with_granted}
 use Rattle.grants_core.specs.Valid.{valid}
 use Rattle.grants_core.specs.declared.grant.Grant.{Grant}

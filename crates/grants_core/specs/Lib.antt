@@ -1,4 +1,3 @@
-pub mod Same
 pub mod Owners
 pub mod Valid
 pub mod Numbers

@@ -3,7 +3,7 @@ use Rattle.std.specs.Prelude.{◌≡◌, Bool, true, false, not, ◌&&◌, ◌==
 use Rattle.std.specs.Bool.{beq}
 use Rattle.std.specs.List.{AllByRecursion}
 use Rattle.base_core.specs.Users.{same_user}
-use Rattle.grants_core.specs.Same.{same_atom}
+use Rattle.base_core.specs.Privileges.{same_atom}
 use Rattle.grants_core.specs.Owners.{was_granted}
 use Rattle.grants_core.specs.Valid.{valid}
 use Rattle.grants_core.specs.Numbers.{IsNumbered}

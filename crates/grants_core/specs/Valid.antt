@@ -2,7 +2,7 @@
 use Rattle.std.specs.Prelude.{◌≡◌, ◌≤◌, Bool, true, ◌&&◌, ◌||◌, nat_lt, if◌then◌else◌, List, [], ◌∷◌, ◌++◌, fold}
 use Rattle.std.specs.List.{AllByRecursion, list_any}
 use Rattle.base_core.specs.Users.{same_user}
-use Rattle.grants_core.specs.Same.{same_atom}
+use Rattle.base_core.specs.Privileges.{same_atom}
 use Rattle.grants_core.specs.Owners.{owns}
 use Rattle.grants_core.specs.declared.grant.Grant.{Grant}
 use Rattle.grants_core.specs.declared.grant.Ownership.{Ownership}

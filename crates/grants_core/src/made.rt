@@ -1,7 +1,7 @@
 //! The grants that were made, each with whether it was struck and whether it stands.
 ghost use Rattle.std.specs.Prelude.{◌≡◌, ◌+◌, ◌++◌, ◌&&◌, not, count_by, length, map, OnOk, OnErr, IfOk};
 ghost use Rattle.std.specs.List.{list_any};
-ghost use Rattle.grants_core.specs.Same.{same_atom};
+ghost use Rattle.base_core.specs.Privileges.{same_atom};
 ghost use Rattle.grants_core.specs.Valid.{valid, supports, is_supported};
 ghost use Rattle.base_core.specs.Users.{same_user};
 ghost use Rattle.grants_core.specs.Content.{gives, singles, without};

@@ -15,7 +15,7 @@ use Rattle.grants_core.specs.Owners.{owner_of, was_granted, with_owner, with_gra
 use Rattle.grants_core.specs.Valid.{valid}
 use Rattle.grants_core.specs.Content.{Content, without, singles}
 use Rattle.grants_core.specs.History.{made_by_all, granted, grants_of}
-use Rattle.grants_core.proofs.SameLemmas.{same_name-true, same_name-refl}
+use Rattle.base_core.proofs.SameLemmas.{same_name-true, same_name-refl}
 use Rattle.grants_core.proofs.OwnersLemmas.{was_granted-with_owner, owner_of-with_owner, owner_of-cons, owner_of-marked, valid-owners, singles-all, AllByRecursion-append}
 use Rattle.grants_core.proofs.GrantLemmas.{All-filtered, All-implied}
 use Rattle.grants_core.proofs.HistoryLemmas.{granted_from-append}

@@ -12,7 +12,7 @@ use Rattle.reader_core.specs.declared.statement.Statement.{Statement}
 use Rattle.reader_core.specs.declared.statement.Statement.TheVariants as statements
 use Rattle.tables_core.specs.Contents.{Contents, empty_table, with_row, without_chosen_rows, with_updated_rows, with_change, table_of}
 use Rattle.tables_core.proofs.ContentsLemmas.{table_of-with_change}
-use Rattle.grants_core.proofs.SameLemmas.{same_name-refl}
+use Rattle.base_core.proofs.SameLemmas.{same_name-refl}
 use Rattle.monitor_core.specs.Verdict.{is_table}
 use Rattle.capture_core.specs.Image.{image}
 use Rattle.capture_core.specs.declared.image.Image.{Image}

@@ -23,7 +23,7 @@ use Rattle.grants_core.specs.Owners.{with_owner}
 use Rattle.grants_core.specs.Content as rights_of
 use Rattle.grants_core.specs.Content.{Content, after_grant}
 use Rattle.grants_core.specs.History.{content_after, owners_after, in_force_after, unstruck_after, granted}
-use Rattle.grants_core.proofs.SameLemmas.{same_name-true}
+use Rattle.base_core.proofs.SameLemmas.{same_name-true}
 use Rattle.grants_core.proofs.OwnersLemmas.{was_granted-with_owner, owner_of-with_owner}
 use Rattle.grants_core.proofs.GrantLemmas.{All-filtered, All-implied, All-valid}
 use Rattle.grants_core.proofs.HistoryLemmas.{content-create, content-grant, content-revoke, content-other, unstruck-early}

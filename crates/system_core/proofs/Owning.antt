@@ -15,7 +15,7 @@ use Rattle.tables_core.proofs.ContentsLemmas.{table_of-append}
 use Rattle.grants_core.specs.declared.grant.Ownership.{Ownership}
 use Rattle.grants_core.specs.Owners.{owner_of, with_owner}
 use Rattle.grants_core.specs.History.{owners_with, owners_after}
-use Rattle.grants_core.proofs.SameLemmas.{same_name-true}
+use Rattle.base_core.proofs.SameLemmas.{same_name-true}
 use Rattle.grants_core.proofs.OwnersLemmas.{owner_of-with_owner, owner_of-marked}
 use Rattle.monitor_core.specs.Verdict.{atoms_at}
 use Rattle.system_core.specs.declared.machine.event.Entry.{Entry}

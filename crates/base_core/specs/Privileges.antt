@@ -5,6 +5,7 @@ use Rattle.base_core.specs.declared.privilege.Kind.{Kind}
 use Rattle.base_core.specs.declared.privilege.Kind.TheVariants.{Select, Insert, Delete, Update}
 use Rattle.base_core.specs.declared.privilege.Atom.{Atom}
 
+-- whether two kinds are the same: two UPDATEs where they are of the same column
 abbrev pub same_kind : Kind → Kind → Bool
 same_kind Select Select = true
 same_kind Insert Insert = true
@@ -15,5 +16,6 @@ same_kind Insert _ = false
 same_kind Delete _ = false
 same_kind (Update a) _ = false
 
+-- whether two atoms are the same: of one table and of the same kind
 abbrev pub same_atom : Atom → Atom → Bool
 same_atom a b = same_name a.table b.table && same_kind a.kind b.kind

@@ -9,7 +9,7 @@ use Rattle.base_core.specs.declared.name.User.{User}
 use Rattle.base_core.specs.declared.privilege.Kind.{Kind}
 use Rattle.base_core.specs.declared.privilege.Kind.TheVariants.{Select, Insert, Delete, Update}
 use Rattle.base_core.specs.declared.privilege.Atom.{Atom}
-use Rattle.grants_core.specs.Same.{same_kind, same_atom}
+use Rattle.base_core.specs.Privileges.{same_kind, same_atom}
 
 pub same_name-true : (a b : Name) → same_name a b ≡ true → a ≡ b
 same_name-true a b h = (bytes_eq-Decides a b).0 h
