@@ -4,6 +4,7 @@ pub mod Exits
 pub mod Lists
 pub mod Joining
 pub mod Choosing
+pub mod Beginning
 pub mod Words
 pub mod Fine
 pub mod Finishing

@@ -6,7 +6,7 @@ use Rattle.lexer_core.specs.declared.token.Token as tokens
 use Rattle.lexer_core.specs.declared.fault.Code.{Code}
 use Rattle.lexer_core.specs.declared.fault.ReadFault.{ReadFault}
 use Rattle.lexer_core.specs.declared.fault.ReadFault.TheVariants as faults
-use Rattle.reader_core.specs.Grammar.{Grammar, Class, Fault, fits, is_privilege}
+use Rattle.reader_core.specs.Grammar.{Grammar, Class, Fault, fits, is_any_keyword, is_privilege}
 use Rattle.reader_core.specs.Recogniser.{first_fault}
 
 -- a line, and those of its tokens that are left
@@ -28,6 +28,11 @@ next_lexeme c = elim c.rest [ [] ↦ None | t ∷ ts ↦ Some (heard c.line t).l
 abbrev pub next_is : Class → Cursor → Bool
 next_is c cursor = elim cursor.rest [ [] ↦ false | t ∷ ts ↦ fits c t.kind ]
 
+-- whether a keyword comes next
+abbrev pub next_is_keyword : Cursor → Bool
+next_is_keyword cursor = elim cursor.rest [ [] ↦ false | t ∷ ts ↦ is_any_keyword t.kind ]
+
+-- whether the word of a privilege comes next
 abbrev pub next_is_privilege : Cursor → Bool
 next_is_privilege cursor = elim cursor.rest [ [] ↦ false | t ∷ ts ↦ is_privilege t.kind ]
 

@@ -65,6 +65,10 @@ abbrev pub is_keyword : Keyword → Kind → Bool
 is_keyword k (kinds.Keyword j) = nat_eq (keyword_number k) (keyword_number j)
 is_keyword k _ = false
 
+abbrev pub is_any_keyword : Kind → Bool
+is_any_keyword (kinds.Keyword k) = true
+is_any_keyword _ = false
+
 abbrev pub is_mark : Mark → Kind → Bool
 is_mark m (kinds.Mark n) = nat_eq (mark_number m) (mark_number n)
 is_mark m _ = false

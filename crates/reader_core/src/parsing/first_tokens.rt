@@ -8,8 +8,8 @@ ghost use Rattle.reader_core.specs.Cursor.{Leads};
 ghost use Rattle.reader_core.specs.Privileges.{word_of, word_keyword};
 ghost use Rattle.reader_core.specs.Language.{name_says, names_rule, conditions_rule, condition_item, privileges_rule, privilege_item, behind_word, word_says};
 
-use crate::privilege::{MAX_PRIVILEGES, Privilege, Word};
 use crate::parsing::reader::Reader;
+use crate::privilege::{MAX_PRIVILEGES, Privilege, Word};
 use crate::statement::MAX_ITEMS;
 use base_core::{Condition, Name, Named};
 use lexer_core::ReadFault;

@@ -5,8 +5,8 @@ ghost use Rattle.reader_core.specs.Grammar.{Items, More, mark_of};
 ghost use Rattle.reader_core.specs.Cursor.{Leads, next_is};
 
 use crate::parsing::list::Item;
-use crate::privilege::{Privilege, Word};
 use crate::parsing::reader::Reader;
+use crate::privilege::{Privilege, Word};
 use crate::statement::{MAX_ITEMS, MAX_USERS};
 use base_core::{Assignment, Column, Condition, Keyword, Name, User, Value};
 use lexer_core::{Code, Mark, ReadFault};

@@ -9,8 +9,8 @@ ghost use Rattle.reader_core.specs.Privileges.{word_of};
 ghost use Rattle.reader_core.specs.Language.{optional, comma, listed, name_list, names_say, name_says, user_says, selected, selection_says, in_brackets, columns_say, behind_word, privilege_columns, IsLawfulPrivilege, privileges_rule, privilege_item, privilege_says, ArePrivileges, filter, filter_says, grant_option, option_says, only_table, only_says};
 
 use crate::parsing::list::list;
-use crate::privilege::{Privilege, Privileges, Word};
 use crate::parsing::reader::Reader;
+use crate::privilege::{Privilege, Privileges, Word};
 use crate::statement::{MAX_ITEMS, MAX_USERS};
 use base_core::{Condition, Distinct, Keyword, Limited, Name, User};
 use lexer_core::{Mark, ReadFault};

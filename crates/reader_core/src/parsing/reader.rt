@@ -5,7 +5,7 @@ ghost use Rattle.lexer_core.specs.Lexing as lexemes;
 ghost use Rattle.lexer_core.specs.Lexing.{AreHeard};
 ghost use Rattle.lexer_core.specs.declared.token.Kind.TheVariants as kinds;
 ghost use Rattle.reader_core.specs.Grammar.{One, Key, Sign, AnyName, AnyLiteral, AnyType, AnyTest, AtLeastOne, is_test, is_privilege, mark_from};
-ghost use Rattle.reader_core.specs.Cursor.{Cursor, Reads, Faults, Checks, offset_at, next_kind, next_lexeme, next_is, next_is_privilege};
+ghost use Rattle.reader_core.specs.Cursor.{Cursor, Reads, Faults, Checks, offset_at, next_kind, next_lexeme, next_is, next_is_keyword, next_is_privilege};
 ghost use Rattle.reader_core.specs.Privileges.{word_keyword};
 ghost use Rattle.reader_core.specs.Language.{name_says, type_lexeme, type_says, value_lexeme, value_says, comparison_mark, comparison_says, number_says};
 
@@ -302,6 +302,24 @@ impl Reader<'_> {
         let number = self.peek_number()?;
         self.advance();
         Ok(number)
+    }
+
+    /// The keyword that comes next, which stays where it is.
+    pub fn peek_keyword(&self) -> Result<Keyword, ReadFault>
+        ensures kind { IfOk result (λ k. next_kind self.now ≡ Some (kinds.Keyword k)) }
+        ensures err { OnErr result ((result ≡ Err (ReadFault.At Code.Expected (offset_at self.now)))
+            × (next_is_keyword self.now ≡ false)) }
+    {
+        match self.rest {
+            [
+                Token {
+                    kind: Kind::Keyword(keyword),
+                    ..
+                },
+                ..
+            ] => Ok(*keyword),
+            _ => Err(self.fault(Code::Expected)),
+        }
     }
 
     /// The word of a privilege that comes next, which stays where it is.

@@ -155,31 +155,22 @@ impl Reader<'_> {
     }
 
     /// A statement without its ";".
-    #[tactic(auto, using(crate::proofs::Lists::case_yes, crate::proofs::Lists::case_no))]
     pub fn body(&mut self, alloc: Global) -> Result<Statement, ReadFault>
         ensures reads { Reads body statement_says result self.old self.new }
         ensures lawful { IfOk result IsLawful }
     {
-        if self.at_keyword(Keyword::Create) {
-            self.create(alloc)
-        } else if self.at_keyword(Keyword::Insert) {
-            self.insert(alloc)
-        } else if self.at_keyword(Keyword::Select) {
-            self.select(alloc)
-        } else if self.at_keyword(Keyword::Delete) {
-            self.delete(alloc)
-        } else if self.at_keyword(Keyword::Update) {
-            self.update(alloc)
-        } else if self.at_keyword(Keyword::Grant) {
-            self.grant(alloc)
-        } else if self.at_keyword(Keyword::Revoke) {
-            self.revoke(alloc)
-        } else if self.at_keyword(Keyword::Checkpoint) {
-            self.checkpoint()
-        } else if self.at_keyword(Keyword::Checkpoints) {
-            self.checkpoints()
-        } else {
-            self.export()
+        match self.peek_keyword()? {
+            Keyword::Create => self.create(alloc),
+            Keyword::Insert => self.insert(alloc),
+            Keyword::Select => self.select(alloc),
+            Keyword::Delete => self.delete(alloc),
+            Keyword::Update => self.update(alloc),
+            Keyword::Grant => self.grant(alloc),
+            Keyword::Revoke => self.revoke(alloc),
+            Keyword::Checkpoint => self.checkpoint(),
+            Keyword::Checkpoints => self.checkpoints(),
+            Keyword::Export => self.export(),
+            _ => Err(self.fault(Code::Expected)),
         }
     }
 
