@@ -29,7 +29,9 @@ holds_now now user table = rights.holds now.owners now.in_force user (to_select 
 -- neither moment is withheld for then
 abbrev pub judgement : Image → Content → User → Name → Judgement
 judgement image now user table =
-    if held_then image user table then (if holds_now now user table then Listed else WithheldNow) else WithheldThen
+    if held_then image user table
+    then (if holds_now now user table then Listed else WithheldNow)
+    else WithheldThen
 
 -- a table's name and the names of its columns
 abbrev pub table_line : TableImage → List ℕ
@@ -61,10 +63,13 @@ chosen tables (Some name) = option_to_list (find (λ t. same_name name t.name) t
 -- the records of an export to the user: what is told of each of its tables, and the end
 abbrev pub image_export : Image → Content → User → Option Name → List (List ℕ)
 image_export image now user only =
-    flat_map (λ t. told (judgement image now user t.name) t) (chosen image.tables only) ++ end_line image.number ∷ []
+    flat_map (λ t. told (judgement image now user t.name) t) (chosen image.tables only)
+    ++ end_line image.number ∷ []
 
 -- who asks for one table alone may have it: it is in the image, and he held SELECT of it then and holds
 -- it now
 abbrev pub IsAllowed : Image → Content → User → Option Name → Type 0
 IsAllowed image now user only =
-    IfSome only (λ table. (images.has image table ≡ true) × (held_then image user table ≡ true) × (holds_now now user table ≡ true))
+    IfSome only (λ table. (images.has image table ≡ true)
+    × (held_then image user table ≡ true)
+    × (holds_now now user table ≡ true))

@@ -26,7 +26,10 @@ doubled_byte b = if b == quote then quote ∷ quote ∷ [] else b ∷ []
 
 -- the text of a field: in quotes exactly where it has a comma or a quote, with each quote inside doubled
 abbrev pub field_text : List ℕ → List ℕ
-field_text field = if list_any forces_quotes field then quote ∷ (flat_map doubled_byte field ++ quote ∷ []) else field
+field_text field =
+    if list_any forces_quotes field
+    then quote ∷ (flat_map doubled_byte field ++ quote ∷ [])
+    else field
 
 -- the texts of the fields, with a comma between each two
 abbrev pub fields_text : List (List ℕ) → List ℕ

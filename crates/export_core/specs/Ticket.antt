@@ -23,12 +23,19 @@ pub record Exporting : Type 0 where
 -- an export of which nothing was given yet
 abbrev pub issued : Image → Content → User → Option Name → Moment → Exporting
 issued image now user only at =
-    record { number = image.number; point = image.point; at = at; given = []; to_come = image_export image now user only }
+    record {
+      number = image.number;
+      point = image.point;
+      at = at;
+      given = [];
+      to_come = image_export image now user only;
+    }
 
 -- the line that goes before the records
 abbrev pub header_line : Exporting → List ℕ
 header_line e =
-    codes "export " ++ decimal e.number ++ codes " point " ++ decimal e.point.0 ++ codes " @" ++ decimal e.at.0 ++ codes "\n"
+    codes "export " ++ decimal e.number ++ codes " point " ++ decimal e.point.0 ++ codes " @"
+    ++ decimal e.at.0 ++ codes "\n"
 
 -- n more records were given, or all where they are no more
 abbrev pub after_giving : ℕ → Exporting → Exporting
@@ -39,13 +46,15 @@ abbrev pub finished : Exporting → Exporting
 finished e = record e { given = e.given ++ e.to_come; to_come = [] }
 
 -- the next n records were given and written
-pub record WritesRecords (n : ℕ) (old new : Exporting) (before after : Option (List ℕ)) : Type 0 where
+pub record WritesRecords (n : ℕ) (old new : Exporting)
+    (before after : Option (List ℕ)) : Type 0 where
   pub gave : new ≡ after_giving n old
   pub wrote : Appends before after (concat (take n old.to_come))
 
 -- the next n records were given and written, and of the one behind them, which counts as given, a front
 -- was written
-pub record BreaksRecord (n : ℕ) (old new : Exporting) (before after : Option (List ℕ)) : Type 0 where
+pub record BreaksRecord (n : ℕ) (old new : Exporting)
+    (before after : Option (List ℕ)) : Type 0 where
   pub front : List ℕ
   pub unwritten : List ℕ
   pub broken : slice_get old.to_come n ≡ Some (front ++ unwritten)
@@ -55,5 +64,6 @@ pub record BreaksRecord (n : ℕ) (old new : Exporting) (before after : Option (
 -- where the writing stopped before the end: without memory for a record, which comes next, or in the
 -- middle of one
 abbrev pub Stops : ExportFault → Exporting → Exporting → Option (List ℕ) → Option (List ℕ) → Type 0
-Stops faults.NoMemory old new before after = (n : ℕ) × (n < length old.to_come) × WritesRecords n old new before after
+Stops faults.NoMemory old new before after =
+    (n : ℕ) × (n < length old.to_come) × WritesRecords n old new before after
 Stops faults.Write old new before after = (n : ℕ) × BreaksRecord n old new before after

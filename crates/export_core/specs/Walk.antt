@@ -20,7 +20,8 @@ all_records t = flat_map told_of (judged_tables t) ++ end_line (arc_value t.imag
 
 -- how many of them were given
 abbrev pub count_given : Inside → ℕ
-count_given t = length (flat_map told_of (take t.told (judged_tables t))) + t.lines + (if t.ended then 1 else 0)
+count_given t =
+    length (flat_map told_of (take t.told (judged_tables t))) + t.lines + (if t.ended then 1 else 0)
 
 abbrev pub exporting : Inside → Exporting
 exporting t = record {
@@ -35,5 +36,6 @@ exporting t = record {
 -- told whole, or the end
 pub record IsUnderWay (t : Inside) : Type 0 where
   pub fits : t.first + length t.judgements.items ≤ length (arc_value t.image).tables
-  pub next : MatchOption (slice_get (judged_tables t) t.told) (t.lines ≡ 0) (λ pair. t.lines < length (told_of pair))
+  pub next : MatchOption (slice_get (judged_tables t) t.told) (t.lines ≡ 0)
+      (λ pair. t.lines < length (told_of pair))
   pub end : t.ended ≡ true → slice_get (judged_tables t) t.told ≡ None

@@ -42,7 +42,8 @@ pub fn judgements<A: Authority>(
     user: &User,
     tables: &[TableImage],
 ) -> Result<Vec<Judgement>, NoMemory>
-    ensures { IfOk result (λ judged. judged.items ≡ map (λ t. judgement image.now (A.content rights.now) user.now t.name) tables.now) }
+    ensures { IfOk result (λ judged. judged.items
+        ≡ map (λ t. judgement image.now (A.content rights.now) user.now t.name) tables.now) }
 {
     let mut judged = Vec::with_capacity(alloc, tables.len())?;
     for table in tables {

@@ -59,4 +59,3 @@ pub use fault::ExportFault;
 pub use record::{Field, write_record};
 pub use rows::write_rows;
 pub use ticket::Ticket;
-

@@ -49,7 +49,8 @@ pub fn end_line(alloc: Global, number: u64) -> Result<Vec<u8>, NoMemory>
 /// The row whose line is the one at `index` of a listed table. None where that is the table's own.
 pub fn row_at(table: &TableImage, index: usize) -> Option<&Row>
     requires { index < length (lines.listed_lines table.now) }
-    ensures { MatchOption result (index ≡ 0) (λ row. slice_get (lines.listed_lines table.now) index ≡ Some (row_line row.now.values)) }
+    ensures { MatchOption result (index ≡ 0)
+        (λ row. slice_get (lines.listed_lines table.now) index ≡ Some (row_line row.now.values)) }
 {
     if index == 0 {
         return None;
@@ -59,7 +60,8 @@ pub fn row_at(table: &TableImage, index: usize) -> Option<&Row>
 
 fn listed_line(alloc: Global, table: &TableImage, index: usize) -> Result<Vec<u8>, NoMemory>
     requires { index < length (lines.listed_lines table.now) }
-    ensures { IfOk result (λ line. slice_get (lines.listed_lines table.now) index ≡ Some line.items) }
+    ensures { IfOk result
+        (λ line. slice_get (lines.listed_lines table.now) index ≡ Some line.items) }
 {
     match row_at(table, index) {
         None => table_line(alloc, table),
@@ -87,7 +89,8 @@ pub fn told_line(
 /// The index of the line after the one at `index`. None where that is the last that is told of the table.
 pub fn next_index(table: &TableImage, judgement: Judgement, index: usize) -> Option<usize>
     requires { index < length (told judgement table.now) }
-    ensures { MatchOption result (index + 1 ≡ length (told judgement table.now)) (λ next. (next ≡ index + 1) × (next < length (told judgement table.now))) }
+    ensures { MatchOption result (index + 1 ≡ length (told judgement table.now))
+        (λ next. (next ≡ index + 1) × (next < length (told judgement table.now))) }
 {
     match judgement {
         Judgement::Listed if index < table.rows.len() => Some(index + 1),

@@ -15,7 +15,8 @@ pub trait Field {
     /// Writes it as a further field.
     fn put(&self, writer: &mut Writer<Vec<u8>>) -> Result<(), NoMemory>
         requires { IsBegun writer.old }
-        ensures text { OnOk result (text_in writer.new ≡ text_in writer.old ++ comma ∷ field_text (bytes self.now)) }
+        ensures text { OnOk result (text_in writer.new
+            ≡ text_in writer.old ++ comma ∷ field_text (bytes self.now)) }
         ensures begun { OnOk result (IsBegun writer.new) };
 }
 
@@ -58,7 +59,8 @@ pub fn write_record<F: Field>(
 ) -> Result<Vec<u8>, NoMemory>
     requires some { 0 < length first.now }
     requires plain { IsPlain first.now }
-    ensures { IfOk result (λ longer. longer.items ≡ text.items ++ record_line (first.now ∷ map F.bytes fields.now)) }
+    ensures { IfOk result
+        (λ longer. longer.items ≡ text.items ++ record_line (first.now ∷ map F.bytes fields.now)) }
 {
     let mut writer = writer_after(text);
     put_record(&mut writer, first, fields)?;
@@ -86,7 +88,8 @@ pub fn put_record<F: Field>(
     requires between { IsBetween writer.old }
     requires some { 0 < length first.now }
     requires plain { IsPlain first.now }
-    ensures text { OnOk result (text_in writer.new ≡ text_in writer.old ++ record_line (first.now ∷ map F.bytes fields.now)) }
+    ensures text { OnOk result (text_in writer.new
+        ≡ text_in writer.old ++ record_line (first.now ∷ map F.bytes fields.now)) }
     ensures between { OnOk result (IsBetween writer.new) }
 {
     begin(writer, first)?;
@@ -113,7 +116,8 @@ pub fn begin(writer: &mut Writer<Vec<u8>>, first: &[u8]) -> Result<(), NoMemory>
 pub fn put_field(writer: &mut Writer<Vec<u8>>, field: &[u8]) -> Result<(), NoMemory>
     requires begun { IsBegun writer.old }
     requires plain { IsPlain field.now }
-    ensures text { OnOk result (text_in writer.new ≡ text_in writer.old ++ comma ∷ field_text field.now) }
+    ensures text { OnOk result (text_in writer.new
+        ≡ text_in writer.old ++ comma ∷ field_text field.now) }
     ensures begun { OnOk result (IsBegun writer.new) }
 {
     match writer.write_field(field) {
@@ -126,7 +130,8 @@ pub fn put_field(writer: &mut Writer<Vec<u8>>, field: &[u8]) -> Result<(), NoMem
 /// Writes further fields.
 pub fn put_fields<F: Field>(writer: &mut Writer<Vec<u8>>, fields: &[F]) -> Result<(), NoMemory>
     requires { IsBegun writer.old }
-    ensures text { OnOk result (text_in writer.new ≡ text_in writer.old ++ more_text (map F.bytes fields.now)) }
+    ensures text { OnOk result (text_in writer.new
+        ≡ text_in writer.old ++ more_text (map F.bytes fields.now)) }
     ensures begun { OnOk result (IsBegun writer.new) }
 {
     for field in fields {

@@ -48,7 +48,8 @@ pub fn write_rows(text: Vec<u8>, rows: &[Row]) -> Result<Vec<u8>, NoMemory>
 pub fn append_row(writer: &mut Writer<Vec<u8>>, row: &Row) -> Result<(), NoMemory>
     requires between { IsBetween writer.old }
     requires pending { writer_pending writer.old ≡ [] }
-    ensures text { OnOk result ((writer_under writer.new).items ≡ (writer_under writer.old).items ++ row_line row.now.values) }
+    ensures text { OnOk result ((writer_under writer.new).items
+        ≡ (writer_under writer.old).items ++ row_line row.now.values) }
     ensures between { OnOk result (IsBetween writer.new) }
     ensures pending { OnOk result (writer_pending writer.new ≡ []) }
 {

@@ -103,7 +103,8 @@ impl Ticket {
         now: Moment,
     ) -> Result<Ticket, NoMemory>
         requires { IsAllowed (arc_value image.now) (A.content rights.now) user only }
-        ensures { IfOk result (λ ticket. ticket ≡ issued (arc_value image.now) (A.content rights.now) user only now) }
+        ensures { IfOk result
+            (λ ticket. ticket ≡ issued (arc_value image.now) (A.content rights.now) user only now) }
     {
         let (first, tables) = chosen(image.tables.as_slice(), only);
         let judgements = judgements(alloc, image, rights, &user, tables)?;
@@ -141,7 +142,8 @@ impl Ticket {
 
     // The next record.
     fn line(&self) -> Result<Option<Vec<u8>>, NoMemory>
-        ensures line { IfOk result (λ line. option_map (λ bytes. bytes.items) line ≡ slice_get self.now.to_come 0) }
+        ensures line { IfOk result
+            (λ line. option_map (λ bytes. bytes.items) line ≡ slice_get self.now.to_come 0) }
         ensures end { self.now.to_come ≡ [] → IsOk result }
     {
         if self.ended {
@@ -176,7 +178,8 @@ impl Ticket {
     /// The next record, with its line feed, which then counts as given. None exactly at the end. On
     /// `NoMemory`, where a request for memory was refused, the same record comes next.
     pub fn next_record(&mut self) -> Result<Option<Vec<u8>>, NoMemory>
-        ensures line { IfOk result (λ line. option_map (λ bytes. bytes.items) line ≡ slice_get self.old.to_come 0) }
+        ensures line { IfOk result
+            (λ line. option_map (λ bytes. bytes.items) line ≡ slice_get self.old.to_come 0) }
         ensures ok { OnOk result (self.new ≡ after_giving 1 self.old) }
         ensures err { OnErr result (self.new ≡ self.old) }
         ensures end { self.old.to_come ≡ [] → IsOk result }
@@ -188,7 +191,8 @@ impl Ticket {
 
     // The row whose record is the next, if that is a row's.
     fn next_row(&self) -> Option<&Row>
-        ensures { IfSome result (λ row. slice_get self.now.to_come 0 ≡ Some (row_line row.now.values)) }
+        ensures { IfSome result
+            (λ row. slice_get self.now.to_come 0 ≡ Some (row_line row.now.values)) }
     {
         let Some(Judgement::Listed) = judgement_at(&self.judgements, self.told) else {
             return None;
@@ -202,8 +206,10 @@ impl Ticket {
         requires { W.failed writer.old ≡ false }
         ensures write { IsErrOf result ExportFault.Write ↔ (W.failed writer.new ≡ true) }
         ensures more { IfOk result (λ more. more ≡ is_some (slice_get self.old.to_come 0)) }
-        ensures ok { OnOk result (WritesRecords 1 self.old self.new (W.taken writer.old) (W.taken writer.new)) }
-        ensures err { IfErr result (λ fault. Stops fault self.old self.new (W.taken writer.old) (W.taken writer.new)) }
+        ensures ok { OnOk result
+            (WritesRecords 1 self.old self.new (W.taken writer.old) (W.taken writer.new)) }
+        ensures err { IfErr result
+            (λ fault. Stops fault self.old self.new (W.taken writer.old) (W.taken writer.new)) }
     {
         let Ok(next) = self.next_record() else {
             return Err(ExportFault::NoMemory);
@@ -228,10 +234,13 @@ impl Ticket {
         requires between { IsBetween records.old }
         requires pending { writer_pending records.old ≡ [] }
         ensures write { IsErrOf result ExportFault.Write ↔ (W.failed writer.new ≡ true) }
-        ensures ok { IfOk result (λ row. WritesRecords (if row then 1 else 0) self.old self.new (W.taken writer.old) (W.taken writer.new)) }
+        ensures ok { IfOk result
+            (λ row. WritesRecords (if row then 1 else 0) self.old self.new (W.taken writer.old)
+            (W.taken writer.new)) }
         ensures between { OnOk result (IsBetween records.new) }
         ensures pending { OnOk result (writer_pending records.new ≡ []) }
-        ensures err { IfErr result (λ fault. Stops fault self.old self.new (W.taken writer.old) (W.taken writer.new)) }
+        ensures err { IfErr result
+            (λ fault. Stops fault self.old self.new (W.taken writer.old) (W.taken writer.new)) }
     {
         let Some(row) = self.next_row() else {
             return Ok(false);
@@ -251,8 +260,10 @@ impl Ticket {
     fn write_rows<W: Sink>(&mut self, writer: &mut W) -> Result<(), ExportFault>
         requires { W.failed writer.old ≡ false }
         ensures write { IsErrOf result ExportFault.Write ↔ (W.failed writer.new ≡ true) }
-        ensures ok { OnOk result ((n : ℕ) × WritesRecords n self.old self.new (W.taken writer.old) (W.taken writer.new)) }
-        ensures err { IfErr result (λ fault. Stops fault self.old self.new (W.taken writer.old) (W.taken writer.new)) }
+        ensures ok { OnOk result ((n : ℕ)
+            × WritesRecords n self.old self.new (W.taken writer.old) (W.taken writer.new)) }
+        ensures err { IfErr result
+            (λ fault. Stops fault self.old self.new (W.taken writer.old) (W.taken writer.new)) }
     {
         let mut records = writer_after(Vec::new(*self.judgements.allocator()));
         for _ in 0..ROWS_OF_A_WRITER {
@@ -273,8 +284,10 @@ impl Ticket {
         requires { W.failed writer.old ≡ false }
         ensures write { IsErrOf result ExportFault.Write ↔ (W.failed writer.new ≡ true) }
         ensures ok { OnOk result (self.new ≡ finished self.old) }
-        ensures written { OnOk result (Appends (W.taken writer.old) (W.taken writer.new) (concat self.old.to_come)) }
-        ensures err { IfErr result (λ fault. Stops fault self.old self.new (W.taken writer.old) (W.taken writer.new)) }
+        ensures written { OnOk result
+            (Appends (W.taken writer.old) (W.taken writer.new) (concat self.old.to_come)) }
+        ensures err { IfErr result
+            (λ fault. Stops fault self.old self.new (W.taken writer.old) (W.taken writer.new)) }
     {
         while self.write_next(writer)? {
             self.write_rows(writer)?;

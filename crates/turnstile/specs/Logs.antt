@@ -15,10 +15,12 @@ gained before after = drop (length before) after
 
 -- the log is as before, or has one entry more, which bears the number p
 abbrev pub AddsOneAtMost : {E : Type 0} → (E → ℕ) → ℕ → List E → List E → Type 0
-AddsOneAtMost {E} by p before after = (after ≡ before) ⊎ ((e : E) × (by e ≡ p) × (after ≡ before ++ e ∷ []))
+AddsOneAtMost {E} by p before after =
+    (after ≡ before) ⊎ ((e : E) × (by e ≡ p) × (after ≡ before ++ e ∷ []))
 
 -- What a turn of the pass p may do to an object x, which is y afterwards.
-pub record Grown {O E F : Type 0} (log : O → List E) (by : E → ℕ) (mark : O → ℕ) (fix : O → F) (p : ℕ) (x y : O) : Type 0 where
+pub record Grown {O E F : Type 0} (log : O → List E) (by : E → ℕ) (mark : O → ℕ) (fix : O → F)
+    (p : ℕ) (x y : O) : Type 0 where
   pub adds : AddsOneAtMost by p (log x) (log y)
   pub rises : mark x ≤ mark y
   pub stays : fix y ≡ fix x

@@ -3,14 +3,17 @@ use Rattle.std.specs.Prelude.{◌≡◌, ℕ, zero, suc, List, [], ◌∷◌, Op
 use Rattle.atomic_table.specs.Seated.{TableId}
 use Rattle.turnstile.specs.Logs.{own}
 
--- A turnstile: which one it is, how many passes it has, what its turns are counted from, and its object's fixed part.
+-- A turnstile: which one it is, how many passes it has, what its turns are counted from, and its
+-- object's fixed part.
 pub record Lock (F : Type 0) : Type 0 where
   pub table : TableId
   pub count : ℕ
   pub start : ℕ
   pub fixed : F
 
--- A pass: whose it is, its number, the beginning of the history that it has seen, a lower bound of the object's mark, how many turns it drew, and a lower bound of how many turns are drawn, counted from the start.
+-- A pass: whose it is, its number, the beginning of the history that it has seen, a lower bound of
+-- the object's mark, how many turns it drew, and a lower bound of how many turns are drawn, counted
+-- from the start.
 pub record Held (E F : Type 0) : Type 0 where
   pub lock : Option (Lock F)
   pub number : ℕ
@@ -36,7 +39,9 @@ IsSamePass old new = (new.lock ≡ old.lock) × (new.number ≡ old.number)
 -- n new passes, numbered from p on, which have seen and made nothing
 abbrev pub passes_from : {E F : Type 0} → Lock F → ℕ → ℕ → List (Held E F)
 passes_from l p zero = []
-passes_from l p (suc n) = record { lock = Some l; number = p; seen = []; mark = 0; turns = 0; drawn = l.start } ∷ passes_from l (suc p) n
+passes_from l p (suc n) =
+    record { lock = Some l; number = p; seen = []; mark = 0; turns = 0; drawn = l.start }
+    ∷ passes_from l (suc p) n
 
 -- all passes of a new turnstile
 abbrev pub new_passes : {E F : Type 0} → Lock F → List (Held E F)

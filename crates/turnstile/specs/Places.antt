@@ -13,10 +13,19 @@ abbrev pub terms_of : {F : Type 0} → Lock F → Terms F
 terms_of l = record { count = l.count; start = l.start; fixed = l.fixed }
 
 abbrev pub held_as : {E F : Type 0} → Option (Lock F) → Known E → Held E F
-held_as l k = record { lock = l; number = k.number; seen = k.seen; mark = k.mark; turns = k.turns; drawn = k.drawn }
+held_as l k =
+    record {
+      lock = l;
+      number = k.number;
+      seen = k.seen;
+      mark = k.mark;
+      turns = k.turns;
+      drawn = k.drawn;
+    }
 
 abbrev pub known_in : {E F : Type 0} → Held E F → Known E
-known_in p = record { number = p.number; seen = p.seen; mark = p.mark; turns = p.turns; drawn = p.drawn }
+known_in p =
+    record { number = p.number; seen = p.seen; mark = p.mark; turns = p.turns; drawn = p.drawn }
 
 module _ {O E F : Type 0} where
   abbrev pub known_of : SeatState O E F → Known E
@@ -26,7 +35,8 @@ module _ {O E F : Type 0} where
   held_of z m = held_as (option_map (lock_at z) m.0.terms) (known_of m)
 
   abbrev pub told_of : TableId → SeatState O E F → Told E F
-  told_of z m = record { lock = option_map (lock_at z) m.0.terms; seen = m.0.told; mark = m.0.told_mark }
+  told_of z m =
+      record { lock = option_map (lock_at z) m.0.terms; seen = m.0.told; mark = m.0.told_mark }
 
   -- it has one pass, no ticket and not the object
   pub record IsAtRest (m : SeatState O E F) : Type 0 where

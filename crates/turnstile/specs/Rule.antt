@@ -1,5 +1,6 @@
 -- The rule of the table: what holds between any two atomic steps.
--- Word 0, the ticket word, is the number of turns drawn, counted from the start, and word 1 the turn that is served. The one slot has the object.
+-- Word 0, the ticket word, is the number of turns drawn, counted from the start, and word 1 the
+-- turn that is served. The one slot has the object.
 use Rattle.std.specs.Prelude.{◌≡◌, ◌≢◌, ℕ, zero, suc, ◌+◌, ◌<◌, ◌≤◌, ◌^◌, ◌⊎◌, List, [], ◌∷◌, length, All, Option, Some, None}
 use mathlib.Core.Option.{some, none}
 use lib.ListN.{get_elem?}
@@ -23,9 +24,11 @@ turn_count v = total (λ k. k.turns) v.passes
 -- the passes have different numbers
 abbrev pub Apart : {E : Type 0} → List (Known E) → Type 0
 Apart [] = Unit {0}
-Apart {E} (k ∷ ks) = ((m : ℕ) (l : Known E) → get_elem? ks m ≡ some l → l.number ≢ k.number) × Apart ks
+Apart {E} (k ∷ ks) =
+    ((m : ℕ) (l : Known E) → get_elem? ks m ≡ some l → l.number ≢ k.number) × Apart ks
 
-module _ {E : Type 0} (by : E → ℕ) (history : List E) (most ticket count : ℕ) (owner : ℕ → ℕ) (seat : ℕ) where
+module _ {E : Type 0} (by : E → ℕ) (history : List E) (most ticket count : ℕ) (owner : ℕ → ℕ)
+    (seat : ℕ) where
   -- what a pass of this seat knows is so: most is the object's mark
   pub record PassFits (k : Known E) : Type 0 where
     pub below : k.number < count
@@ -35,28 +38,40 @@ module _ {E : Type 0} (by : E → ℕ) (history : List E) (most ticket count : �
     pub mark : k.mark ≤ most
     pub drawn : k.drawn ≤ ticket
 
-module _ {O E F : Type 0} (log : O → List E) (by : E → ℕ) (mark : O → ℕ) (core : O) (ticket serving : ℕ) (queue owner : ℕ → ℕ) (terms : Terms F) where
-  -- what the seat j knows is so: a ticket is not yet served or is served now, and who has taken the object is being served
+module _ {O E F : Type 0} (log : O → List E) (by : E → ℕ) (mark : O → ℕ) (core : O)
+    (ticket serving : ℕ) (queue owner : ℕ → ℕ) (terms : Terms F) where
+  -- what the seat j knows is so: a ticket is not yet served or is served now, and who has taken the
+  -- object is being served
   pub record ViewFits (j : ℕ) (v : View O E F) : Type 0 where
-    pub passes : (m : ℕ) (k : Known E) → get_elem? v.passes m ≡ some k → PassFits by (log core) (mark core) ticket terms.count owner j k
+    pub passes : (m : ℕ) (k : Known E)
+        → get_elem? v.passes m ≡ some k
+        → PassFits by (log core) (mark core) ticket terms.count owner j k
     pub apart : Apart v.passes
     pub told : StartsWith (log core) v.told
     pub told_mark : v.told_mark ≤ mark core
-    pub ticket_is : (t : ℕ) → v.ticket ≡ Some t → (serving ≤ t) × (t < ticket) × (queue t ≡ j) × (length v.passes ≡ 1)
+    pub ticket_is : (t : ℕ)
+        → v.ticket ≡ Some t
+        → (serving ≤ t) × (t < ticket) × (queue t ≡ j) × (length v.passes ≡ 1)
     pub taken_is : (x : O) → v.taken ≡ Some x → (x ≡ core) × (v.ticket ≡ Some serving)
     pub terms_is : (t : Terms F) → v.terms ≡ Some t → t ≡ terms
 
 module _ {O E F : Type 0} where
   -- the seat has the object out
   abbrev pub Out : O → ℕ → State (Option O) (View O E F) → Type 0
-  Out core holder s = (s.homes ≡ none ∷ []) × (v : View O E F) × (get_elem? s.views holder ≡ some v) × (v.taken ≡ Some core)
+  Out core holder s =
+      (s.homes ≡ none ∷ [])
+      × (v : View O E F)
+      × (get_elem? s.views holder ≡ some v)
+      × (v.taken ≡ Some core)
 
   -- the object is at home, or the seat whose ticket is served has it out
   abbrev pub Slot : O → ℕ → State (Option O) (View O E F) → Type 0
   Slot core holder s = (s.homes ≡ some (Some core) ∷ []) ⊎ Out core holder s
 
--- The core is the object as the last turn left it. Its log is the history: what a turn in progress does joins it as the served word rises.
-pub record Turns {O E F : Type 0} (log : O → List E) (by : E → ℕ) (mark : O → ℕ) (fix : O → F) (terms : Terms F) (s : State (Option O) (View O E F)) : Type 0 where
+-- The core is the object as the last turn left it. Its log is the history: what a turn in progress
+-- does joins it as the served word rises.
+pub record Turns {O E F : Type 0} (log : O → List E) (by : E → ℕ) (mark : O → ℕ) (fix : O → F)
+    (terms : Terms F) (s : State (Option O) (View O E F)) : Type 0 where
   pub core : O
   pub ticket : ℕ
   pub serving : ℕ
@@ -68,7 +83,9 @@ pub record Turns {O E F : Type 0} (log : O → List E) (by : E → ℕ) (mark : 
   pub bound : ticket ≤ 2 ^ 62
   pub drawn : ticket ≡ terms.start + total turn_count s.views
   pub slot : Slot core (queue serving) s
-  pub views : (j : ℕ) (v : View O E F) → get_elem? s.views j ≡ some v → ViewFits log by mark core ticket serving queue owner terms j v
+  pub views : (j : ℕ) (v : View O E F)
+      → get_elem? s.views j ≡ some v
+      → ViewFits log by mark core ticket serving queue owner terms j v
   pub all : total pass_count s.views ≡ terms.count
   pub bears : All (λ e. by e < terms.count) (log core)
   pub fixed : fix core ≡ terms.fixed
@@ -84,7 +101,8 @@ fresh_from start p (suc n) = fresh start p ∷ fresh_from start (suc p) n
 
 -- a seat with these passes, at rest
 abbrev pub dealer : {O E F : Type 0} → List (Known E) → Option (Terms F) → View O E F
-dealer ks t = record { passes = ks; told = []; told_mark = 0; ticket = None; taken = None; terms = t }
+dealer ks t =
+    record { passes = ks; told = []; told_mark = 0; ticket = None; taken = None; terms = t }
 
 abbrev pub opening_view : {O E F : Type 0} → Terms F → View O E F
 opening_view t = dealer (fresh_from t.start 0 t.count) (Some t)

@@ -30,14 +30,18 @@ module _ {O E F : Type 0} where
 
   -- the number of turns drawn was found, and was no less than the pass knew
   abbrev pub counts : Step (Option O) → SeatState O E F → ℕ → SeatState O E F → Type 0
-  counts st m r m' = (m' ≡ (with_count m.0 r, m.1)) × (r ≤ 2 ^ 62) × ((k : Known E) → m.0.passes ≡ k ∷ [] → k.drawn ≤ r)
+  counts st m r m' =
+      (m' ≡ (with_count m.0 r, m.1))
+      × (r ≤ 2 ^ 62)
+      × ((k : Known E) → m.0.passes ≡ k ∷ [] → k.drawn ≤ r)
 
   -- the ticket was drawn, if it was still the next one
   abbrev pub draws : Step (Option O) → SeatState O E F → ℕ → SeatState O E F → Type 0
   draws st m r m' = (r ≡ st.first → m' ≡ (with_ticket m.0 st.first, m.1)) × (r ≢ st.first → m' ≡ m)
 
 -- the object x is no older than what the pass knows
-pub record IsFresh {O E F : Type 0} (log : O → List E) (by : E → ℕ) (mark : O → ℕ) (fix : O → F) (k : Known E) (terms : Option (Terms F)) (x : O) : Type 0 where
+pub record IsFresh {O E F : Type 0} (log : O → List E) (by : E → ℕ) (mark : O → ℕ) (fix : O → F)
+    (k : Known E) (terms : Option (Terms F)) (x : O) : Type 0 where
   pub seen_is : StartsWith (log x) k.seen
   pub made_is : own by k.number (log x) ≡ own by k.number k.seen
   pub mark_is : k.mark ≤ mark x
@@ -47,15 +51,28 @@ module _ {O E F : Type 0} (log : O → List E) (by : E → ℕ) (mark : O → �
   -- the object was taken, if the seat's ticket is served
   abbrev pub called : Step (Option O) → SeatState O E F → ℕ → SeatState O E F → Type 0
   called st m r m' = (k : Known E) (t : ℕ) → m.0.passes ≡ k ∷ [] → m.0.ticket ≡ Some t
-      → (r ≡ t → (x : O) × (m' ≡ (with_core m.0 x, (0, Some x) ∷ m.1)) × IsFresh log by mark fix k m.0.terms x) × (r ≢ t → m' ≡ m)
+      → (r ≡ t
+      → (x : O)
+      × (m' ≡ (with_core m.0 x, (0, Some x) ∷ m.1))
+      × IsFresh log by mark fix k m.0.terms x)
+      × (r ≢ t → m' ≡ m)
 
 -- what a pass knows after a turn that left the object y
 abbrev pub known_after : {O E : Type 0} → (O → List E) → (O → ℕ) → O → Known E → Known E
-known_after log mark y k = record { number = k.number; seen = log y; mark = mark y; turns = k.turns; drawn = k.drawn }
+known_after log mark y k =
+    record { number = k.number; seen = log y; mark = mark y; turns = k.turns; drawn = k.drawn }
 
 module _ {O E F : Type 0} (log : O → List E) (mark : O → ℕ) where
   abbrev pub view_after : O → View O E F → View O E F
-  view_after y v = record { passes = map (known_after log mark y) v.passes; told = v.told; told_mark = v.told_mark; ticket = None; taken = None; terms = v.terms }
+  view_after y v =
+      record {
+        passes = map (known_after log mark y) v.passes;
+        told = v.told;
+        told_mark = v.told_mark;
+        ticket = None;
+        taken = None;
+        terms = v.terms;
+      }
 
   -- the object was given back
   abbrev pub ends : Step (Option O) → SeatState O E F → ℕ → SeatState O E F → Type 0
@@ -83,11 +100,20 @@ module _ {O E F : Type 0} where
 
   -- a note of what the seat's pass knows
   abbrev pub noted : View O E F → View O E F
-  noted v = record { passes = []; told = (first_known v.passes).seen; told_mark = (first_known v.passes).mark; ticket = None; taken = None; terms = v.terms }
+  noted v =
+      record {
+        passes = [];
+        told = (first_known v.passes).seen;
+        told_mark = (first_known v.passes).mark;
+        ticket = None;
+        taken = None;
+        terms = v.terms;
+      }
 
   -- a seat that stands for nothing
   abbrev pub spent_view : View O E F
-  spent_view = record { passes = []; told = []; told_mark = 0; ticket = None; taken = None; terms = None }
+  spent_view =
+      record { passes = []; told = []; told_mark = 0; ticket = None; taken = None; terms = None }
 
   abbrev pub heard : View O E F → View O E F → View O E F
   heard v w = record v { told = w.told; told_mark = w.told_mark }
@@ -103,5 +129,11 @@ module _ {O E F : Type 0} (by : E → ℕ) where
   -- the pass has seen all that it had seen and was told, and has made no entry but its own
   abbrev pub learns : Step (Option O) → SeatState O E F → ℕ → SeatState O E F → Type 0
   learns st m r m' = (k : Known E) → m.0.passes ≡ k ∷ []
-      → (h : List E) × (n : ℕ) × StartsWith h k.seen × StartsWith h m.0.told × (k.mark ≤ n) × (m.0.told_mark ≤ n) × (own by k.number h ≡ own by k.number k.seen)
+      → (h : List E)
+      × (n : ℕ)
+      × StartsWith h k.seen
+      × StartsWith h m.0.told
+      × (k.mark ≤ n)
+      × (m.0.told_mark ≤ n)
+      × (own by k.number h ≡ own by k.number k.seen)
       × (m' ≡ (record m.0 { passes = map (learned h n) m.0.passes }, m.1))

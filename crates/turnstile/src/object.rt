@@ -36,5 +36,7 @@ pub trait Object: Drop {
         ensures { result ≡ fixed self.now };
 
     // The log is as before, or has one entry more, which bears the pass's number. The mark does not fall, and the fixed part stays.
-    ghost grows: { (x : Self) (p : ℕ) (a : Self.Ask) (r : Self.Reply) (y : Self) → acts x p a r y → Grown log by mark fixed p x y };
+    ghost grows: { (x : Self) (p : ℕ) (a : Self.Ask) (r : Self.Reply) (y : Self)
+        → acts x p a r y
+        → Grown log by mark fixed p x y };
 }

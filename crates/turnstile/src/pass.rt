@@ -25,7 +25,9 @@ impl<O: Object> Model for Pass<O> {
 
     ghost view = { λ p. held_of p.seat.table_id p.seat.me };
 
-    ghost invariant = { λ p. IsAtRest p.seat.me × ((known_of p.seat.me).number ≡ p.number) × IfSome p.seat.me.0.terms (λ t. p.number < t.count) };
+    ghost invariant = { λ p. IsAtRest p.seat.me
+        × ((known_of p.seat.me).number ≡ p.number)
+        × IfSome p.seat.me.0.terms (λ t. p.number < t.count) };
 }
 
 impl<O: Object> Pass<O> {

@@ -47,7 +47,10 @@ impl<O: Object> Model for Turnstile<O> {
 
     ghost view = { λ t. lock_at t.table.shared.table_id t.table.shared.key };
 
-    ghost invariant = { λ t. (t.table.shared.key.count ≡ t.count) × (0 < t.count) × (t.table.shared.table_id.words ≡ 2) × (t.table.shared.table_id.slots ≡ 1) };
+    ghost invariant = { λ t. (t.table.shared.key.count ≡ t.count)
+        × (0 < t.count)
+        × (t.table.shared.table_id.words ≡ 2)
+        × (t.table.shared.table_id.slots ≡ 1) };
 }
 
 impl<O: Object> Turnstile<O> {
@@ -61,7 +64,8 @@ impl<O: Object> Turnstile<O> {
     ) -> Result<(Turnstile<O>, Vec<Pass<O>>), NoMemory>
         requires empty { O.log object ≡ [] }
         requires counts { (0 < count) × (count ≤ 64) }
-        ensures turnstile { IfOk result (λ b. (b.0.count ≡ count) × (b.0.start ≡ 0) × (b.0.fixed ≡ O.fixed object)) }
+        ensures turnstile { IfOk result
+            (λ b. (b.0.count ≡ count) × (b.0.start ≡ 0) × (b.0.fixed ≡ O.fixed object)) }
         ensures passes { IfOk result (λ b. b.1.items ≡ new_passes b.0) }
     {
         Turnstile::build_at(alloc, object, count, 0)
@@ -77,7 +81,8 @@ impl<O: Object> Turnstile<O> {
         requires empty { O.log object ≡ [] }
         requires counts { (0 < count) × (count ≤ 64) }
         requires start { start ≤ 2 ^ 62 }
-        ensures turnstile { IfOk result (λ b. (b.0.count ≡ count) × (b.0.start ≡ start) × (b.0.fixed ≡ O.fixed object)) }
+        ensures turnstile { IfOk result
+            (λ b. (b.0.count ≡ count) × (b.0.start ≡ start) × (b.0.fixed ≡ O.fixed object)) }
         ensures passes { IfOk result (λ b. b.1.items ≡ new_passes b.0) }
     {
         let terms = Terms {
@@ -97,7 +102,8 @@ impl<O: Object> Turnstile<O> {
 
     fn deal_all(&self, alloc: Global, mut seat: Place<O>) -> Result<Vec<Pass<O>>, NoMemory>
         requires own { seat.table_id ≡ self.now.table }
-        requires all { seat.me ≡ (dealer (fresh_from self.now.start 0 self.now.count) (Some (terms_of self.now)), []) }
+        requires all { seat.me
+            ≡ (dealer (fresh_from self.now.start 0 self.now.count) (Some (terms_of self.now)), []) }
         ensures { IfOk result (λ v. v.items ≡ new_passes self.now) }
     {
         let mut passes = Vec::new(alloc);
@@ -111,10 +117,36 @@ impl<O: Object> Turnstile<O> {
     fn deal(&self, seat: &mut Place<O>, number: u64) -> Pass<O>
         requires own { seat.old.table_id ≡ self.now.table }
         requires below { number < self.now.count }
-        requires first { (n : _) × (seat.old.me ≡ (dealer (fresh self.now.start number ∷ fresh_from self.now.start (number + 1) n) (Some (terms_of self.now)), [])) }
+        requires first { (n : _)
+            × (seat.old.me
+            ≡ (
+              dealer (fresh self.now.start number
+                  ∷ fresh_from self.now.start (number + 1) n) (Some (terms_of self.now)),
+              [],
+            )) }
         ensures own { seat.new.table_id ≡ seat.old.table_id }
-        ensures rest { (n : _) → seat.old.me ≡ (dealer (fresh self.now.start number ∷ fresh_from self.now.start (number + 1) n) (Some (terms_of self.now)), []) → seat.new.me ≡ (dealer (fresh_from self.now.start (number + 1) n) (Some (terms_of self.now)), []) }
-        ensures pass { result ≡ record { lock = Some self.now; number = number; seen = []; mark = 0; turns = 0; drawn = self.now.start } }
+        ensures rest { (n : _)
+            → seat.old.me
+            ≡ (
+              dealer (fresh self.now.start number
+                  ∷ fresh_from self.now.start (number + 1) n) (Some (terms_of self.now)),
+              [],
+            )
+            → seat.new.me
+            ≡ (
+              dealer (fresh_from self.now.start (number + 1) n)
+                  (Some (terms_of self.now)),
+              [],
+            ) }
+        ensures pass { result
+            ≡ record {
+              lock = Some self.now;
+              number = number;
+              seen = [];
+              mark = 0;
+              turns = 0;
+              drawn = self.now.start;
+            } }
     {
         let seat = self.table.shared.split_seat::<Deal>(seat);
         Pass { number, seat }
@@ -126,8 +158,10 @@ impl<O: Object> Turnstile<O> {
     pub fn turn<R: Wait>(&self, rt: &R, pass: &mut Pass<O>, ask: O::Ask) -> Result<O::Reply, Worn>
         requires { pass.old.lock ≡ Some self.now }
         ensures same { IsSamePass pass.old pass.new }
-        ensures done { IfOk result (λ reply. Turned O.log O.by O.mark O.fixed O.acts self.now ask reply pass.old pass.new) }
-        ensures drawn { OnOk result ((pass.old.drawn < pass.new.drawn) × (pass.new.drawn ≤ 2 ^ 62)) }
+        ensures done { IfOk result
+            (λ reply. Turned O.log O.by O.mark O.fixed O.acts self.now ask reply pass.old pass.new) }
+        ensures drawn { OnOk result ((pass.old.drawn < pass.new.drawn)
+            × (pass.new.drawn ≤ 2 ^ 62)) }
         ensures counted { OnOk result (pass.new.turns ≡ pass.old.turns + 1) }
         ensures worn { OnErr result (pass.new ≡ record pass.old { drawn = 2 ^ 62 }) }
     {
@@ -143,7 +177,9 @@ impl<O: Object> Turnstile<O> {
         requires own { seat.old.table_id ≡ self.now.table }
         requires rest { IsAtRest seat.old.me }
         ensures own { seat.new.table_id ≡ seat.old.table_id }
-        ensures ok { IfOk result (λ t. (seat.new.me ≡ (with_ticket seat.old.me.0 t, [])) × ((known_of seat.old.me).drawn ≤ t) × (t < 2 ^ 62)) }
+        ensures ok { IfOk result (λ t. (seat.new.me ≡ (with_ticket seat.old.me.0 t, []))
+            × ((known_of seat.old.me).drawn ≤ t)
+            × (t < 2 ^ 62)) }
         ensures worn { OnErr result (seat.new.me ≡ (with_count seat.old.me.0 (2 ^ 62), [])) }
     {
         for _ in rt.forever() {
@@ -165,10 +201,16 @@ impl<O: Object> Turnstile<O> {
     // Sleeps until the ticket is served, and takes the object.
     fn take<R: Wait>(&self, rt: &R, seat: &mut Place<O>, ticket: u64) -> O
         requires own { seat.old.table_id ≡ self.now.table }
-        requires waits { (k : _) × (seat.old.me.0.passes ≡ k ∷ []) × (seat.old.me.0.ticket ≡ Some ticket) × (seat.old.me.0.taken ≡ None) × (seat.old.me.1 ≡ []) }
+        requires waits { (k : _)
+            × (seat.old.me.0.passes ≡ k ∷ [])
+            × (seat.old.me.0.ticket ≡ Some ticket)
+            × (seat.old.me.0.taken ≡ None)
+            × (seat.old.me.1 ≡ []) }
         ensures own { seat.new.table_id ≡ seat.old.table_id }
         ensures out { seat.new.me ≡ (with_core seat.old.me.0 result, (0, None) ∷ []) }
-        ensures fresh { (k : _) → seat.old.me.0.passes ≡ k ∷ [] → IsFresh O.log O.by O.mark O.fixed k seat.old.me.0.terms result }
+        ensures fresh { (k : _)
+            → seat.old.me.0.passes ≡ k ∷ []
+            → IsFresh O.log O.by O.mark O.fixed k seat.old.me.0.terms result }
     {
         for _ in rt.forever() {
             let serving = self.table.shared.load::<Take>(seat, SERVING);
@@ -188,7 +230,12 @@ impl<O: Object> Turnstile<O> {
     // Gives the object back and ends the turn.
     fn end(&self, seat: &mut Place<O>, object: O)
         requires own { seat.old.table_id ≡ self.now.table }
-        requires has { (k : _) × (x : _) × (seat.old.me.0.passes ≡ k ∷ []) × (seat.old.me.0.taken ≡ Some x) × (seat.old.me.1 ≡ (0, None) ∷ []) × Grown O.log O.by O.mark O.fixed k.number x object }
+        requires has { (k : _)
+            × (x : _)
+            × (seat.old.me.0.passes ≡ k ∷ [])
+            × (seat.old.me.0.taken ≡ Some x)
+            × (seat.old.me.1 ≡ (0, None) ∷ [])
+            × Grown O.log O.by O.mark O.fixed k.number x object }
         ensures own { seat.new.table_id ≡ seat.old.table_id }
         ensures rest { seat.new.me ≡ (view_after O.log O.mark object seat.old.me.0, []) }
     {
@@ -204,7 +251,8 @@ impl<O: Object> Turnstile<O> {
     pub fn note(&self, pass: &mut Pass<O>) -> Note<O>
         requires { pass.old.lock ≡ Some self.now }
         ensures same { pass.new ≡ pass.old }
-        ensures told { result ≡ record { lock = pass.old.lock; seen = pass.old.seen; mark = pass.old.mark } }
+        ensures told { result
+            ≡ record { lock = pass.old.lock; seen = pass.old.seen; mark = pass.old.mark } }
     {
         Note {
             seat: self.table.shared.split_seat::<Tell>(&mut pass.seat),
@@ -216,7 +264,9 @@ impl<O: Object> Turnstile<O> {
         requires pass { pass.old.lock ≡ Some self.now }
         requires note { note.lock ≡ Some self.now }
         ensures same { IsSamePass pass.old pass.new }
-        ensures keeps { (mine O.by pass.new ≡ mine O.by pass.old) × (pass.new.turns ≡ pass.old.turns) × (pass.new.drawn ≡ pass.old.drawn) }
+        ensures keeps { (mine O.by pass.new ≡ mine O.by pass.old)
+            × (pass.new.turns ≡ pass.old.turns)
+            × (pass.new.drawn ≡ pass.old.drawn) }
         ensures seen { StartsWith pass.new.seen pass.old.seen × StartsWith pass.new.seen note.seen }
         ensures mark { (pass.old.mark ≤ pass.new.mark) × (note.mark ≤ pass.new.mark) }
     {
@@ -255,7 +305,10 @@ impl<O: Object> Turnstile<O> {
         requires own { All (λ p. p.lock ≡ Some self.now) passes.items }
         requires some { 0 < length passes.items }
         ensures own { result.table_id ≡ self.now.table }
-        ensures all { (result.me.0.passes ≡ map known_in passes.items) × (result.me.0.ticket ≡ None) × (result.me.0.taken ≡ None) × (result.me.1 ≡ []) }
+        ensures all { (result.me.0.passes ≡ map known_in passes.items)
+            × (result.me.0.ticket ≡ None)
+            × (result.me.0.taken ≡ None)
+            × (result.me.1 ≡ []) }
     {
         let Some(last) = passes.pop() else {
             unreachable!()
