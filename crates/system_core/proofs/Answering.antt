@@ -1,10 +1,10 @@
 -- What is written for a line is an answer to it.
-use Rattle.std.proofs.Common.{◌≡◌, ℕ, zero, suc, List, [], ◌∷◌, ◌++◌, take, drop, slice_get, IfSome, Option, Some, None, refl, sym, ap, ◌∙◌, append_assoc, subst, inl, inr}
+use Rattle.std.proofs.Common.{◌≡◌, ℕ, zero, suc, List, [], ◌∷◌, ◌++◌, take, drop, slice_get, IfSome, Option, Some, None, refl, sym, ap, ◌∙◌, append_assoc, subst, inl}
 use Rattle.std.specs.List.{concat}
 use Rattle.std.specs.Io.KnownBytes.{Appends}
 use Rattle.std.proofs.KnownBytes.{Appends-nil, Appends-trans}
 use Rattle.base_core.specs.Streams.{WritesFront, Writes, WritesFrontOf}
-use Rattle.system_core.specs.Texts.{reply_text, lost_text}
+use Rattle.system_core.specs.Texts.{reply_text}
 use Rattle.system_core.specs.World.{World}
 use Rattle.system_core.specs.Script.{Answers, AnswersLine, faulty, said, unread, Follows, stepped, gave_up, TellsReply, TellsRecords}
 use Rattle.system_core.specs.Saying.{ComesTo, TellsSaid, Advanced, TellsAdvanced, TellsBoth}
@@ -112,9 +112,8 @@ records-broken xs n front unwritten before after at wrote = record {
 
 -- ---- what it answers
 pub said-answers : (old new : World) (line : List ℕ) (what : Said) (text : List ℕ) → ComesTo old line what new → TellsSaid what text → AnswersLine old line text new
-said-answers old new line (says.Fault code offset) text (h, same) (inl e) = subst (λ w. AnswersLine old line text w) (sym same) (subst (λ t. AnswersLine old line t old) (sym e) (faulty h))
-said-answers old new line (says.Fault code offset) text (h, same) (inr e) = subst (λ w. AnswersLine old line text w) (sym same) (subst (λ t. AnswersLine old line t old) (sym e) unread)
-said-answers old new line says.Unread text same e = subst (λ w. AnswersLine old line text w) (sym same) (subst (λ t. AnswersLine old line t old) (sym e) unread)
+said-answers old new line (says.Fault code offset) text (h, same) e = subst (λ w. AnswersLine old line text w) (sym same) (subst (λ t. AnswersLine old line t old) (sym e) (faulty h))
+said-answers old new line says.Unread text (user, start, a, same) e = subst (λ w. AnswersLine old line text w) (sym same) (subst (λ t. AnswersLine old line t old) (sym e) (unread user start a))
 said-answers old new line (says.Answer reply) text (user, asked, a, step) tells = said user asked reply a step tells
 
 pub advanced-follows : (old new : World) (what : Option Reply) (text : List ℕ) → Advanced old what new → TellsAdvanced what text → Follows old text new
@@ -124,7 +123,7 @@ advanced-follows old new (Some reply) text (refusal, mid, step, refused, up) tel
 -- something may be written of each
 pub tells-some : (what : Option Reply) → (text : List ℕ) × TellsAdvanced what text
 tells-some None = ([], refl)
-tells-some (Some reply) = (lost_text, inr refl)
+tells-some (Some reply) = let more = some_records reply in (reply_text reply ++ more.0, inl (more.0, more.1, refl))
 
 -- **what is written of both answers the line**
 pub both-answer : (old mid new : World) (line : List ℕ) (what : Said) (advanced : Option Reply) → ComesTo old line what mid → Advanced mid advanced new → (text : List ℕ) → TellsBoth what advanced text → Answers old line text new

@@ -17,7 +17,7 @@ use Rattle.base_core.specs.declared.word.TheConstants.{MAX_NAME}
 use Rattle.reader_core.specs.Language.{Spells, IsReadFault}
 use Rattle.reader_core.specs.declared.statement.Statement.{Statement}
 use Rattle.lines_core.specs.Serving.{Ends}
-use Rattle.system_core.specs.Texts.{reply_text, fault_text, unread_text, lost_text, cut_text}
+use Rattle.system_core.specs.Texts.{reply_text, fault_text, unread_text, lost_text, cut_text, is_list}
 use Rattle.system_core.specs.World.{World, opening}
 use Rattle.system_core.specs.Step.{Step}
 use Rattle.system_core.specs.declared.machine.event.Event.TheVariants as events
@@ -69,16 +69,19 @@ abbrev pub TellsRecords : Reply → List ℕ → Type 0
 TellsRecords (replies.Export ticket) text = (text ≡ concat ticket.to_come) ⊎ ((n : ℕ) × (n < length ticket.to_come) × (text ≡ concat (take n ticket.to_come) ++ cut_text))
 TellsRecords reply text = text ≡ []
 
--- what may be written of a reply: its text and its records, or, for want of memory, that it is lost
+-- what may be written of a reply: its text and its records; or of a list, for want of memory, that it is
+-- lost
 abbrev pub TellsReply : Reply → List ℕ → Type 0
-TellsReply reply text = ((records : List ℕ) × TellsRecords reply records × (text ≡ reply_text reply ++ records)) ⊎ (text ≡ lost_text)
+TellsReply reply text =
+    ((records : List ℕ) × TellsRecords reply records × (text ≡ reply_text reply ++ records))
+    ⊎ ((is_list reply ≡ true) × (text ≡ lost_text))
 
 -- From old, this text may be written for the line itself, and new is the next world. The last is for
--- want of memory.
+-- want of memory, where the line says who speaks, so that what he asks had to be read.
 pub data AnswersLine (old : World) (line : List ℕ) : List ℕ → World → Type 0 where
   faulty : {code : Code} {offset : ℕ} → IsFaulty line code offset → AnswersLine old line (fault_text code offset) old
   said : {text : List ℕ} {new : World} (user : User) (asked : Statement) (reply : Reply) → Asks line user asked → Step old (events.Say 0 user asked) reply new → TellsReply reply text → AnswersLine old line text new
-  unread : AnswersLine old line unread_text old
+  unread : (user : User) (start : ℕ) → addressed line ≡ Ok (user, start) → AnswersLine old line unread_text old
 
 abbrev pub is_refused : Reply → Bool
 is_refused (replies.Refused at lack) = true
@@ -106,7 +109,7 @@ AnswersLine-too_long : (old new : World) (line other text : List ℕ) → MAX_LI
 AnswersLine-too_long old _ line other _ h k (faulty (address e)) = faulty (address (too_long other k ∙ sym (too_long line h) ∙ e))
 AnswersLine-too_long old _ line other _ h k (faulty (statement user start offset e f)) = let l = too_long line h in cc
 AnswersLine-too_long old new line other _ h k (said user asked reply a step tells) = let l = too_long line h in let s = a.speaker in cc
-AnswersLine-too_long old _ line other _ h k unread = unread
+AnswersLine-too_long old _ line other _ h k (unread user start e) = let l = too_long line h in cc
 
 -- lines that are too long are answered alike
 pub Answers-too_long : (old new : World) (line other text : List ℕ) → MAX_LINE < length line → MAX_LINE < length other → Answers old line text new → Answers old other text new

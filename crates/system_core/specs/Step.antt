@@ -1,5 +1,5 @@
 -- The steps of the machine, from one world to the next.
-use Rattle.std.specs.Prelude.{ℕ, ◌≡◌, ◌+◌, ◌-◌, ◌<◌, ◌≤◌, true, List, [], ◌∷◌, ◌++◌, length, drop, map, if◌then◌else◌, Ok, Err, Option, Some, None, option_map, IsSomeAnd}
+use Rattle.std.specs.Prelude.{ℕ, ◌≡◌, ◌+◌, ◌-◌, ◌<◌, ◌≤◌, true, List, [], ◌∷◌, ◌++◌, map, if◌then◌else◌, Ok, Err, Option, Some, None, option_map, IsSomeAnd}
 use Rattle.std.specs.Option.{unwrap_or}
 use Rattle.base_core.specs.Lacks.{is_denial}
 use Rattle.base_core.specs.declared.name.User.{User}

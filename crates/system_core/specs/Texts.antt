@@ -1,5 +1,5 @@
 -- The texts of replies, lacks and faults.
-use Rattle.std.specs.Prelude.{ℕ, List, [], ◌∷◌, codes, decimal, length}
+use Rattle.std.specs.Prelude.{ℕ, Bool, true, false, List, [], ◌∷◌, codes, decimal, length}
 use Rattle.std.specs.List.{flat_map}
 use Rattle.base_core.specs.declared.name.User.{User}
 use Rattle.base_core.specs.declared.privilege.Kind.{Kind}
@@ -99,7 +99,13 @@ fault_text code offset = joined (codes "error " ∷ decimal (code_number code) �
 abbrev pub unread_text : List ℕ
 unread_text = codes "refused: no memory\n"
 
--- what is written of an event that was done, where its reply's text found no memory
+-- whether a reply is a list of rows or of checkpoints, whose text is made in new memory
+abbrev pub is_list : Reply → Bool
+is_list (replies.Rows at rows) = true
+is_list (replies.Listed at entries) = true
+is_list reply = false
+
+-- what is written in place of a list whose text found no memory
 abbrev pub lost_text : List ℕ
 lost_text = codes "reply lost: no memory\n"
 

@@ -36,7 +36,8 @@
 //! [`script`] has [`lines_core`] read lines `user: statement`, and gives the writer the text of each reply before it looks
 //! at the next line, and after an export's its records; before it reads on, it flushes. Each line, whatever
 //! it is, is followed by one step of the checkpointer; where that finds no memory, the checkpoint is given
-//! up, and the script says so. The contract is over bytes: what was written is answers to the lines of what
+//! up, and the script says so. Texts are made in one buffer that a script makes when it starts, but for
+//! rows and lists, which may be lost for want of memory. The contract is over bytes: what was written is answers to the lines of what
 //! was read, one after another, by the machine above.
 //!
 //! # Mechanism

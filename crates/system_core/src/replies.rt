@@ -1,4 +1,4 @@
 //! The texts of replies, lacks and faults, byte for byte.
 
-pub mod texts;
+pub mod buffer;
 pub mod wording;

@@ -1,21 +1,20 @@
-//! The texts of replies and lacks.
-ghost use Rattle.std.specs.Prelude.{◌≡◌, ◌++◌, ◌∷◌, [], codes, decimal, IfOk, OnOk};
+//! The texts of replies, lacks and faults.
+ghost use Rattle.std.specs.Prelude.{◌≡◌, ◌≤◌, ◌+◌, ◌++◌, ◌∷◌, [], false, codes, decimal, length, IfOk};
 ghost use Rattle.std.specs.List.{flat_map};
 ghost use Rattle.export_core.specs.Ticket.{header_line};
-ghost use Rattle.system_core.specs.Texts.{joined, kind_text, type_text, what_text, about_atom, stamped, lack_text, refusal_text, checkpoint_line, reply_text, fault_text};
+ghost use Rattle.system_core.specs.Texts.{joined, kind_text, type_text, what_text, about_atom, stamped, lack_text, refusal_text, checkpoint_line, reply_text, fault_text, is_list};
+ghost use Rattle.system_core.specs.declared.replies.buffer.TheConstants.{REPLY_BYTES};
 
 use crate::machine::event::{Checkpoint, Reply};
-use crate::replies::texts::{push_all, push_bytes, push_number};
+use crate::replies::buffer::ReplyBuffer;
 use base_core::{Atom, ColType, Kind, Lack, Moment, Name, NoMemory, Row, User, What};
 use export_core::{Ticket, write_record, write_rows};
 use lexer_core::Code;
 use std::alloc::Global;
 
-// Room for most replies of one line, so that their text asks for memory once.
-const USUAL_BYTES: usize = 96;
-
 fn type_text(ty: ColType) -> &'static [u8]
-    ensures { result.now ≡ type_text ty }
+    ensures text { result.now ≡ type_text ty }
+    ensures short { length result.now ≤ 7 }
 {
     match ty {
         ColType::Integer => b"INTEGER",
@@ -24,7 +23,8 @@ fn type_text(ty: ColType) -> &'static [u8]
 }
 
 fn what_text(what: What) -> &'static [u8]
-    ensures { result.now ≡ what_text what }
+    ensures text { result.now ≡ what_text what }
+    ensures short { length result.now ≤ 11 }
 {
     match what {
         What::Changes => b"changes",
@@ -34,110 +34,130 @@ fn what_text(what: What) -> &'static [u8]
     }
 }
 
-fn push_kind(text: &mut Vec<u8>, kind: &Kind) -> Result<(), NoMemory>
-    ensures { OnOk result (text.new.items ≡ text.old.items ++ kind_text kind.now) }
+fn push_kind(text: &mut ReplyBuffer, kind: &Kind)
+    requires { length text.old + 38 ≤ REPLY_BYTES }
+    ensures text { text.new ≡ text.old ++ kind_text kind.now }
+    ensures short { length text.new ≤ length text.old + 38 }
 {
     match kind {
-        Kind::Select => push_bytes(text, b"SELECT"),
-        Kind::Insert => push_bytes(text, b"INSERT"),
-        Kind::Delete => push_bytes(text, b"DELETE"),
-        Kind::Update(column) => push_all(text, &[b"UPDATE(", column.as_bytes(), b")"]),
+        Kind::Select => text.push(b"SELECT"),
+        Kind::Insert => text.push(b"INSERT"),
+        Kind::Delete => text.push(b"DELETE"),
+        Kind::Update(column) => push_name_in(text, b"UPDATE(", column, b")"),
     }
 }
 
+/// A name between two texts.
+fn push_name_in(text: &mut ReplyBuffer, before: &[u8], name: &Name, behind: &[u8])
+    requires { length text.old + length before.now + 30 + length behind.now ≤ REPLY_BYTES }
+    ensures text { text.new ≡ text.old ++ joined (before.now ∷ name.now ∷ behind.now ∷ []) }
+    ensures short { length text.new ≤ length text.old + length before.now + 30 + length behind.now }
+{
+    text.push(before);
+    text.push_name(name);
+    text.push(behind);
+}
+
+/// A number between two texts.
+fn push_number_in(text: &mut ReplyBuffer, before: &[u8], number: u64, behind: &[u8])
+    requires { length text.old + length before.now + 20 + length behind.now ≤ REPLY_BYTES }
+    ensures text { text.new ≡ text.old ++ joined (before.now ∷ decimal number ∷ behind.now ∷ []) }
+    ensures short { length text.new ≤ length text.old + length before.now + 20 + length behind.now }
+{
+    text.push(before);
+    text.push_number(number);
+    text.push(behind);
+}
+
 /// A user, what is said of him, a privilege, and its table.
-fn push_about_atom(
-    text: &mut Vec<u8>,
-    user: &User,
-    said: &[u8],
-    atom: &Atom,
-) -> Result<(), NoMemory>
-    ensures { OnOk result (text.new.items ≡ text.old.items ++ about_atom user.now said.now atom.now) }
+fn push_about_atom(text: &mut ReplyBuffer, user: &User, said: &[u8], atom: &Atom)
+    requires { length text.old + length said.now + 102 ≤ REPLY_BYTES }
+    ensures text { text.new ≡ text.old ++ about_atom user.now said.now atom.now }
+    ensures short { length text.new ≤ length text.old + length said.now + 102 }
 {
-    push_all(text, &[user.0.as_bytes(), said])?;
-    push_kind(text, &atom.kind)?;
-    push_all(text, &[b" on ", atom.table.as_bytes()])
-}
-
-fn push_number_in(
-    text: &mut Vec<u8>,
-    before: &[u8],
-    number: u64,
-    behind: &[u8],
-) -> Result<(), NoMemory>
-    ensures { OnOk result (text.new.items ≡ text.old.items ++ joined (before.now ∷ decimal number ∷ behind.now ∷ [])) }
-{
-    push_bytes(text, before)?;
-    push_number(text, number)?;
-    push_bytes(text, behind)
-}
-
-fn push_no_column(text: &mut Vec<u8>, table: &Name, column: &Name) -> Result<(), NoMemory>
-    ensures { OnOk result (text.new.items ≡ text.old.items ++ lack_text (Lack.NoColumn table.now column.now)) }
-{
-    push_all(
-        text,
-        &[b"no column ", column.as_bytes(), b" in ", table.as_bytes()],
-    )
+    text.push_name(&user.0);
+    text.push(said);
+    push_kind(text, &atom.kind);
+    text.push(b" on ");
+    text.push_name(&atom.table);
 }
 
 /// A user, what is said of him, and the table that he may not select.
-fn push_no_select(
-    text: &mut Vec<u8>,
-    user: &User,
-    said: &[u8],
-    table: &Name,
-) -> Result<(), NoMemory>
-    ensures { OnOk result (text.new.items ≡ text.old.items ++ joined (user.now.0 ∷ said.now ∷ codes " SELECT on " ∷ table.now ∷ [])) }
+fn push_no_select(text: &mut ReplyBuffer, user: &User, said: &[u8], table: &Name)
+    requires { length text.old + length said.now + 71 ≤ REPLY_BYTES }
+    ensures text { text.new ≡ text.old ++ joined (user.now.0 ∷ said.now ∷ codes " SELECT on " ∷ table.now ∷ []) }
+    ensures short { length text.new ≤ length text.old + length said.now + 71 }
 {
-    push_all(
-        text,
-        &[user.0.as_bytes(), said, b" SELECT on ", table.as_bytes()],
-    )
+    text.push_name(&user.0);
+    text.push(said);
+    text.push(b" SELECT on ");
+    text.push_name(table);
 }
 
-fn push_no_grant(text: &mut Vec<u8>, by: &User, to: &User, atom: &Atom) -> Result<(), NoMemory>
-    ensures { OnOk result (text.new.items ≡ text.old.items ++ lack_text (Lack.NoGrant by.now to.now atom.now)) }
+fn push_no_column(text: &mut ReplyBuffer, table: &Name, column: &Name)
+    requires { length text.old + 148 ≤ REPLY_BYTES }
+    ensures text { text.new ≡ text.old ++ lack_text (Lack.NoColumn table.now column.now) }
+    ensures short { length text.new ≤ length text.old + 148 }
 {
-    push_about_atom(text, by, b" granted no ", atom)?;
-    push_all(text, &[b" to ", to.0.as_bytes()])
+    push_name_in(text, b"no column ", column, b" in ");
+    text.push_name(table);
 }
 
-fn push_no_table_then(text: &mut Vec<u8>, table: &Name, number: u64) -> Result<(), NoMemory>
-    ensures { OnOk result (text.new.items ≡ text.old.items ++ lack_text (Lack.NoTableThen table.now number)) }
+fn push_no_grant(text: &mut ReplyBuffer, by: &User, to: &User, atom: &Atom)
+    requires { length text.old + 148 ≤ REPLY_BYTES }
+    ensures text { text.new ≡ text.old ++ lack_text (Lack.NoGrant by.now to.now atom.now) }
+    ensures short { length text.new ≤ length text.old + 148 }
 {
-    push_all(text, &[b"no table ", table.as_bytes()])?;
-    push_number_in(text, b" at checkpoint ", number, b"")
+    push_about_atom(text, by, b" granted no ", atom);
+    text.push(b" to ");
+    text.push_name(&to.0);
 }
 
-fn push_wrong_count(text: &mut Vec<u8>, given: usize, wanted: usize) -> Result<(), NoMemory>
-    ensures { OnOk result (text.new.items ≡ text.old.items ++ lack_text (Lack.WrongCount given wanted)) }
+fn push_no_table_then(text: &mut ReplyBuffer, table: &Name, number: u64)
+    requires { length text.old + 148 ≤ REPLY_BYTES }
+    ensures text { text.new ≡ text.old ++ lack_text (Lack.NoTableThen table.now number) }
+    ensures short { length text.new ≤ length text.old + 148 }
 {
-    push_number_in(text, b"", given as u64, b" values for ")?;
-    push_number_in(text, b"", wanted as u64, b" columns")
+    push_name_in(text, b"no table ", table, b" at checkpoint ");
+    text.push_number(number);
 }
 
-fn push_wrong_type(text: &mut Vec<u8>, column: &Name, wanted: ColType) -> Result<(), NoMemory>
-    ensures { OnOk result (text.new.items ≡ text.old.items ++ lack_text (Lack.WrongType column.now wanted)) }
+fn push_wrong_count(text: &mut ReplyBuffer, given: usize, wanted: usize)
+    requires { length text.old + 148 ≤ REPLY_BYTES }
+    ensures text { text.new ≡ text.old ++ lack_text (Lack.WrongCount given wanted) }
+    ensures short { length text.new ≤ length text.old + 148 }
 {
-    push_all(text, &[b"column ", column.as_bytes(), b" takes "])?;
-    push_bytes(text, type_text(wanted))
+    text.push_number(given as u64);
+    push_number_in(text, b" values for ", wanted as u64, b" columns");
 }
 
-fn push_full(text: &mut Vec<u8>, what: What) -> Result<(), NoMemory>
-    ensures { OnOk result (text.new.items ≡ text.old.items ++ lack_text (Lack.Full what)) }
+fn push_wrong_type(text: &mut ReplyBuffer, column: &Name, wanted: ColType)
+    requires { length text.old + 148 ≤ REPLY_BYTES }
+    ensures text { text.new ≡ text.old ++ lack_text (Lack.WrongType column.now wanted) }
+    ensures short { length text.new ≤ length text.old + 148 }
 {
-    push_bytes(text, b"full: ")?;
-    push_bytes(text, what_text(what))
+    push_name_in(text, b"column ", column, b" takes ");
+    text.push(type_text(wanted));
+}
+
+fn push_full(text: &mut ReplyBuffer, what: What)
+    requires { length text.old + 148 ≤ REPLY_BYTES }
+    ensures text { text.new ≡ text.old ++ lack_text (Lack.Full what) }
+    ensures short { length text.new ≤ length text.old + 148 }
+{
+    text.push(b"full: ");
+    text.push(what_text(what));
 }
 
 /// Appends what is missing, without the moment.
-fn push_lack(text: &mut Vec<u8>, lack: &Lack) -> Result<(), NoMemory>
-    ensures { OnOk result (text.new.items ≡ text.old.items ++ lack_text lack.now) }
+fn push_lack(text: &mut ReplyBuffer, lack: &Lack)
+    requires { length text.old + 148 ≤ REPLY_BYTES }
+    ensures text { text.new ≡ text.old ++ lack_text lack.now }
+    ensures short { length text.new ≤ length text.old + 148 }
 {
     match lack {
-        Lack::NoTable(table) => push_all(text, &[b"no table ", table.as_bytes()]),
-        Lack::TableExists(table) => push_all(text, &[b"table ", table.as_bytes(), b" exists"]),
+        Lack::NoTable(table) => push_name_in(text, b"no table ", table, b""),
+        Lack::TableExists(table) => push_name_in(text, b"table ", table, b" exists"),
         Lack::NoColumn { table, column } => push_no_column(text, table, column),
         Lack::NoPrivilege { user, atom } => push_about_atom(text, user, b" lacks ", atom),
         Lack::NoGrantOption { user, atom } => push_about_atom(text, user, b" may not grant ", atom),
@@ -149,37 +169,100 @@ fn push_lack(text: &mut Vec<u8>, lack: &Lack) -> Result<(), NoMemory>
         Lack::WrongCount { given, wanted } => push_wrong_count(text, *given, *wanted),
         Lack::WrongType { column, wanted } => push_wrong_type(text, column, *wanted),
         Lack::Full(what) => push_full(text, *what),
-        Lack::Busy => push_bytes(text, b"busy"),
-        Lack::NoMemory => push_bytes(text, b"no memory"),
-        Lack::Worn => push_bytes(text, b"worn"),
+        Lack::Busy => text.push(b"busy"),
+        Lack::NoMemory => text.push(b"no memory"),
+        Lack::Worn => text.push(b"worn"),
     }
 }
 
 /// A word, the moment, and what is missing.
-fn push_stamped(text: &mut Vec<u8>, word: &[u8], at: Moment, lack: &Lack) -> Result<(), NoMemory>
-    ensures { OnOk result (text.new.items ≡ text.old.items ++ stamped word.now at.0 lack.now) }
+fn push_stamped(text: &mut ReplyBuffer, word: &[u8], at: Moment, lack: &Lack)
+    requires { length text.old + length word.now + 171 ≤ REPLY_BYTES }
+    ensures { text.new ≡ text.old ++ stamped word.now at.0 lack.now }
 {
-    push_number_in(text, word, at.0, b": ")?;
-    push_lack(text, lack)?;
-    push_bytes(text, b"\n")
+    push_number_in(text, word, at.0, b": ");
+    push_lack(text, lack);
+    text.push(b"\n");
 }
 
-fn push_refusal(text: &mut Vec<u8>, at: Moment, lack: &Lack) -> Result<(), NoMemory>
-    ensures { OnOk result (text.new.items ≡ text.old.items ++ refusal_text at.0 lack.now) }
+fn push_refusal(text: &mut ReplyBuffer, at: Moment, lack: &Lack)
+    requires { length text.old + 180 ≤ REPLY_BYTES }
+    ensures { text.new ≡ text.old ++ refusal_text at.0 lack.now }
 {
     if let Lack::Worn = lack {
-        return push_bytes(text, b"refused: worn\n");
+        text.push(b"refused: worn\n");
+        return;
     }
-    push_stamped(text, b"refused @", at, lack)
+    push_stamped(text, b"refused @", at, lack);
 }
 
-fn rows_text(mut text: Vec<u8>, at: Moment, rows: &[Row]) -> Result<Vec<u8>, NoMemory>
-    ensures { IfOk result (λ longer. longer.items ≡ text.items ++ reply_text (Reply.Rows at rows.now)) }
+fn push_begun(text: &mut ReplyBuffer, number: u64, at: Moment)
+    requires { length text.old + 60 ≤ REPLY_BYTES }
+    ensures { text.new ≡ text.old ++ reply_text (Reply.Begun number at) }
 {
-    push_bytes(&mut text, b"rows ")?;
-    push_number(&mut text, rows.len())?;
-    push_number_in(&mut text, b" @", at.0, b"\n")?;
-    write_rows(text, rows)
+    push_number_in(text, b"checkpoint ", number, b" begun @");
+    push_number_in(text, b"", at.0, b"\n");
+}
+
+fn push_header(text: &mut ReplyBuffer, ticket: &Ticket)
+    requires { length text.old + 77 ≤ REPLY_BYTES }
+    ensures { text.new ≡ text.old ++ header_line ticket.now }
+{
+    push_number_in(text, b"export ", ticket.number(), b" point ");
+    push_number_in(text, b"", ticket.point().0, b" @");
+    push_number_in(text, b"", ticket.at().0, b"\n");
+}
+
+/// Appends the text of a reply that is no list, which takes no memory: `done @m`;
+/// `checkpoint n begun @m` or `checkpoint n abandoned`; of an export the line before its records,
+/// `export n point p @m`; `denied @m:` or `refused @m:` and what is missing; nothing for the other
+/// replies of the checkpointer.
+pub fn push_reply(text: &mut ReplyBuffer, reply: &Reply)
+    requires start { text.old ≡ [] }
+    requires brief { is_list reply.now ≡ false }
+    ensures { text.new ≡ reply_text reply.now }
+{
+    match reply {
+        Reply::Done { at } => push_number_in(text, b"done @", at.0, b"\n"),
+        Reply::Begun { number, at } => push_begun(text, *number, *at),
+        Reply::Export(ticket) => push_header(text, ticket),
+        Reply::Denied { at, lack } => push_stamped(text, b"denied @", *at, lack),
+        Reply::Refused { at, lack } => push_refusal(text, *at, lack),
+        Reply::Abandoned { number } => {
+            push_number_in(text, b"checkpoint ", *number, b" abandoned\n")
+        }
+        Reply::Rows { .. } | Reply::Listed { .. } => {}
+        Reply::Idle | Reply::Stepped { .. } | Reply::Finished { .. } => {}
+    }
+}
+
+/// Appends the text of a fault at this byte of its line, with its line feed. It takes no memory.
+pub fn push_fault(text: &mut ReplyBuffer, code: Code, offset: usize)
+    requires { text.old ≡ [] }
+    ensures { text.new ≡ fault_text code offset }
+{
+    push_number_in(text, b"error ", code.number() as u64, b" at ");
+    push_number_in(text, b"", offset as u64, b": ");
+    text.push(code.text().as_bytes());
+    text.push(b"\n");
+}
+
+/// The first line of a list: a word, how many records come, and the moment.
+fn list_head(alloc: Global, word: &[u8], count: usize, at: Moment) -> Result<Vec<u8>, NoMemory>
+    requires { length word.now + 43 ≤ REPLY_BYTES }
+    ensures { IfOk result (λ text. text.items ≡ word.now ++ decimal count ++ codes " @" ++ decimal at.0 ++ codes "\n") }
+{
+    let mut text = ReplyBuffer::new(alloc)?;
+    push_number_in(&mut text, word, count as u64, b" @");
+    push_number_in(&mut text, b"", at.0, b"\n");
+    Ok(text.into_bytes())
+}
+
+fn rows_text(alloc: Global, at: Moment, rows: &[Row]) -> Result<Vec<u8>, NoMemory>
+    ensures { IfOk result (λ text. text.items ≡ reply_text (Reply.Rows at rows.now)) }
+{
+    let head = list_head(alloc, b"rows ", rows.len(), at)?;
+    write_rows(head, rows)
 }
 
 fn write_checkpoint(text: Vec<u8>, checkpoint: &Checkpoint) -> Result<Vec<u8>, NoMemory>
@@ -206,63 +289,41 @@ fn write_checkpoints(mut text: Vec<u8>, entries: &[Checkpoint]) -> Result<Vec<u8
     Ok(text)
 }
 
-fn listed_text(mut text: Vec<u8>, at: Moment, entries: &[Checkpoint]) -> Result<Vec<u8>, NoMemory>
-    ensures { IfOk result (λ longer. longer.items ≡ text.items ++ reply_text (Reply.Listed at entries.now)) }
+fn listed_text(alloc: Global, at: Moment, entries: &[Checkpoint]) -> Result<Vec<u8>, NoMemory>
+    ensures { IfOk result (λ text. text.items ≡ reply_text (Reply.Listed at entries.now)) }
 {
-    push_bytes(&mut text, b"checkpoints ")?;
-    push_number(&mut text, entries.len())?;
-    push_number_in(&mut text, b" @", at.0, b"\n")?;
-    write_checkpoints(text, entries)
+    let head = list_head(alloc, b"checkpoints ", entries.len(), at)?;
+    write_checkpoints(head, entries)
 }
 
-fn push_begun(text: &mut Vec<u8>, number: u64, at: Moment) -> Result<(), NoMemory>
-    ensures { OnOk result (text.new.items ≡ text.old.items ++ reply_text (Reply.Begun number at)) }
+fn brief_text(alloc: Global, reply: &Reply) -> Result<Vec<u8>, NoMemory>
+    requires { is_list reply.now ≡ false }
+    ensures { IfOk result (λ text. text.items ≡ reply_text reply.now) }
 {
-    push_number_in(text, b"checkpoint ", number, b" begun @")?;
-    push_number_in(text, b"", at.0, b"\n")
+    let mut text = ReplyBuffer::new(alloc)?;
+    push_reply(&mut text, reply);
+    Ok(text.into_bytes())
 }
 
-fn push_header(text: &mut Vec<u8>, ticket: &Ticket) -> Result<(), NoMemory>
-    ensures { OnOk result (text.new.items ≡ text.old.items ++ header_line ticket.now) }
-{
-    push_number_in(text, b"export ", ticket.number(), b" point ")?;
-    push_number_in(text, b"", ticket.point().0, b" @")?;
-    push_number_in(text, b"", ticket.at().0, b"\n")
-}
-
-/// The text of a reply, each line with its line feed: `done @m`; `rows N @m` and N records;
-/// `checkpoints N @m` and N records; `checkpoint n begun @m` or `checkpoint n abandoned`; of an export
-/// the line before its records, `export n point p @m`; `denied @m:` or `refused @m:` and what is
-/// missing; nothing for the other replies of the checkpointer. `NoMemory` where a request for memory
-/// was refused.
+/// The text of a reply, each line with its line feed, in new memory: of rows `rows N @m` and N
+/// records, of a list of checkpoints `checkpoints N @m` and N records, and else as [`push_reply`]
+/// appends it. `NoMemory` where a request for memory was refused.
 pub fn reply_text(alloc: Global, reply: &Reply) -> Result<Vec<u8>, NoMemory>
     ensures { IfOk result (λ text. text.items ≡ reply_text reply.now) }
 {
-    let mut text = Vec::with_capacity(alloc, USUAL_BYTES)?;
     match reply {
-        Reply::Done { at } => push_number_in(&mut text, b"done @", at.0, b"\n")?,
-        Reply::Rows { at, rows } => return rows_text(text, *at, rows.as_slice()),
-        Reply::Listed { at, entries } => return listed_text(text, *at, entries.as_slice()),
-        Reply::Begun { number, at } => push_begun(&mut text, *number, *at)?,
-        Reply::Export(ticket) => push_header(&mut text, ticket)?,
-        Reply::Denied { at, lack } => push_stamped(&mut text, b"denied @", *at, lack)?,
-        Reply::Refused { at, lack } => push_refusal(&mut text, *at, lack)?,
-        Reply::Abandoned { number } => {
-            push_number_in(&mut text, b"checkpoint ", *number, b" abandoned\n")?
-        }
-        Reply::Idle | Reply::Stepped { .. } | Reply::Finished { .. } => {}
+        Reply::Rows { at, rows } => rows_text(alloc, *at, rows.as_slice()),
+        Reply::Listed { at, entries } => listed_text(alloc, *at, entries.as_slice()),
+        _ => brief_text(alloc, reply),
     }
-    Ok(text)
 }
 
-/// The text of a fault at this byte of its line, with its line feed. `NoMemory` where a request for
-/// memory was refused.
-pub fn fault_text(alloc: Global, code: Code, offset: usize) -> Result<Vec<u8>, NoMemory>
-    ensures { IfOk result (λ text. text.items ≡ fault_text code offset) }
+/// Whether a reply is a list, whose text takes memory: rows, or checkpoints.
+pub fn is_list(reply: &Reply) -> bool
+    ensures { result ≡ is_list reply.now }
 {
-    let mut text = Vec::with_capacity(alloc, USUAL_BYTES)?;
-    push_number_in(&mut text, b"error ", code.number() as u64, b" at ")?;
-    push_number_in(&mut text, b"", offset as u64, b": ")?;
-    push_all(&mut text, &[code.text().as_bytes(), b"\n"])?;
-    Ok(text)
+    match reply {
+        Reply::Rows { .. } | Reply::Listed { .. } => true,
+        _ => false,
+    }
 }

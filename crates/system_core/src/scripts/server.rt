@@ -4,6 +4,7 @@ ghost use Rattle.base_core.specs.Streams.{Writes, WritesFrontOf};
 ghost use Rattle.system_core.specs.Script.{Answers, EndsScript};
 
 use crate::machine::system::System;
+use crate::replies::buffer::ReplyBuffer;
 use crate::scripts::answer::{advance, hear, write_both};
 use base_core::{Broken, Limits, Sink, Source};
 use lines_core::{LineServer, SessionFault, serve};
@@ -14,24 +15,31 @@ use std::marker::Model;
 /// writer that fails leaves no step undone.
 fn answer<W: Sink>(
     alloc: Global,
+    buffer: &mut ReplyBuffer,
     system: &mut System,
     writer: &mut W,
     line: &[u8],
 ) -> Result<(), Broken>
     requires { W.failed writer.old ≡ false }
-    ensures failed { MatchResult result (λ _. W.failed writer.new ≡ false) (λ _. W.failed writer.new ≡ true) }
-    ensures ok { OnOk result (Writes (λ text. Answers system.old line.now text system.new) (W.taken writer.old) (W.taken writer.new)) }
-    ensures err { OnErr result (WritesFrontOf (λ text. Answers system.old line.now text system.new) (W.taken writer.old) (W.taken writer.new)) }
+    ensures failed { MatchResult result (λ _. W.failed writer.new ≡ false)
+        (λ _. W.failed writer.new ≡ true) }
+    ensures ok { OnOk result
+        (Writes (λ text. Answers system.old line.now text system.new)
+        (W.taken writer.old) (W.taken writer.new)) }
+    ensures err { OnErr result
+        (WritesFrontOf (λ text. Answers system.old line.now text system.new)
+        (W.taken writer.old) (W.taken writer.new)) }
 {
     let said = hear(alloc, system, line);
     let advanced = advance(system);
-    write_both(alloc, said, advanced, writer)
+    write_both(alloc, buffer, said, advanced, writer)
 }
 
 /// A core that answers the lines of a script. Contracts see the world that the core stands for.
 #[derive(Drop)]
 pub struct ScriptServer {
     alloc: Global,
+    buffer: ReplyBuffer,
     system: System,
 }
 
@@ -55,7 +63,7 @@ impl LineServer for ScriptServer {
     }
 
     fn answer<W: Sink>(&mut self, writer: &mut W, line: &[u8]) -> Result<(), Broken> {
-        answer(self.alloc, &mut self.system, writer, line)
+        answer(self.alloc, &mut self.buffer, &mut self.system, writer, line)
     }
 
     ghost too_long = { Answers-too_long };
@@ -81,12 +89,20 @@ pub fn script<S: Source, W: Sink>(
     ensures write { IsErrOf result SessionFault.Write ↔ (W.failed writer.new ≡ true) }
     ensures flushed { W.flushed writer.old ≡ true → W.failed writer.new ≡ false
         → W.flushed writer.new ≡ true }
-    ensures ends { EndsScript chunk result (S.left reader.old) (S.left reader.new) (W.taken writer.old) (W.taken writer.new) }
+    ensures ends { EndsScript chunk result
+        (S.left reader.old) (S.left reader.new) (W.taken writer.old) (W.taken writer.new) }
 {
     let Ok(system) = System::with_limits(alloc, chunk, Limits::full()) else {
         return Err(SessionFault::NoMemory);
     };
-    let mut server = ScriptServer { alloc, system };
+    let Ok(buffer) = ReplyBuffer::new(alloc) else {
+        return Err(SessionFault::NoMemory);
+    };
+    let mut server = ScriptServer {
+        alloc,
+        buffer,
+        system,
+    };
     match serve(alloc, &mut server, reader, writer) {
         Ok(()) => Ok(server.system),
         Err(fault) => Err(fault),

@@ -7,5 +7,5 @@ returns c =
     let number = decimal c.args.number ++ (codes " begun @" ++ []) in
     let one = codes "checkpoint " ++ number in
     let two = decimal c.args.at.0 ++ (codes "\n" ++ []) in
-    grown c.push_number_in-2.result c.push_number_in-2.new.text.items c.push_number_in.new.text.items c.args.text.now.items one two _ c.in_ok-push_number_in.ensures c.push_number_in-2.ensures
+    grown c.push_number_in-2.new.text c.push_number_in.new.text c.args.text.now one two _ c.push_number_in.ensures.text c.push_number_in-2.ensures.text
     (append_assoc (codes "checkpoint ") number two ∙ ap (λ z. codes "checkpoint " ++ z) (append_assoc (decimal c.args.number) (codes " begun @") two))

@@ -7,6 +7,10 @@ pub returns-in_default-clause-ends : goal.returns-in_default-clause-ends
 returns-in_default-clause-ends g c =
     (c.full.result, opening c.args.chunk c.full.result, c.full.ensures, (refl, Keeps-refl _, Keeps-refl _))
 
+pub returns-in_default-new-clause-ends : goal.returns-in_default-new-clause-ends
+returns-in_default-new-clause-ends g c =
+    (c.full.result, opening c.args.chunk c.full.result, c.full.ensures, (refl, Keeps-refl _, Keeps-refl _))
+
 pub returns-in-Err-clause-ends : goal.returns-in-Err-clause-ends
 returns-in-Err-clause-ends g c =
     (c.full.result, c.serve.new.server, c.full.ensures, rw c.in-Ok.ensures at c.in-Err.ensures.ends)
