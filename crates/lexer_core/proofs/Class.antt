@@ -14,7 +14,7 @@ use Rattle.std.specs.Str.Parse.{IsNumeral, without_leading_sign}
 use Rattle.base_core.specs.Words.{is_word, is_word_byte}
 use Rattle.lexer_core.specs.declared.token.Mark.{Mark}
 use Rattle.lexer_core.specs.declared.token.Mark.TheVariants.{Open, Close, Comma, Star, Semicolon, Equal, NotEqual, Less, LessEqual, Greater, GreaterEqual}
-use Rattle.lexer_core.specs.Lexing.{is_blank, starts_number, begins_token, sign_len, number_len, Lexeme, Key, Named, Number, Text, Sign, Begins, mark_text, is_mark_byte}
+use Rattle.lexer_core.specs.Lexing.{is_blank, starts_number, begins_token, sign_len, number_len, Lexeme, Key, Named, Number, Text, Sign, BeginsLexeme, mark_text, is_mark_byte}
 use Rattle.lexer_core.proofs.Numbers.{sign_drop, sign_cases, sign_by_test, starts_by, equal}
 
 pub data Class : Type 0 where
@@ -94,10 +94,10 @@ mark_class LessEqual b = refl
 mark_class Greater b = refl
 mark_class GreaterEqual b = refl
 
-pub first_of_piece : (bytes : List ℕ) (l : Lexeme) (n : ℕ) → Begins bytes l n → get_or (take n bytes) 0 0 ≡ get_or bytes 0 0
+pub first_of_piece : (bytes : List ℕ) (l : Lexeme) (n : ℕ) → BeginsLexeme bytes l n → get_or (take n bytes) 0 0 ≡ get_or bytes 0 0
 first_of_piece bytes l n b = get_or-take n bytes 0 0 b.some
 
-word_begins : (bytes : List ℕ) (l : Lexeme) (n : ℕ) → Begins bytes l n → is_word (take n bytes) ≡ true → front_class bytes ≡ Word
+word_begins : (bytes : List ℕ) (l : Lexeme) (n : ℕ) → BeginsLexeme bytes l n → is_word (take n bytes) ≡ true → front_class bytes ≡ Word
 word_begins bytes l n b w = letter_class bytes (ap is_ascii_alphabetic (sym (first_of_piece bytes l n b)) ∙ (and_parts (is_ascii_alphabetic (get_or (take n bytes) 0 0)) (list_all is_word_byte (take n bytes)) w).0)
 
 digit_test : (b : ℕ) → IsInRange 48 57 b → is_ascii_digit b ≡ true
@@ -116,7 +116,7 @@ or_left a b e = ap (λ (x : Bool). x || b) e
 minus_digit : (a b : ℕ) → a ≡ 45 → is_ascii_digit b ≡ true → (is_ascii_digit a || ((a == 45) && is_ascii_digit b)) ≡ true
 minus_digit a b e f = ap (λ (x : ℕ). is_ascii_digit x || ((x == 45) && is_ascii_digit b)) e ∙ f
 
-module _ (bytes : List ℕ) (z : ℤ) (n : ℕ) (b : Begins bytes (Number z) n) where
+module _ (bytes : List ℕ) (z : ℤ) (n : ℕ) (b : BeginsLexeme bytes (Number z) n) where
   sign_same : sign_len (take n bytes) ≡ sign_len bytes
   sign_same = ap (λ (x : ℕ). sign_by_test (x == 45)) (first_of_piece bytes (Number z) n b)
 
@@ -158,7 +158,7 @@ module _ (bytes : List ℕ) (z : ℤ) (n : ℕ) (b : Begins bytes (Number z) n) 
       (ap is_ascii_digit (sym (get_or-drop 1 bytes 0 0)) ∙ (ap (λ (s : ℕ). is_ascii_digit (get_or (drop s bytes) 0 0)) (sym o.1) ∙ digit_first)))
       (sign_cases (get_or bytes 0 0 == 45))
 
-pub begins_class : (bytes : List ℕ) (l : Lexeme) (n : ℕ) → Begins bytes l n → front_class bytes ≡ class_of l
+pub begins_class : (bytes : List ℕ) (l : Lexeme) (n : ℕ) → BeginsLexeme bytes l n → front_class bytes ≡ class_of l
 begins_class bytes (Key k) n b = word_begins bytes (Key k) n b b.spelled.0
 begins_class bytes (Named w) n b = word_begins bytes (Named w) n b b.spelled.0
 begins_class bytes (Number z) n b = number_class bytes (number_starts bytes z n b)
@@ -173,5 +173,5 @@ differs (Text t) e = cc e
 differs (Sign m) e = cc e
 
 -- a token begins with no blank
-pub no_blank : (bytes : List ℕ) (l : Lexeme) (n : ℕ) → is_blank (get_or bytes 0 0) ≡ true → Begins bytes l n → ⊥
+pub no_blank : (bytes : List ℕ) (l : Lexeme) (n : ℕ) → is_blank (get_or bytes 0 0) ≡ true → BeginsLexeme bytes l n → ⊥
 no_blank bytes l n e b = differs l (sym (begins_class bytes l n b) ∙ blank_class bytes e)

@@ -11,7 +11,7 @@ use Rattle.base_core.specs.Words.{is_word_byte}
 use Rattle.lexer_core.specs.declared.fault.Code.{Code}
 use Rattle.lexer_core.specs.declared.fault.Code.TheVariants.{BadByte, TooLong, OpenText, LongName, BadNumber}
 use Rattle.lexer_core.specs.Text.{BeginsText, written_all}
-use Rattle.lexer_core.specs.Lexing.{Lexeme, Key, Named, Number, Text, Sign, Begins, Fails, IsTooGreat, is_blank, number_len, long_name, joined_number, great_number, bad_text, open_text, long_text, stray}
+use Rattle.lexer_core.specs.Lexing.{Lexeme, Key, Named, Number, Text, Sign, BeginsLexeme, Fails, IsTooGreat, is_blank, number_len, long_name, joined_number, great_number, bad_text, open_text, long_text, stray}
 use Rattle.lexer_core.proofs.Class.{Class, Stray, Word, Numeral, Quotation, Punctuation, front_class, class_of, letter_class, number_class, quote_class, stray_class, blank_class, begins_class, number_is}
 use Rattle.lexer_core.proofs.FirstToken.{word_len, text_here, text_stops}
 use Rattle.lexer_core.proofs.OneText.{IsStuck, stuck_end, stuck_quote, stuck_bad, one_text}
@@ -130,7 +130,7 @@ TokenAt Quotation bytes = IsGoodText bytes
 TokenAt Punctuation bytes = Unit {0}
 
 module _ (bytes : List ℕ) (n : ℕ) where
-  token_here : (l : Lexeme) → Begins bytes l n → TokenAt (class_of l) bytes
+  token_here : (l : Lexeme) → BeginsLexeme bytes l n → TokenAt (class_of l) bytes
   token_here (Key k) b =
       let len = word_len bytes n b.within b.spelled.0 b.ends in
       omega (arith, len, keyword_short (take n bytes) k b.spelled.1, length-take-le n bytes b.within)
@@ -161,7 +161,7 @@ module _ (bytes : List ℕ) (n : ℕ) where
   not_both Punctuation c by f t = f
 
   -- and no token
-  pub no_token : (c : Code) (by : ℕ) (l : Lexeme) → Fails bytes c by → Begins bytes l n → ⊥
+  pub no_token : (c : Code) (by : ℕ) (l : Lexeme) → Fails bytes c by → BeginsLexeme bytes l n → ⊥
   no_token c by l f b =
       not_both (class_of l) c by (subst (λ (k : Class). FaultAt k bytes c by) (begins_class bytes l n b) (explained bytes c by f)) (token_here l b)
 

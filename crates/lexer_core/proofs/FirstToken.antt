@@ -13,7 +13,7 @@ use Rattle.base_core.specs.declared.keyword.Keyword.{Keyword}
 use Rattle.lexer_core.specs.declared.token.Mark.{Mark}
 use Rattle.lexer_core.specs.declared.token.Mark.TheVariants.{Open, Close, Comma, Star, Semicolon, Equal, NotEqual, Less, LessEqual, Greater, GreaterEqual}
 use Rattle.lexer_core.specs.Text.{BeginsText, written_all}
-use Rattle.lexer_core.specs.Lexing.{Lexeme, Key, Named, Number, Text, Sign, Begins, mark_text}
+use Rattle.lexer_core.specs.Lexing.{Lexeme, Key, Named, Number, Text, Sign, BeginsLexeme, mark_text}
 use Rattle.lexer_core.proofs.Class.{class_of, begins_class, first_of_piece, number_is}
 use Rattle.lexer_core.proofs.OneText.{IsStuck, stuck_quote, one_text}
 
@@ -32,17 +32,17 @@ word_len bytes n within w ends =
 quote_no : (b : ℕ) → (b == 39) ≡ false → b ≡ 39 → ⊥
 quote_no b e is = let clash : true ≡ false = sym (ap (λ (x : ℕ). x == 39) is) ∙ e in cc clash
 
-pub text_here : (bytes t : List ℕ) (n : ℕ) (b : Begins bytes (Text t) n) → BeginsText bytes b.spelled.chars (39 ∷ drop n bytes)
+pub text_here : (bytes t : List ℕ) (n : ℕ) (b : BeginsLexeme bytes (Text t) n) → BeginsText bytes b.spelled.chars (39 ∷ drop n bytes)
 text_here bytes t n b = record {
   plain = b.spelled.quoted.plain;
   split = sym (take-append-drop n bytes) ∙ (ap (λ (r : List ℕ). r ++ drop n bytes) b.spelled.quoted.split ∙ ap (λ (r : List ℕ). 39 ∷ r) (append_assoc (written_all b.spelled.chars) (39 ∷ []) (drop n bytes)));
 }
 
-pub text_stops : (bytes t : List ℕ) (n : ℕ) → Begins bytes (Text t) n → IsStuck (39 ∷ drop n bytes)
+pub text_stops : (bytes t : List ℕ) (n : ℕ) → BeginsLexeme bytes (Text t) n → IsStuck (39 ∷ drop n bytes)
 text_stops bytes t n b = stuck_quote (drop n bytes) (λ e. quote_no (get_or bytes n 0) b.ends (sym (get_or-drop n bytes 0 0 ∙ ap (λ (k : ℕ). get_or bytes k 0) (let z : n + 0 ≡ n = omega arith in z)) ∙ e))
 
 -- one text stands first
-pub text_once : (bytes t u : List ℕ) (n k : ℕ) → Begins bytes (Text t) n → Begins bytes (Text u) k → (t ≡ u) × (n ≡ k)
+pub text_once : (bytes t u : List ℕ) (n k : ℕ) → BeginsLexeme bytes (Text t) n → BeginsLexeme bytes (Text u) k → (t ≡ u) × (n ≡ k)
 text_once bytes t u n k a b =
     let e = one_text bytes a.spelled.chars b.spelled.chars (39 ∷ drop n bytes) (39 ∷ drop k bytes) (text_here bytes t n a) (text_here bytes u k b) (text_stops bytes t n a) (text_stops bytes u k b) in (
       a.spelled.value ∙ (ap encode_utf8_all e.0 ∙ sym b.spelled.value),
@@ -66,22 +66,22 @@ greater_alone false e = refl
 greater_alone true e = cc
 
 module _ (bytes : List ℕ) (n : ℕ) where
-  mark_len : (m : Mark) → Begins bytes (Sign m) n → n ≡ length (mark_text m)
+  mark_len : (m : Mark) → BeginsLexeme bytes (Sign m) n → n ≡ length (mark_text m)
   mark_len m b = sym (length-take-le n bytes b.within) ∙ ap length b.spelled
 
-  first_is : (m : Mark) → Begins bytes (Sign m) n → get_or bytes 0 0 ≡ get_or (mark_text m) 0 0
+  first_is : (m : Mark) → BeginsLexeme bytes (Sign m) n → get_or bytes 0 0 ≡ get_or (mark_text m) 0 0
   first_is m b = sym (first_of_piece bytes (Sign m) n b) ∙ ap (λ (r : List ℕ). get_or r 0 0) b.spelled
 
-  second_is : (m : Mark) → Begins bytes (Sign m) n → 1 < n → get_or bytes 1 0 ≡ get_or (mark_text m) 1 0
+  second_is : (m : Mark) → BeginsLexeme bytes (Sign m) n → 1 < n → get_or bytes 1 0 ≡ get_or (mark_text m) 1 0
   second_is m b h = sym (get_or-take n bytes 1 0 h) ∙ ap (λ (r : List ℕ). get_or r 1 0) b.spelled
 
-  simple : (m : Mark) → Begins bytes (Sign m) n → mark_at (get_or bytes 0 0) (get_or bytes 1 0) ≡ mark_at (get_or (mark_text m) 0 0) (get_or bytes 1 0)
+  simple : (m : Mark) → BeginsLexeme bytes (Sign m) n → mark_at (get_or bytes 0 0) (get_or bytes 1 0) ≡ mark_at (get_or (mark_text m) 0 0) (get_or bytes 1 0)
   simple m b = ap (λ (a : ℕ). mark_at a (get_or bytes 1 0)) (first_is m b)
 
-  double : (m : Mark) → Begins bytes (Sign m) n → 1 < n → mark_at (get_or bytes 0 0) (get_or bytes 1 0) ≡ mark_at (get_or (mark_text m) 0 0) (get_or (mark_text m) 1 0)
+  double : (m : Mark) → BeginsLexeme bytes (Sign m) n → 1 < n → mark_at (get_or bytes 0 0) (get_or bytes 1 0) ≡ mark_at (get_or (mark_text m) 0 0) (get_or (mark_text m) 1 0)
   double m b h = simple m b ∙ ap (λ (a : ℕ). mark_at (get_or (mark_text m) 0 0) a) (second_is m b h)
 
-  mark_is : (m : Mark) → Begins bytes (Sign m) n → mark_at (get_or bytes 0 0) (get_or bytes 1 0) ≡ m
+  mark_is : (m : Mark) → BeginsLexeme bytes (Sign m) n → mark_at (get_or bytes 0 0) (get_or bytes 1 0) ≡ m
   mark_is Open b = simple Open b
   mark_is Close b = simple Close b
   mark_is Comma b = simple Comma b
@@ -95,7 +95,7 @@ module _ (bytes : List ℕ) (n : ℕ) where
   mark_is GreaterEqual b = double GreaterEqual b (let e = mark_len GreaterEqual b in omega arith)
 
 -- one mark stands first
-pub mark_once : (bytes : List ℕ) (m o : Mark) (n k : ℕ) → Begins bytes (Sign m) n → Begins bytes (Sign o) k → (m ≡ o) × (n ≡ k)
+pub mark_once : (bytes : List ℕ) (m o : Mark) (n k : ℕ) → BeginsLexeme bytes (Sign m) n → BeginsLexeme bytes (Sign o) k → (m ≡ o) × (n ≡ k)
 mark_once bytes m o n k a b =
     let same : m ≡ o = sym (mark_is bytes n m a) ∙ mark_is bytes k o b in
     (same, mark_len bytes n m a ∙ (ap (λ (x : Mark). length (mark_text x)) same ∙ sym (mark_len bytes k o b)))
@@ -110,19 +110,19 @@ named_by false b o w n k e f = cc f
 pub name_or_keyword : (word n : List ℕ) (k : Keyword) → keyword_of word ≡ Some k → name_of word ≡ Some n → ⊥
 name_or_keyword word n k e f = named_by (is_word word) (nat_le (length word) 30) (keyword_of word) (folded word) n k e f
 
-pub number_once : (bytes : List ℕ) (y z : ℤ) (n k : ℕ) → Begins bytes (Number y) n → Begins bytes (Number z) k → (y ≡ z) × (n ≡ k)
+pub number_once : (bytes : List ℕ) (y z : ℤ) (n k : ℕ) → BeginsLexeme bytes (Number y) n → BeginsLexeme bytes (Number z) k → (y ≡ z) × (n ≡ k)
 number_once bytes y z n k a b =
     let e : n ≡ k = number_is bytes y n a ∙ sym (number_is bytes z k b) in
     (a.spelled.value ∙ (ap (λ (m : ℕ). signed_digits_value 10 (take m bytes)) e ∙ sym b.spelled.value), e)
 
-word_once_len : (bytes : List ℕ) (l m : Lexeme) (n k : ℕ) → Begins bytes l n → Begins bytes m k → is_word (take n bytes) ≡ true → is_word (take k bytes) ≡ true → is_word_byte (get_or bytes n 0) ≡ false → is_word_byte (get_or bytes k 0) ≡ false → n ≡ k
+word_once_len : (bytes : List ℕ) (l m : Lexeme) (n k : ℕ) → BeginsLexeme bytes l n → BeginsLexeme bytes m k → is_word (take n bytes) ≡ true → is_word (take k bytes) ≡ true → is_word_byte (get_or bytes n 0) ≡ false → is_word_byte (get_or bytes k 0) ≡ false → n ≡ k
 word_once_len bytes l m n k a b v w e f = sym (word_len bytes n a.within v e) ∙ word_len bytes k b.within w f
 
-apart : {A : Type 0} (bytes : List ℕ) (l m : Lexeme) (n k : ℕ) → Begins bytes l n → Begins bytes m k → (class_of l ≡ class_of m → ⊥) → A
+apart : {A : Type 0} (bytes : List ℕ) (l m : Lexeme) (n k : ℕ) → BeginsLexeme bytes l n → BeginsLexeme bytes m k → (class_of l ≡ class_of m → ⊥) → A
 apart bytes l m n k a b differ = absurd (differ (sym (begins_class bytes l n a) ∙ begins_class bytes m k b))
 
 -- one token stands first
-pub once : (bytes : List ℕ) (l m : Lexeme) (n k : ℕ) → Begins bytes l n → Begins bytes m k → (l ≡ m) × (n ≡ k)
+pub once : (bytes : List ℕ) (l m : Lexeme) (n k : ℕ) → BeginsLexeme bytes l n → BeginsLexeme bytes m k → (l ≡ m) × (n ≡ k)
 once bytes (Key i) (Key j) n k a b =
     let e = word_once_len bytes (Key i) (Key j) n k a b a.spelled.0 b.spelled.0 a.ends b.ends in
     let s : Some i ≡ Some j = sym a.spelled.1 ∙ (ap (λ (x : ℕ). keyword_of (take x bytes)) e ∙ b.spelled.1) in

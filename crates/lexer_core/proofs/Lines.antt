@@ -8,13 +8,13 @@ use Rattle.lexer_core.proofs.Class.{no_blank as token_no_blank}
 use Rattle.lexer_core.proofs.FirstFault.{one_fault, no_blank, no_token, none_at_end}
 use Rattle.lexer_core.proofs.Spelled.{are_said, lexemes_of}
 use Rattle.lexer_core.specs.declared.fault.Code.{Code}
-use Rattle.lexer_core.specs.Lexing.{AreTokens, Says, Lexeme, kind_of, Begins, Fails, Lexed, start, blank, token, IsLineFault, long_line, behind, is_blank}
+use Rattle.lexer_core.specs.Lexing.{AreTokens, Says, Lexeme, kind_of, BeginsLexeme, Fails, Lexed, start, blank, token, IsLineFault, long_line, behind, is_blank}
 
 -- from place n with the tokens ts on, the reading comes to place m with the tokens us
 pub data Reads (line : List ℕ) : ℕ → List tokens.Token → ℕ → List tokens.Token → Type 0 where
   here : {n : ℕ} {ts : List tokens.Token} → Reads line n ts n ts
   past : {n m : ℕ} {ts us : List tokens.Token} → n < length line → is_blank (slice_index line n) ≡ true → Reads line (n + 1) ts m us → Reads line n ts m us
-  over : {n k m : ℕ} {ts us : List tokens.Token} {l : Lexeme} → Begins (drop n line) l k → Reads line (n + k) (ts ++ record { kind = kind_of l; start = n; end = n + k } ∷ []) m us → Reads line n ts m us
+  over : {n k m : ℕ} {ts us : List tokens.Token} {l : Lexeme} → BeginsLexeme (drop n line) l k → Reads line (n + k) (ts ++ record { kind = kind_of l; start = n; end = n + k } ∷ []) m us → Reads line n ts m us
 
 module _ (line : List ℕ) where
   then_past : (n : ℕ) (ts : List tokens.Token) (m : ℕ) (us : List tokens.Token) → Reads line n ts m us → m < length line → is_blank (slice_index line m) ≡ true → Reads line n ts (m + 1) us
@@ -22,7 +22,7 @@ module _ (line : List ℕ) where
   then_past n ts m us (past g a r) h b = past g a (then_past (n + 1) ts m us r h b)
   then_past n ts m us (over {k = k} {l = l} a r) h b = over a (then_past (n + k) (ts ++ record { kind = kind_of l; start = n; end = n + k } ∷ []) m us r h b)
 
-  then_over : (n : ℕ) (ts : List tokens.Token) (m : ℕ) (us : List tokens.Token) (l : Lexeme) (k : ℕ) → Reads line n ts m us → Begins (drop m line) l k → Reads line n ts (m + k) (us ++ record { kind = kind_of l; start = m; end = m + k } ∷ [])
+  then_over : (n : ℕ) (ts : List tokens.Token) (m : ℕ) (us : List tokens.Token) (l : Lexeme) (k : ℕ) → Reads line n ts m us → BeginsLexeme (drop m line) l k → Reads line n ts (m + k) (us ++ record { kind = kind_of l; start = m; end = m + k } ∷ [])
   then_over n ts _ _ l k here b = over b here
   then_over n ts m us l k (past g a r) b = past g a (then_over (n + 1) ts m us l k r b)
   then_over n ts m us l k (over {k = j} {l = i} a r) b = over a (then_over (n + j) (ts ++ record { kind = kind_of i; start = n; end = n + j } ∷ []) m us l k r b)
@@ -34,9 +34,9 @@ module _ (line : List ℕ) where
 
   -- nothing is read at n
   abbrev pub IsStop : ℕ → Type 0
-  IsStop n = (n < length line → is_blank (slice_index line n) ≡ true → ⊥) × ((l : Lexeme) (k : ℕ) → Begins (drop n line) l k → ⊥)
+  IsStop n = (n < length line → is_blank (slice_index line n) ≡ true → ⊥) × ((l : Lexeme) (k : ℕ) → BeginsLexeme (drop n line) l k → ⊥)
 
-  module _ (once : (bytes : List ℕ) (l m : Lexeme) (n k : ℕ) → Begins bytes l n → Begins bytes m k → (l ≡ m) × (n ≡ k)) (apart : (n : ℕ) (l : Lexeme) (k : ℕ) → is_blank (slice_index line n) ≡ true → Begins (drop n line) l k → ⊥) where
+  module _ (once : (bytes : List ℕ) (l m : Lexeme) (n k : ℕ) → BeginsLexeme bytes l n → BeginsLexeme bytes m k → (l ≡ m) × (n ≡ k)) (apart : (n : ℕ) (l : Lexeme) (k : ℕ) → is_blank (slice_index line n) ≡ true → BeginsLexeme (drop n line) l k → ⊥) where
     pub one_stop : (n : ℕ) (ts : List tokens.Token) (m k : ℕ) (us vs : List tokens.Token) → Reads line n ts m us → Reads line n ts k vs → IsStop m → IsStop k → (m ≡ k) × (us ≡ vs)
     one_stop n ts _ _ _ _ here here x y = (refl, refl)
     one_stop n ts _ k _ vs here (past h b r) x y = absurd (x.0 h b)
@@ -55,7 +55,7 @@ module _ (line : List ℕ) where
 pub first_is : {A : Type 0} (line : List ℕ) (n : ℕ) (test : ℕ → A) (a : A) → test (slice_index line n) ≡ a → test (slice_index (drop n line) 0) ≡ a
 first_is line n test a e = ap test (get_or-drop n line 0 0 ∙ ap (λ (m : ℕ). get_or line m 0) (let z : n + 0 ≡ n = omega arith in z)) ∙ e
 
-apart_at : (line : List ℕ) (n : ℕ) (l : Lexeme) (k : ℕ) → is_blank (slice_index line n) ≡ true → Begins (drop n line) l k → ⊥
+apart_at : (line : List ℕ) (n : ℕ) (l : Lexeme) (k : ℕ) → is_blank (slice_index line n) ≡ true → BeginsLexeme (drop n line) l k → ⊥
 apart_at line n l k e b = token_no_blank (drop n line) l k (first_is line n is_blank true e) b
 
 end_stops : (line : List ℕ) → IsStop line (length line)

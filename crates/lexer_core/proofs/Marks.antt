@@ -4,7 +4,7 @@ use Rattle.std.proofs.lemmas.List.{length-take}
 use Rattle.lexer_core.specs.declared.token.Kind.TheVariants as kinds
 use Rattle.lexer_core.specs.declared.token.Mark.{Mark}
 use Rattle.lexer_core.specs.declared.token.Mark.TheVariants.{Open, Close, Comma, Star, Semicolon, Equal, NotEqual, Less, LessEqual, Greater, GreaterEqual}
-use Rattle.lexer_core.specs.Lexing.{Begins, BeginsKind, BeginsMark, Sign, mark_text}
+use Rattle.lexer_core.specs.Lexing.{BeginsLexeme, BeginsKind, BeginsMark, Sign, mark_text}
 
 mark_some : (m : Mark) → 0 < length (mark_text m)
 mark_some Open = omega arith
@@ -23,7 +23,7 @@ pub mark_first : (bytes : List ℕ) (m : Mark) (n : ℕ) → BeginsMark bytes m 
 mark_first bytes m n b e = record {
   lexeme = Sign m;
   same = refl;
-  begins = subst (Begins bytes (Sign m)) (sym e) record {
+  begins = subst (BeginsLexeme bytes (Sign m)) (sym e) record {
     some = mark_some m;
     within = omega (arith, ap length b.spelled, length-take (length (mark_text m)) bytes);
     spelled = b.spelled;

@@ -3,12 +3,12 @@ use Rattle.std.proofs.Common.{◌≡◌, ℕ, Bool, true, false, List, All, Some
 use Rattle.std.specs.Prelude.{if◌then◌else◌}
 use Rattle.std.proofs.lemmas.List.Elements.{All-nil, All-push}
 use Rattle.base_core.specs.Words.{is_name, folded, IsName}
-use Rattle.lexer_core.specs.Lexing.{Lexeme, Key, Named, Number, Text, Sign, Spells, Lexed, start, blank, token, IsProper}
+use Rattle.lexer_core.specs.Lexing.{Lexeme, Key, Named, Number, Text, Sign, SpellsLexeme, Lexed, start, blank, token, IsProper}
 use Rattle.lexer_core.specs.declared.token.Token as tokens
 use Rattle.base_core.proofs.Folded.{IsName-folded}
 use Rattle.lexer_core.proofs.Undoubled.{quoted_text}
 
-proper_of : (l : Lexeme) (bytes : List ℕ) → Spells l bytes → IsProper l
+proper_of : (l : Lexeme) (bytes : List ℕ) → SpellsLexeme l bytes → IsProper l
 proper_of (Key k) bytes p = tt
 proper_of (Named n) bytes p = go (is_name bytes) refl p.1
   where

@@ -4,7 +4,7 @@ use Rattle.std.proofs.lemmas.List.{take_rest}
 use Rattle.lexer_core.specs.declared.fault.Fault as faults
 use Rattle.lexer_core.specs.declared.token.Kind.{Kind}
 use Rattle.lexer_core.specs.declared.token.Token as tokens
-use Rattle.lexer_core.specs.Lexing.{Lexeme, kind_of, Begins, BeginsKind, FailsWith, is_blank, Lexed, start, blank, token, AreTokens, IsLineFault, behind}
+use Rattle.lexer_core.specs.Lexing.{Lexeme, kind_of, BeginsLexeme, BeginsKind, FailsWith, is_blank, Lexed, start, blank, token, AreTokens, IsLineFault, behind}
 
 pub record Reached (line : List ℕ) (n : ℕ) (ts : List tokens.Token) : Type 0 where
   pub within : n ≤ length line
@@ -21,7 +21,7 @@ module _ (line : List ℕ) (n : ℕ) (ts : List tokens.Token) (r : Reached line 
 
   pub one_token : (kind : Kind) (k : ℕ) → BeginsKind (take (length line - n) (drop n line)) kind k → Reached line (n + k) (ts ++ record { kind = kind; start = n; end = n + k } ∷ [])
   one_token kind k h =
-      let b : Begins (drop n line) h.lexeme k = subst (λ (bytes : List ℕ). Begins bytes h.lexeme k) (take_rest line n) h.begins in
+      let b : BeginsLexeme (drop n line) h.lexeme k = subst (λ (bytes : List ℕ). BeginsLexeme bytes h.lexeme k) (take_rest line n) h.begins in
       let more : Lexed line (n + k) (ts ++ record { kind = kind_of h.lexeme; start = n; end = n + k } ∷ []) (r.lexemes ++ h.lexeme ∷ []) = token r.lexed b in
       record {
         within = omega (arith, b.within, length-drop n line, r.within);

@@ -5,11 +5,11 @@ use Rattle.std.proofs.lemmas.List.Elements.{All-nil, All-append, All-cons}
 use Rattle.std.proofs.lemmas.List.Quantifiers.{all_pairs_push}
 use Rattle.std.specs.List.{AllPairs}
 use Rattle.lexer_core.specs.declared.token.Token as tokens
-use Rattle.lexer_core.specs.Lexing.{Lexeme, Key, Named, Number, Text, Sign, kind_of, Spells, Begins, Lexed, start, blank, token, IsSpelled, lexeme_of, heard, AreHeard, AreTokens, Says}
+use Rattle.lexer_core.specs.Lexing.{Lexeme, Key, Named, Number, Text, Sign, kind_of, SpellsLexeme, BeginsLexeme, Lexed, start, blank, token, IsSpelled, lexeme_of, located, AreSpelled, AreTokens, Says}
 use Rattle.lexer_core.proofs.Undoubled.{says_unquoted}
 
 -- a token says what its slice spells
-says_lexeme : (l : Lexeme) (bytes : List ℕ) → Spells l bytes → lexeme_of (kind_of l) bytes ≡ l
+says_lexeme : (l : Lexeme) (bytes : List ℕ) → SpellsLexeme l bytes → lexeme_of (kind_of l) bytes ≡ l
 says_lexeme (Key k) bytes s = refl
 says_lexeme (Named n) bytes s = refl
 says_lexeme (Number z) bytes s = refl
@@ -18,30 +18,30 @@ says_lexeme (Sign m) bytes s = refl
 
 -- what each token of a line says
 abbrev pub lexemes_of : List ℕ → List tokens.Token → List Lexeme
-lexemes_of line ts = map (λ (t : tokens.Token). (heard line t).lexeme) ts
+lexemes_of line ts = map (λ (t : tokens.Token). (located line t).lexeme) ts
 
 abbrev IsBefore : tokens.Token → tokens.Token → Type 0
 IsBefore earlier later = earlier.end ≤ later.start
 
 module _ (line : List ℕ) where
-  one_heard : (ts : List tokens.Token) (t : tokens.Token) → AreHeard line ts → IsSpelled line t (heard line t).lexeme → AreHeard line (ts ++ t ∷ [])
+  one_heard : (ts : List tokens.Token) (t : tokens.Token) → AreSpelled line ts → IsSpelled line t (located line t).lexeme → AreSpelled line (ts ++ t ∷ [])
   one_heard [] t h s = (s, tt)
   one_heard (u ∷ ts) t h s = (h.0, one_heard ts t h.1 s)
 
   ends_before : (n m : ℕ) (ts : List tokens.Token) → n ≤ m → All (λ (t : tokens.Token). t.end ≤ n) ts → All (λ (t : tokens.Token). t.end ≤ m) ts
   ends_before n m ts h a k d l = omega (arith, a k d l)
 
-  module _ (n k : ℕ) (l : Lexeme) (b : Begins (drop n line) l k) where
+  module _ (n k : ℕ) (l : Lexeme) (b : BeginsLexeme (drop n line) l k) where
     abbrev here : tokens.Token
     here = record { kind = kind_of l; start = n; end = n + k }
 
-    slice : Spells l (take ((n + k) - n) (drop n line))
-    slice = let e : (n + k) - n ≡ k = omega arith in subst (λ (m : ℕ). Spells l (take m (drop n line))) (sym e) b.spelled
+    slice : SpellsLexeme l (take ((n + k) - n) (drop n line))
+    slice = let e : (n + k) - n ≡ k = omega arith in subst (λ (m : ℕ). SpellsLexeme l (take m (drop n line))) (sym e) b.spelled
 
-    lexeme_here : (heard line here).lexeme ≡ l
+    lexeme_here : (located line here).lexeme ≡ l
     lexeme_here = says_lexeme l (take ((n + k) - n) (drop n line)) slice
 
-    spelled_here : IsSpelled line here (heard line here).lexeme
+    spelled_here : IsSpelled line here (located line here).lexeme
     spelled_here = subst (IsSpelled line here) (sym lexeme_here) record {
       kind = refl;
       some = omega (arith, b.some);
@@ -49,7 +49,7 @@ module _ (line : List ℕ) where
       spelled = slice;
     }
 
-  are_heard : (n : ℕ) (ts : List tokens.Token) (ls : List Lexeme) → Lexed line n ts ls → AreHeard line ts
+  are_heard : (n : ℕ) (ts : List tokens.Token) (ls : List Lexeme) → Lexed line n ts ls → AreSpelled line ts
   are_heard _ _ _ start = tt
   are_heard _ _ _ (blank {n} {ts} {ls} m h b) = are_heard n ts ls m
   are_heard _ _ _ (token {n} {k} {ts} {ls} {l} m b) = one_heard ts (here n k l b) (are_heard n ts ls m) (spelled_here n k l b)
@@ -58,8 +58,8 @@ module _ (line : List ℕ) where
   are_said _ _ _ start = refl
   are_said _ _ _ (blank {n} {ts} {ls} m h b) = are_said n ts ls m
   are_said _ _ _ (token {n} {k} {ts} {ls} {l} m b) =
-      map-append (λ (t : tokens.Token). (heard line t).lexeme) ts (here n k l b ∷ [])
-      ∙ (ap (λ (ms : List Lexeme). ms ++ (heard line (here n k l b)).lexeme ∷ []) (are_said n ts ls m)
+      map-append (λ (t : tokens.Token). (located line t).lexeme) ts (here n k l b ∷ [])
+      ∙ (ap (λ (ms : List Lexeme). ms ++ (located line (here n k l b)).lexeme ∷ []) (are_said n ts ls m)
       ∙ ap (λ (x : Lexeme). ls ++ x ∷ []) (lexeme_here n k l b))
 
   are_ended : (n : ℕ) (ts : List tokens.Token) (ls : List Lexeme) → Lexed line n ts ls → All (λ (t : tokens.Token). t.end ≤ n) ts
@@ -75,10 +75,10 @@ module _ (line : List ℕ) where
   are_ordered _ _ _ (token {n} {k} {ts} {ls} {l} m b) = all_pairs_push IsBefore ts (here n k l b) (are_ordered n ts ls m) (are_ended n ts ls m)
 
   module _ (ts : List tokens.Token) (a : AreTokens line ts) where
-    pub tokens_heard : AreHeard line ts
+    pub tokens_heard : AreSpelled line ts
     tokens_heard = are_heard (length line) ts a.lexemes a.lexed
 
-    pub tokens_say : Says line (map (λ (t : tokens.Token). (heard line t).lexeme) ts)
+    pub tokens_say : Says line (map (λ (t : tokens.Token). (located line t).lexeme) ts)
     tokens_say = record { short = a.short; tokens_of = ts; lexed = subst (Lexed line (length line) ts) (sym (are_said (length line) ts a.lexemes a.lexed)) a.lexed }
 
     pub tokens_within : All (λ (t : tokens.Token). t.end ≤ length line) ts

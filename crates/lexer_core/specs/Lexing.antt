@@ -80,12 +80,12 @@ abbrev pub IsSomeText : List ℕ → Type 0
 IsSomeText bytes = (t : List ℕ) × QuotesText t bytes
 
 -- these bytes spell the token
-abbrev pub Spells : Lexeme → List ℕ → Type 0
-Spells (Key k) bytes = (is_word bytes ≡ true) × (keyword_of bytes ≡ Some k)
-Spells (Named n) bytes = (is_word bytes ≡ true) × (name_of bytes ≡ Some n)
-Spells (Number z) bytes = IsNumber z bytes
-Spells (Text t) bytes = QuotesText t bytes
-Spells (Sign m) bytes = bytes ≡ mark_text m
+abbrev pub SpellsLexeme : Lexeme → List ℕ → Type 0
+SpellsLexeme (Key k) bytes = (is_word bytes ≡ true) × (keyword_of bytes ≡ Some k)
+SpellsLexeme (Named n) bytes = (is_word bytes ≡ true) × (name_of bytes ≡ Some n)
+SpellsLexeme (Number z) bytes = IsNumber z bytes
+SpellsLexeme (Text t) bytes = QuotesText t bytes
+SpellsLexeme (Sign m) bytes = bytes ≡ mark_text m
 
 -- whether a token goes on where this byte follows it
 abbrev pub mark_goes_on : Mark → ℕ → Bool
@@ -101,17 +101,17 @@ goes_on (Text t) b = b == 39
 goes_on (Sign m) b = mark_goes_on m b
 
 -- the first n bytes are the token
-pub record Begins (bytes : List ℕ) (l : Lexeme) (n : ℕ) : Type 0 where
+pub record BeginsLexeme (bytes : List ℕ) (l : Lexeme) (n : ℕ) : Type 0 where
   pub some : 0 < n
   pub within : n ≤ length bytes
-  pub spelled : Spells l (take n bytes)
+  pub spelled : SpellsLexeme l (take n bytes)
   pub ends : goes_on l (slice_index bytes n) ≡ false
 
 -- the same for a token as the code has it
 pub record BeginsKind (bytes : List ℕ) (kind : Kind) (n : ℕ) : Type 0 where
   pub lexeme : Lexeme
   pub same : kind_of lexeme ≡ kind
-  pub begins : Begins bytes lexeme n
+  pub begins : BeginsLexeme bytes lexeme n
 
 -- the longest mark that fits stands first
 pub record BeginsMark (bytes : List ℕ) (m : Mark) : Type 0 where
@@ -152,7 +152,7 @@ pub data Fails : List ℕ → Code → ℕ → Type 0 where
 pub data Lexed (line : List ℕ) : ℕ → List tokens.Token → List Lexeme → Type 0 where
   start : Lexed line 0 [] []
   blank : {n : ℕ} {ts : List tokens.Token} {ls : List Lexeme} → Lexed line n ts ls → n < length line → is_blank (slice_index line n) ≡ true → Lexed line (n + 1) ts ls
-  token : {n k : ℕ} {ts : List tokens.Token} {ls : List Lexeme} {l : Lexeme} → Lexed line n ts ls → Begins (drop n line) l k → Lexed line (n + k) (ts ++ record { kind = kind_of l; start = n; end = n + k } ∷ []) (ls ++ l ∷ [])
+  token : {n k : ℕ} {ts : List tokens.Token} {ls : List Lexeme} {l : Lexeme} → Lexed line n ts ls → BeginsLexeme (drop n line) l k → Lexed line (n + k) (ts ++ record { kind = kind_of l; start = n; end = n + k } ∷ []) (ls ++ l ∷ [])
 
 -- the line is these tokens
 pub record AreTokens (line : List ℕ) (ts : List tokens.Token) : Type 0 where
@@ -177,7 +177,7 @@ pub record IsSpelled (line : List ℕ) (t : tokens.Token) (l : Lexeme) : Type 0 
   pub kind : t.kind ≡ kind_of l
   pub some : t.start < t.end
   pub within : t.end ≤ length line
-  pub spelled : Spells l (take (t.end - t.start) (drop t.start line))
+  pub spelled : SpellsLexeme l (take (t.end - t.start) (drop t.start line))
 
 -- what the inside of a quoted text says: each doubled quote once
 unfoldable pub undoubled : Bool → List ℕ → List ℕ
@@ -198,18 +198,18 @@ lexeme_of kinds.Text bytes = Text (unquoted bytes)
 lexeme_of (kinds.Mark m) bytes = Sign m
 
 -- what a token says, and where it stands
-pub record Heard : Type 0 where
+pub record LocatedLexeme : Type 0 where
   pub lexeme : Lexeme
   pub start : ℕ
 
--- a token of a line as a reader hears it
-abbrev pub heard : List ℕ → tokens.Token → Heard
-heard line t = record { lexeme = lexeme_of t.kind (take (t.end - t.start) (drop t.start line)); start = t.start }
+-- a token of a line, by what it says
+abbrev pub located : List ℕ → tokens.Token → LocatedLexeme
+located line t = record { lexeme = lexeme_of t.kind (take (t.end - t.start) (drop t.start line)); start = t.start }
 
--- each token's slice spells what is heard
-abbrev pub AreHeard : List ℕ → List tokens.Token → Type 0
-AreHeard line [] = Unit {0}
-AreHeard line (t ∷ ts) = IsSpelled line t (heard line t).lexeme × AreHeard line ts
+-- each token's slice spells what it says
+abbrev pub AreSpelled : List ℕ → List tokens.Token → Type 0
+AreSpelled line [] = Unit {0}
+AreSpelled line (t ∷ ts) = IsSpelled line t (located line t).lexeme × AreSpelled line ts
 
 -- the line says this, from token to token
 pub record Says (line : List ℕ) (said : List Lexeme) : Type 0 where

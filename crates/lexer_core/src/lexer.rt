@@ -1,7 +1,7 @@
 //! Cuts a line into tokens.
 
 ghost use Rattle.std.specs.Prelude.{◌≡◌, ◌≢◌, false, ◌<◌, ◌≤◌, ◌+◌, length, map, slice_index, All, AllPairs, MatchResult, IfOk, IfErr};
-ghost use Rattle.lexer_core.specs.Lexing.{AreHeard, AreTokens, BeginsKind, FailsWith, IsFaultOf, Says, heard, is_blank, starts_number};
+ghost use Rattle.lexer_core.specs.Lexing.{AreSpelled, AreTokens, BeginsKind, FailsWith, IsFaultOf, Says, located, is_blank, starts_number};
 
 use crate::bytes::byte_at;
 use crate::fault::{Code, Fault, ReadFault};
@@ -64,8 +64,8 @@ fn first_token(bytes: &[u8]) -> Result<(Kind, usize), Fault>
 /// memory for the tokens was refused.
 pub fn tokens(alloc: Global, line: &[u8]) -> Result<Vec<Token>, ReadFault>
     ensures outcome { MatchResult result (λ v. AreTokens line.now v.items) (λ e. IsFaultOf line.now e) }
-    ensures spelled { IfOk result (λ v. AreHeard line.now v.items) }
-    ensures says { IfOk result (λ v. Says line.now (map (λ t. (heard line.now t).lexeme) v.items)) }
+    ensures spelled { IfOk result (λ v. AreSpelled line.now v.items) }
+    ensures says { IfOk result (λ v. Says line.now (map (λ t. (located line.now t).lexeme) v.items)) }
 
     // Each token starts at or behind the end of the one before, and ends within the line.
     ensures ordered { IfOk result (λ v. AllPairs (λ before after. before.end ≤ after.start) v.items) }

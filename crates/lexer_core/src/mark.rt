@@ -27,7 +27,7 @@ impl Mark {
     }
 }
 
-fn mark_of(first: u8, next: u8) -> Option<Mark>
+fn longest_mark(first: u8, next: u8) -> Option<Mark>
     ensures { MatchOption result (is_mark_byte first ≡ false) (BeginsMark (first ∷ next ∷ [])) }
 {
     match first {
@@ -50,5 +50,5 @@ fn mark_of(first: u8, next: u8) -> Option<Mark>
 pub fn mark(bytes: &[u8]) -> Option<Mark>
     ensures { MatchOption result (is_mark_byte (slice_index bytes.now 0) ≡ false) (BeginsMark bytes.now) }
 {
-    mark_of(byte_at(bytes, 0), byte_at(bytes, 1))
+    longest_mark(byte_at(bytes, 0), byte_at(bytes, 1))
 }

@@ -16,15 +16,15 @@ use Rattle.base_core.specs.Words.{text_of, is_word, is_word_byte, name_of, keywo
 use Rattle.base_core.specs.Texts.{IsText}
 use Rattle.base_core.specs.declared.keyword.Keyword.{Keyword}
 use Rattle.base_core.specs.declared.keyword.Keyword.TheVariants as keywords
-use Rattle.lexer_core.specs.Lexing.{IsProper, Lexeme, Key, Named, Number, Text, Sign, Spells, Begins, Says, Lexed, start, blank, token, IsNumber, QuotesText, goes_on, mark_goes_on, mark_text, kind_of, is_blank}
+use Rattle.lexer_core.specs.Lexing.{IsProper, Lexeme, Key, Named, Number, Text, Sign, SpellsLexeme, BeginsLexeme, Says, Lexed, start, blank, token, IsNumber, QuotesText, goes_on, mark_goes_on, mark_text, kind_of, is_blank}
 use Rattle.lexer_core.specs.declared.token.Mark.{Mark}
 use Rattle.lexer_core.specs.declared.token.Mark.TheVariants as marks
 use Rattle.lexer_core.specs.declared.token.Token as tokens
 use Rattle.lexer_core.proofs.Numbers.{sign_drop}
 use Rattle.lexer_core.proofs.Proper.{proper_lexed}
 use Rattle.reader_core.specs.declared.statement.Statement.{Statement}
-use Rattle.reader_core.specs.Language.{statement_says, IsLawful, SaysStatement, Spells as SpellsStatement}
-use Rattle.printer_core.specs.Printing.{joined, gap, lexeme_text, is_opening, is_trailing, doubled, canonical, Sheet, Writes}
+use Rattle.reader_core.specs.Language.{statement_says, IsWellFormed, SaysStatement, Spells}
+use Rattle.printer_core.specs.Printing.{spaced_text, gap, lexeme_text, is_opening, is_trailing, doubled, canonical, Sheet, Prints}
 use Rattle.printer_core.proofs.Doubled.{doubled_written}
 use Rattle.printer_core.proofs.Names.{name_word}
 
@@ -106,7 +106,7 @@ text_spells t h = record {
   short = h.short;
 }
 
-lexeme_spells : (l : Lexeme) → IsProper l → Spells l (lexeme_text l)
+lexeme_spells : (l : Lexeme) → IsProper l → SpellsLexeme l (lexeme_text l)
 lexeme_spells (Key k) p = keyword_spells k
 lexeme_spells (Named n) p = name_spells n p
 lexeme_spells (Number z) p = number_spells z p
@@ -149,24 +149,24 @@ open_stops (Sign marks.Open) b e = refl
 open_stops _ b e = cc
 
 -- what print puts behind a token ends it
-next_stops : (l : Lexeme) (ls : List Lexeme) → goes_on l (slice_index (joined (is_opening l) ls) 0) ≡ false
+next_stops : (l : Lexeme) (ls : List Lexeme) → goes_on l (slice_index (spaced_text (is_opening l) ls) 0) ≡ false
 next_stops l ls = go (is_opening l) refl ls
   where
-    go : (tight : Bool) → is_opening l ≡ tight → (ls : List Lexeme) → goes_on l (slice_index (joined tight ls) 0) ≡ false
-    go true e ls = open_stops l (slice_index (joined true ls) 0) e
+    go : (tight : Bool) → is_opening l ≡ tight → (ls : List Lexeme) → goes_on l (slice_index (spaced_text tight ls) 0) ≡ false
+    go true e ls = open_stops l (slice_index (spaced_text true ls) 0) e
     go false e [] = stops l 0 refl refl refl refl
     go false e (Sign marks.Close ∷ ls) = stops l 41 refl refl refl refl
     go false e (Sign marks.Comma ∷ ls) = stops l 44 refl refl refl refl
     go false e (_ ∷ ls) = stops l 32 refl refl refl refl
 
-begins : (l : Lexeme) (rest : List ℕ) → IsProper l → goes_on l (slice_index rest 0) ≡ false → Begins (lexeme_text l ++ rest) l (length (lexeme_text l))
+begins : (l : Lexeme) (rest : List ℕ) → IsProper l → goes_on l (slice_index rest 0) ≡ false → BeginsLexeme (lexeme_text l ++ rest) l (length (lexeme_text l))
 begins l rest p e =
     let text = lexeme_text l in
     let place : length text ≡ length text + 0 = omega arith in
     record {
       some = some_text l p;
       within = omega (arith, length-append text rest);
-      spelled = subst (Spells l) (sym (take-append_seam text rest)) (lexeme_spells l p);
+      spelled = subst (SpellsLexeme l) (sym (take-append_seam text rest)) (lexeme_spells l p);
       ends = ap (goes_on l) (ap (λ (k : ℕ). get_or (text ++ rest) k 0) place ∙ get_or-append-add text rest 0 0) ∙ e;
     }
 
@@ -192,33 +192,33 @@ past_gap line before more g ts said (inr space) e m =
     let place : length before + 1 ≡ length (before ++ g) = sym (ap (λ (x : List ℕ). length (before ++ x)) space ∙ length-append before (32 ∷ [])) in
     subst (λ (k : ℕ). Lexed line k ts said) place (blank m (omega (arith, length-append before (32 ∷ more))) (ap is_blank here))
 
-lexed_on : (line before : List ℕ) (tight : Bool) (ls : List Lexeme) (ts : List tokens.Token) (said : List Lexeme) → line ≡ before ++ joined tight ls → Lexed line (length before) ts said → All IsProper ls → (all : List tokens.Token) × Lexed line (length line) all (said ++ ls)
+lexed_on : (line before : List ℕ) (tight : Bool) (ls : List Lexeme) (ts : List tokens.Token) (said : List Lexeme) → line ≡ before ++ spaced_text tight ls → Lexed line (length before) ts said → All IsProper ls → (all : List tokens.Token) × Lexed line (length line) all (said ++ ls)
 lexed_on line before tight [] ts said e m p =
     (ts, subst (λ (x : List ℕ). Lexed line (length x) ts (said ++ [])) (sym (e ∙ append-nil before)) (subst (λ (x : List Lexeme). Lexed line (length before) ts x) (sym (append-nil said)) m))
 lexed_on line before tight (l ∷ ls) ts said e m p =
-    let rest = joined (is_opening l) ls in
+    let rest = spaced_text (is_opening l) ls in
     let text = lexeme_text l in
     let here = before ++ gap tight l in
     let spaced : Lexed line (length here) ts said = past_gap line before (text ++ rest) (gap tight l) ts said (gap_is tight l) e m in
     let split : line ≡ here ++ (text ++ rest) = e ∙ sym (append_assoc before (gap tight l) (text ++ rest)) in
     let left : drop (length here) line ≡ text ++ rest = ap (drop (length here)) split ∙ drop-append_seam here (text ++ rest) in
-    let first : Begins (drop (length here) line) l (length text) = subst (λ (x : List ℕ). Begins x l (length text)) (sym left) (begins l rest (All-head IsProper l ls p) (next_stops l ls)) in
+    let first : BeginsLexeme (drop (length here) line) l (length text) = subst (λ (x : List ℕ). BeginsLexeme x l (length text)) (sym left) (begins l rest (All-head IsProper l ls p) (next_stops l ls)) in
     let t : tokens.Token = record { kind = kind_of l; start = length here; end = length here + length text } in
     let next : Lexed line (length (here ++ text)) (ts ++ t ∷ []) (said ++ l ∷ []) = subst (λ (k : ℕ). Lexed line k (ts ++ t ∷ []) (said ++ l ∷ [])) (sym (length-append here text)) (token spaced first) in
     let more = lexed_on line (here ++ text) (is_opening l) ls (ts ++ t ∷ []) (said ++ l ∷ []) (split ∙ sym (append_assoc here text rest)) next (All-tail IsProper l ls p) in
     (more.0, subst (λ (x : List Lexeme). Lexed line (length line) more.0 x) (append_assoc said (l ∷ []) ls) more.1)
 
-says_joined : (ls : List Lexeme) → All IsProper ls → length (joined true ls) ≤ 4096 → Says (joined true ls) ls
-says_joined ls p h = let r = lexed_on (joined true ls) [] true ls [] [] refl start p in record { short = h; tokens_of = r.0; lexed = r.1 }
+says_spaced : (ls : List Lexeme) → All IsProper ls → length (spaced_text true ls) ≤ 4096 → Says (spaced_text true ls) ls
+says_spaced ls p h = let r = lexed_on (spaced_text true ls) [] true ls [] [] refl start p in record { short = h; tokens_of = r.0; lexed = r.1 }
 
 -- the canonical text of a statement spells it
-pub spells_back : (s : Statement) → IsLawful s → All IsProper (statement_says s) → length (canonical s) ≤ 4096 → SpellsStatement (canonical s) s
-spells_back s lawful p h = record { said = statement_says s; says = says_joined (statement_says s) p h; statement_of = inl refl; lawful = lawful }
+pub spells_back : (s : Statement) → IsWellFormed s → All IsProper (statement_says s) → length (canonical s) ≤ 4096 → Spells (canonical s) s
+spells_back s well_formed p h = record { said = statement_says s; says = says_spaced (statement_says s) p h; statement_of = inl refl; well_formed = well_formed }
 
-pub page_spells : (s : Statement) (text : List ℕ) (new : Sheet) → Writes (statement_says s) (record { text = []; tight = true }) new → text ≡ new.text → IsLawful s → length text ≤ 4096 → SpellsStatement text s
-page_spells s text new w e lawful h =
+pub page_spells : (s : Statement) (text : List ℕ) (new : Sheet) → Prints (statement_says s) (record { text = []; tight = true }) new → text ≡ new.text → IsWellFormed s → length text ≤ 4096 → Spells text s
+page_spells s text new w e well_formed h =
     let same : text ≡ canonical s = e ∙ w.text in
-    subst (λ (x : List ℕ). SpellsStatement x s) (sym same) (spells_back s lawful w.proper (subst (λ (x : List ℕ). length x ≤ 4096) same h))
+    subst (λ (x : List ℕ). Spells x s) (sym same) (spells_back s well_formed w.proper (subst (λ (x : List ℕ). length x ≤ 4096) same h))
 
 -- ---- what was read, printed
 front_proper : (xs ys : List Lexeme) → All IsProper (xs ++ ys) → All IsProper xs
@@ -230,5 +230,5 @@ proper_said said s h (inl e) = All-same IsProper (statement_says s) said (sym e)
 proper_said said s h (inr e) = front_proper (statement_says s) _ (All-same IsProper _ said (sym e) h)
 
 -- so the canonical text of a statement that some line spells spells it too
-pub spells_again : (line : List ℕ) (s : Statement) → SpellsStatement line s → length (canonical s) ≤ 4096 → SpellsStatement (canonical s) s
-spells_again line s p h = spells_back s p.lawful (proper_said p.said s (proper_lexed line (length line) p.says.tokens_of p.said p.says.lexed) p.statement_of) h
+pub spells_again : (line : List ℕ) (s : Statement) → Spells line s → length (canonical s) ≤ 4096 → Spells (canonical s) s
+spells_again line s p h = spells_back s p.well_formed (proper_said p.said s (proper_lexed line (length line) p.says.tokens_of p.said p.says.lexed) p.statement_of) h

@@ -9,14 +9,14 @@ use Rattle.base_core.specs.declared.condition.Condition.{Condition}
 use Rattle.lexer_core.specs.Lexing as lexemes
 use Rattle.lexer_core.specs.Lexing.{Lexeme, IsProper}
 use Rattle.reader_core.specs.Language.{listed, condition_says, filter_says}
-use Rattle.printer_core.specs.Printing.{Sheet, Writes, joined, tight_behind, gap, lexeme_text, is_opening}
+use Rattle.printer_core.specs.Printing.{Sheet, Prints, spaced_text, tight_behind, gap, lexeme_text, is_opening}
 
-joined-append : (t : Bool) (xs ys : List Lexeme) → joined t (xs ++ ys) ≡ joined t xs ++ joined (tight_behind t xs) ys
-joined-append t [] ys = refl
-joined-append t (x ∷ xs) ys =
-    let rest = joined (is_opening x) xs in
-    let more = joined (tight_behind (is_opening x) xs) ys in
-    ap (λ z. gap t x ++ (lexeme_text x ++ z)) (joined-append (is_opening x) xs ys)
+spaced-append : (t : Bool) (xs ys : List Lexeme) → spaced_text t (xs ++ ys) ≡ spaced_text t xs ++ spaced_text (tight_behind t xs) ys
+spaced-append t [] ys = refl
+spaced-append t (x ∷ xs) ys =
+    let rest = spaced_text (is_opening x) xs in
+    let more = spaced_text (tight_behind (is_opening x) xs) ys in
+    ap (λ z. gap t x ++ (lexeme_text x ++ z)) (spaced-append (is_opening x) xs ys)
     ∙ ap (λ z. gap t x ++ z) (sym (append_assoc (lexeme_text x) rest more))
     ∙ sym (append_assoc (gap t x) (lexeme_text x ++ rest) more)
 
@@ -24,17 +24,17 @@ tight-append : (t : Bool) (xs ys : List Lexeme) → tight_behind t (xs ++ ys) �
 tight-append t [] ys = refl
 tight-append t (x ∷ xs) ys = tight-append (is_opening x) xs ys
 
-pub nothing : (s : Sheet) → Writes [] s s
+pub nothing : (s : Sheet) → Prints [] s s
 nothing s = record { text = sym (append-nil s.text); tight = refl; proper = All-nil IsProper }
 
-pub then : {xs ys : List Lexeme} {old mid new : Sheet} → Writes xs old mid → Writes ys mid new → Writes (xs ++ ys) old new
+pub then : {xs ys : List Lexeme} {old mid new : Sheet} → Prints xs old mid → Prints ys mid new → Prints (xs ++ ys) old new
 then {xs} {ys} {old} {mid} {new} v w = record {
   text =
       w.text
-      ∙ ap (λ z. z ++ joined mid.tight ys) v.text
-      ∙ append_assoc old.text (joined old.tight xs) (joined mid.tight ys)
-      ∙ ap (λ (t : Bool). old.text ++ (joined old.tight xs ++ joined t ys)) v.tight
-      ∙ ap (λ z. old.text ++ z) (sym (joined-append old.tight xs ys));
+      ∙ ap (λ z. z ++ spaced_text mid.tight ys) v.text
+      ∙ append_assoc old.text (spaced_text old.tight xs) (spaced_text mid.tight ys)
+      ∙ ap (λ (t : Bool). old.text ++ (spaced_text old.tight xs ++ spaced_text t ys)) v.tight
+      ∙ ap (λ z. old.text ++ z) (sym (spaced-append old.tight xs ys));
   tight = w.tight ∙ ap (λ (t : Bool). tight_behind t ys) v.tight ∙ sym (tight-append old.tight xs ys);
   proper = All-append IsProper xs ys v.proper w.proper;
 }
@@ -50,18 +50,18 @@ module _ {A : Type 0} (separator : Lexeme) (says : A → List Lexeme) (IsItem : 
   behind_more : behind (take (i + 1) xs) ≡ behind (take i xs) ++ separator ∷ says x
   behind_more = ap behind one_more ∙ flat_map-append (λ y. separator ∷ says y) (take i xs) (x ∷ []) ∙ ap (λ z. behind (take i xs) ++ z) (append-nil (separator ∷ says x))
 
-  pub each_on : {old here mid new : Sheet} → Writes (behind (take i xs)) old here → Writes (separator ∷ []) here mid → Writes (says x) mid new → Writes (behind (take (i + 1) xs)) old new
-  each_on {old} {here} {mid} {new} v s w = subst (λ (said : List Lexeme). Writes said old new) (sym behind_more) (then v (then s w))
+  pub each_on : {old here mid new : Sheet} → Prints (behind (take i xs)) old here → Prints (separator ∷ []) here mid → Prints (says x) mid new → Prints (behind (take (i + 1) xs)) old new
+  each_on {old} {here} {mid} {new} v s w = subst (λ (said : List Lexeme). Prints said old new) (sym behind_more) (then v (then s w))
 
   pub all_on : All IsItem (take i xs) → IsItem x → All IsItem (take (i + 1) xs)
   all_on h p = All-same IsItem (take (i + 1) xs) (take i xs ++ x ∷ []) one_more (All-push IsItem (take i xs) x h p)
 
-pub first_and_rest : {A : Type 0} (separator : Lexeme) (says : A → List Lexeme) (xs : List A) (x : A) {old mid new : Sheet} → 0 < length xs → x ≡ get_or xs 0 x → Writes (says x) old mid → Writes (flat_map (λ y. separator ∷ says y) (take (length xs - 1) (drop 1 xs))) mid new → Writes (listed separator says xs) old new
+pub first_and_rest : {A : Type 0} (separator : Lexeme) (says : A → List Lexeme) (xs : List A) (x : A) {old mid new : Sheet} → 0 < length xs → x ≡ get_or xs 0 x → Prints (says x) old mid → Prints (flat_map (λ y. separator ∷ says y) (take (length xs - 1) (drop 1 xs))) mid new → Prints (listed separator says xs) old new
 first_and_rest separator says [] x some is v w = absurd (omega arith)
 first_and_rest separator says (y ∷ ys) x {old} {mid} {new} some is v w =
-    then (subst (λ z. Writes (says z) old mid) is v) (subst (λ zs. Writes (flat_map (λ z. separator ∷ says z) zs) mid new) (take_rest (y ∷ ys) 1) w)
+    then (subst (λ z. Prints (says z) old mid) is v) (subst (λ zs. Prints (flat_map (λ z. separator ∷ says z) zs) mid new) (take_rest (y ∷ ys) 1) w)
 
 -- a filter that is not empty
-pub filter_written : (cs : List Condition) {old new : Sheet} → 0 < length cs → Writes (lexemes.Key keywords.Where ∷ listed (lexemes.Key keywords.And) condition_says cs) old new → Writes (filter_says cs) old new
+pub filter_written : (cs : List Condition) {old new : Sheet} → 0 < length cs → Prints (lexemes.Key keywords.Where ∷ listed (lexemes.Key keywords.And) condition_says cs) old new → Prints (filter_says cs) old new
 filter_written [] some w = absurd (omega arith)
 filter_written (c ∷ cs) some w = w

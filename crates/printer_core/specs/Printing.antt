@@ -36,13 +36,13 @@ gap true l = []
 gap false l = if is_trailing l then [] else 32 ∷ []
 
 -- the tokens, at the front or behind "(" where tight is true
-abbrev pub joined : Bool → List Lexeme → List ℕ
-joined tight [] = []
-joined tight (l ∷ ls) = gap tight l ++ (lexeme_text l ++ joined (is_opening l) ls)
+abbrev pub spaced_text : Bool → List Lexeme → List ℕ
+spaced_text tight [] = []
+spaced_text tight (l ∷ ls) = gap tight l ++ (lexeme_text l ++ spaced_text (is_opening l) ls)
 
 -- how print writes a statement
 abbrev pub canonical : Statement → List ℕ
-canonical s = joined true (statement_says s)
+canonical s = spaced_text true (statement_says s)
 
 -- every name, number and text in a statement is one that its type allows
 abbrev pub HoldsProper : Statement → Type 0
@@ -58,7 +58,7 @@ tight_behind tight [] = tight
 tight_behind tight (l ∷ ls) = tight_behind (is_opening l) ls
 
 -- these tokens were written, and each is proper
-pub record Writes (said : List Lexeme) (old new : Sheet) : Type 0 where
-  pub text : new.text ≡ old.text ++ joined old.tight said
+pub record Prints (said : List Lexeme) (old new : Sheet) : Type 0 where
+  pub text : new.text ≡ old.text ++ spaced_text old.tight said
   pub tight : new.tight ≡ tight_behind old.tight said
   pub proper : All IsProper said

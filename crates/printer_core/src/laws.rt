@@ -1,14 +1,14 @@
 //! Laws of printing, each the contract of an empty function.
 ghost use Rattle.std.specs.Prelude.{◌≤◌, ℕ, List, length};
 ghost use Rattle.reader_core.specs.declared.statement.Statement.{Statement};
-ghost use Rattle.reader_core.specs.Language.{Spells, IsLawful};
+ghost use Rattle.reader_core.specs.Language.{Spells, IsWellFormed};
 ghost use Rattle.printer_core.specs.Printing.{canonical, HoldsProper};
 
 /// The canonical text of a statement spells it, where it has at most 4,096 bytes, and where the
-/// statement holds what its types keep: lists with their limits and distinctness (`IsLawful`), and
+/// statement holds what its types keep: lists with their limits and distinctness (`IsWellFormed`), and
 /// names, numbers and texts as they may be (`HoldsProper`). So what is printed is read back.
 pub fn printed_is_read()
-    ensures { (s : Statement) → IsLawful s → HoldsProper s → length (canonical s) ≤ 4096
+    ensures { (s : Statement) → IsWellFormed s → HoldsProper s → length (canonical s) ≤ 4096
         → Spells (canonical s) s }
 {}
 

@@ -4,7 +4,7 @@ ghost use Rattle.base_core.specs.Words.{text_of};
 ghost use Rattle.lexer_core.specs.Text.{written};
 ghost use Rattle.lexer_core.specs.Lexing.{Key, Named, Number, Text as Quoted, Sign};
 ghost use Rattle.reader_core.specs.Language.{value_says};
-ghost use Rattle.printer_core.specs.Printing.{Sheet, Writes, doubled};
+ghost use Rattle.printer_core.specs.Printing.{Sheet, Prints, doubled};
 
 use base_core::{Keyword, Name, NoMemory, Text, Value};
 use lexer_core::Mark;
@@ -74,7 +74,7 @@ impl Page {
     }
 
     pub fn keyword(&mut self, keyword: Keyword) -> Result<(), NoMemory>
-        ensures { OnOk result (Writes (Key keyword ∷ []) self.old self.new) }
+        ensures { OnOk result (Prints (Key keyword ∷ []) self.old self.new) }
     {
         self.space()?;
         self.text.push_str(keyword.text())?;
@@ -83,7 +83,7 @@ impl Page {
     }
 
     pub fn mark(&mut self, mark: Mark) -> Result<(), NoMemory>
-        ensures { OnOk result (Writes (Sign mark ∷ []) self.old self.new) }
+        ensures { OnOk result (Prints (Sign mark ∷ []) self.old self.new) }
     {
         if mark != Mark::Close && mark != Mark::Comma {
             self.space()?;
@@ -94,7 +94,7 @@ impl Page {
     }
 
     pub fn name(&mut self, name: Name) -> Result<(), NoMemory>
-        ensures { OnOk result (Writes (Named name ∷ []) self.old self.new) }
+        ensures { OnOk result (Prints (Named name ∷ []) self.old self.new) }
     {
         self.space()?;
         match str::from_utf8(name.as_bytes()) {
@@ -106,7 +106,7 @@ impl Page {
     }
 
     pub fn number(&mut self, number: i64) -> Result<(), NoMemory>
-        ensures { OnOk result (Writes (Number number ∷ []) self.old self.new) }
+        ensures { OnOk result (Prints (Number number ∷ []) self.old self.new) }
     {
         self.space()?;
         write!(self.text, "{number}")?;
@@ -115,7 +115,7 @@ impl Page {
     }
 
     fn text(&mut self, text: &Text) -> Result<(), NoMemory>
-        ensures { OnOk result (Writes (Quoted text.now ∷ []) self.old self.new) }
+        ensures { OnOk result (Prints (Quoted text.now ∷ []) self.old self.new) }
     {
         self.space()?;
         self.text.push('\'')?;
@@ -126,7 +126,7 @@ impl Page {
     }
 
     pub fn value(&mut self, value: &Value) -> Result<(), NoMemory>
-        ensures { OnOk result (Writes (value_says value.now) self.old self.new) }
+        ensures { OnOk result (Prints (value_says value.now) self.old self.new) }
     {
         match value {
             Value::Int(number) => self.number(*number),

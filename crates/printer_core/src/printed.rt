@@ -5,7 +5,7 @@ ghost use Rattle.lexer_core.specs.Lexing as lexemes;
 ghost use Rattle.lexer_core.specs.Lexing.{Lexeme};
 ghost use Rattle.lexer_core.specs.declared.token.Mark.TheVariants as marks;
 ghost use Rattle.reader_core.specs.Language.{listed, names_say, columns_say, type_lexeme, comparison_mark, AreNamed, IsSelection};
-ghost use Rattle.printer_core.specs.Printing.{Writes};
+ghost use Rattle.printer_core.specs.Printing.{Prints};
 
 use crate::page::Page;
 use base_core::{
@@ -22,19 +22,19 @@ pub trait Printed: Sized {
     // What an item says, token by token.
     ghost says: { Self → List Lexeme };
     // What the language asks of an item by itself.
-    ghost lawful: { Self → Type 0 } = { λ _. Unit {0} };
+    ghost well_formed: { Self → Type 0 } = { λ _. Unit {0} };
 
     fn write(&self, page: &mut Page) -> Result<(), NoMemory>
-        ensures written { OnOk result (Writes (Self.says self.now) page.old page.new) }
-        ensures lawful { OnOk result (Self.lawful self.now) };
+        ensures written { OnOk result (Prints (Self.says self.now) page.old page.new) }
+        ensures well_formed { OnOk result (Self.well_formed self.now) };
 
     fn write_separator(page: &mut Page) -> Result<(), NoMemory>
-        ensures { OnOk result (Writes (Self.separator ∷ []) page.old page.new) };
+        ensures { OnOk result (Prints (Self.separator ∷ []) page.old page.new) };
 }
 
 fn write_behind<T: Printed>(page: &mut Page, items: &[T]) -> Result<(), NoMemory>
-    ensures written { OnOk result (Writes (flat_map (λ x. T.separator ∷ T.says x) items.now) page.old page.new) }
-    ensures lawful { OnOk result (All T.lawful items.now) }
+    ensures written { OnOk result (Prints (flat_map (λ x. T.separator ∷ T.says x) items.now) page.old page.new) }
+    ensures well_formed { OnOk result (All T.well_formed items.now) }
 {
     for item in items {
         T::write_separator(page)?;
@@ -45,8 +45,8 @@ fn write_behind<T: Printed>(page: &mut Page, items: &[T]) -> Result<(), NoMemory
 
 /// The items, with a separator between each two.
 pub fn write_list<T: Printed>(page: &mut Page, items: &[T]) -> Result<(), NoMemory>
-    ensures written { OnOk result (Writes (listed T.separator T.says items.now) page.old page.new) }
-    ensures lawful { OnOk result (All T.lawful items.now) }
+    ensures written { OnOk result (Prints (listed T.separator T.says items.now) page.old page.new) }
+    ensures well_formed { OnOk result (All T.well_formed items.now) }
 {
     match items {
         [] => Ok(()),
@@ -59,9 +59,9 @@ pub fn write_list<T: Printed>(page: &mut Page, items: &[T]) -> Result<(), NoMemo
 }
 
 impl Printed for Name {
-    ghost use Rattle.reader_core.specs.Language.{comma, name_says};
+    ghost use Rattle.reader_core.specs.Language.{comma_lexeme, name_says};
 
-    ghost separator = { comma };
+    ghost separator = { comma_lexeme };
 
     ghost says = { name_says };
 
@@ -75,9 +75,9 @@ impl Printed for Name {
 }
 
 impl Printed for User {
-    ghost use Rattle.reader_core.specs.Language.{comma, user_says};
+    ghost use Rattle.reader_core.specs.Language.{comma_lexeme, user_says};
 
-    ghost separator = { comma };
+    ghost separator = { comma_lexeme };
 
     ghost says = { user_says };
 
@@ -100,9 +100,9 @@ fn type_keyword(ty: ColType) -> Keyword
 }
 
 impl Printed for Column {
-    ghost use Rattle.reader_core.specs.Language.{comma, column_says};
+    ghost use Rattle.reader_core.specs.Language.{comma_lexeme, column_says};
 
-    ghost separator = { comma };
+    ghost separator = { comma_lexeme };
 
     ghost says = { column_says };
 
@@ -118,9 +118,9 @@ impl Printed for Column {
 }
 
 impl Printed for Value {
-    ghost use Rattle.reader_core.specs.Language.{comma, value_says};
+    ghost use Rattle.reader_core.specs.Language.{comma_lexeme, value_says};
 
-    ghost separator = { comma };
+    ghost separator = { comma_lexeme };
 
     ghost says = { value_says };
 
@@ -134,9 +134,9 @@ impl Printed for Value {
 }
 
 impl Printed for Assignment {
-    ghost use Rattle.reader_core.specs.Language.{comma, set_says};
+    ghost use Rattle.reader_core.specs.Language.{comma_lexeme, set_says};
 
-    ghost separator = { comma };
+    ghost separator = { comma_lexeme };
 
     ghost says = { set_says };
 
@@ -152,7 +152,7 @@ impl Printed for Assignment {
     }
 }
 
-fn mark_of(comparison: Comparison) -> Mark
+fn comparison_mark(comparison: Comparison) -> Mark
     ensures { result ≡ comparison_mark comparison }
 {
     match comparison {
@@ -176,7 +176,7 @@ impl Printed for Condition {
 
     fn write(&self, page: &mut Page) -> Result<(), NoMemory> {
         page.name(self.column)?;
-        page.mark(mark_of(self.comparison))?;
+        page.mark(comparison_mark(self.comparison))?;
         page.value(&self.literal)?;
         Ok(())
     }
@@ -187,8 +187,8 @@ impl Printed for Condition {
 }
 
 fn write_in_brackets(page: &mut Page, names: &Distinct<Name, MAX_ITEMS>) -> Result<(), NoMemory>
-    ensures written { OnOk result (Writes (lexemes.Sign marks.Open ∷ (names_say names.now ++ lexemes.Sign marks.Close ∷ [])) page.old page.new) }
-    ensures lawful { OnOk result (AreNamed 32 (λ n. n) names.now) }
+    ensures written { OnOk result (Prints (lexemes.Sign marks.Open ∷ (names_say names.now ++ lexemes.Sign marks.Close ∷ [])) page.old page.new) }
+    ensures well_formed { OnOk result (AreNamed 32 (λ n. n) names.now) }
 {
     page.mark(Mark::Open)?;
     write_list(page, names.as_slice())?;
@@ -201,8 +201,8 @@ fn write_columns(
     page: &mut Page,
     columns: &Option<Distinct<Name, MAX_ITEMS>>,
 ) -> Result<(), NoMemory>
-    ensures written { OnOk result (Writes (columns_say columns.now) page.old page.new) }
-    ensures lawful { OnOk result (IsSelection columns.now) }
+    ensures written { OnOk result (Prints (columns_say columns.now) page.old page.new) }
+    ensures well_formed { OnOk result (IsSelection columns.now) }
 {
     match columns {
         Some(names) => write_in_brackets(page, names),
@@ -211,13 +211,13 @@ fn write_columns(
 }
 
 impl Printed for Privilege {
-    ghost use Rattle.reader_core.specs.Language.{comma, privilege_says, IsLawfulPrivilege};
+    ghost use Rattle.reader_core.specs.Language.{comma_lexeme, privilege_says, IsWellFormedPrivilege};
 
-    ghost separator = { comma };
+    ghost separator = { comma_lexeme };
 
     ghost says = { privilege_says };
 
-    ghost lawful = { IsLawfulPrivilege };
+    ghost well_formed = { IsWellFormedPrivilege };
 
     fn write(&self, page: &mut Page) -> Result<(), NoMemory> {
         match self {

@@ -1,8 +1,8 @@
 //! Statements as text.
 ghost use Rattle.std.specs.Prelude.{◌≡◌, ◌<◌, ◌≤◌, OnOk, IfOk, IsErrOf, length, string_bytes};
 ghost use Rattle.reader_core.specs.declared.statement.Statement.TheVariants as statements;
-ghost use Rattle.reader_core.specs.Language.{selection_says, filter_says, option_says, only_says, statement_says, IsSelection, IsLawful, Spells};
-ghost use Rattle.printer_core.specs.Printing.{Writes, canonical};
+ghost use Rattle.reader_core.specs.Language.{selection_says, filter_says, option_says, only_says, statement_says, IsSelection, IsWellFormed, Spells};
+ghost use Rattle.printer_core.specs.Printing.{Prints, canonical};
 
 use crate::page::Page;
 use crate::printed::write_list;
@@ -36,8 +36,8 @@ impl From<NoMemory> for PrintFault {
 
 impl Page {
     fn create(&mut self, table: Name, columns: &Distinct<Column, MAX_ITEMS>) -> Result<(), NoMemory>
-        ensures written { OnOk result (Writes (statement_says (statements.CreateTable table columns.now)) self.old self.new) }
-        ensures lawful { OnOk result (IsLawful (statements.CreateTable table columns.now)) }
+        ensures written { OnOk result (Prints (statement_says (statements.CreateTable table columns.now)) self.old self.new) }
+        ensures well_formed { OnOk result (IsWellFormed (statements.CreateTable table columns.now)) }
     {
         self.keyword(Keyword::Create)?;
         self.keyword(Keyword::Table)?;
@@ -49,8 +49,8 @@ impl Page {
     }
 
     fn insert(&mut self, table: Name, values: &Several<Value, MAX_ITEMS>) -> Result<(), NoMemory>
-        ensures written { OnOk result (Writes (statement_says (statements.Insert table values.now)) self.old self.new) }
-        ensures lawful { OnOk result (IsLawful (statements.Insert table values.now)) }
+        ensures written { OnOk result (Prints (statement_says (statements.Insert table values.now)) self.old self.new) }
+        ensures well_formed { OnOk result (IsWellFormed (statements.Insert table values.now)) }
     {
         self.keyword(Keyword::Insert)?;
         self.keyword(Keyword::Into)?;
@@ -63,8 +63,8 @@ impl Page {
     }
 
     fn selection(&mut self, list: &Option<Distinct<Name, MAX_ITEMS>>) -> Result<(), NoMemory>
-        ensures written { OnOk result (Writes (selection_says list.now) self.old self.new) }
-        ensures lawful { OnOk result (IsSelection list.now) }
+        ensures written { OnOk result (Prints (selection_says list.now) self.old self.new) }
+        ensures well_formed { OnOk result (IsSelection list.now) }
     {
         match list {
             Some(names) => {
@@ -76,7 +76,7 @@ impl Page {
     }
 
     fn filter(&mut self, filter: &Limited<Condition, MAX_ITEMS>) -> Result<(), NoMemory>
-        ensures written { OnOk result (Writes (filter_says filter.now) self.old self.new) }
+        ensures written { OnOk result (Prints (filter_says filter.now) self.old self.new) }
         ensures few { OnOk result (length filter.now ≤ 32) }
     {
         let conditions = filter.as_slice();
@@ -93,8 +93,8 @@ impl Page {
         table: Name,
         filter: &Limited<Condition, MAX_ITEMS>,
     ) -> Result<(), NoMemory>
-        ensures written { OnOk result (Writes (statement_says (statements.Select list.now table filter.now)) self.old self.new) }
-        ensures lawful { OnOk result (IsLawful (statements.Select list.now table filter.now)) }
+        ensures written { OnOk result (Prints (statement_says (statements.Select list.now table filter.now)) self.old self.new) }
+        ensures well_formed { OnOk result (IsWellFormed (statements.Select list.now table filter.now)) }
     {
         self.keyword(Keyword::Select)?;
         self.selection(list)?;
@@ -109,8 +109,8 @@ impl Page {
         table: Name,
         filter: &Limited<Condition, MAX_ITEMS>,
     ) -> Result<(), NoMemory>
-        ensures written { OnOk result (Writes (statement_says (statements.Delete table filter.now)) self.old self.new) }
-        ensures lawful { OnOk result (IsLawful (statements.Delete table filter.now)) }
+        ensures written { OnOk result (Prints (statement_says (statements.Delete table filter.now)) self.old self.new) }
+        ensures well_formed { OnOk result (IsWellFormed (statements.Delete table filter.now)) }
     {
         self.keyword(Keyword::Delete)?;
         self.keyword(Keyword::From)?;
@@ -125,8 +125,8 @@ impl Page {
         sets: &Distinct<Assignment, MAX_ITEMS>,
         filter: &Limited<Condition, MAX_ITEMS>,
     ) -> Result<(), NoMemory>
-        ensures written { OnOk result (Writes (statement_says (statements.Update table sets.now filter.now)) self.old self.new) }
-        ensures lawful { OnOk result (IsLawful (statements.Update table sets.now filter.now)) }
+        ensures written { OnOk result (Prints (statement_says (statements.Update table sets.now filter.now)) self.old self.new) }
+        ensures well_formed { OnOk result (IsWellFormed (statements.Update table sets.now filter.now)) }
     {
         self.keyword(Keyword::Update)?;
         self.name(table)?;
@@ -137,7 +137,7 @@ impl Page {
     }
 
     fn grant_option(&mut self, option: bool) -> Result<(), NoMemory>
-        ensures { OnOk result (Writes (option_says option) self.old self.new) }
+        ensures { OnOk result (Prints (option_says option) self.old self.new) }
     {
         if option {
             self.keyword(Keyword::With)?;
@@ -154,8 +154,8 @@ impl Page {
         users: &Distinct<User, MAX_USERS>,
         option: bool,
     ) -> Result<(), NoMemory>
-        ensures written { OnOk result (Writes (statement_says (statements.Grant privileges.now table users.now option)) self.old self.new) }
-        ensures lawful { OnOk result (IsLawful (statements.Grant privileges.now table users.now option)) }
+        ensures written { OnOk result (Prints (statement_says (statements.Grant privileges.now table users.now option)) self.old self.new) }
+        ensures well_formed { OnOk result (IsWellFormed (statements.Grant privileges.now table users.now option)) }
     {
         self.keyword(Keyword::Grant)?;
         write_list(self, privileges.as_slice())?;
@@ -173,8 +173,8 @@ impl Page {
         table: Name,
         users: &Distinct<User, MAX_USERS>,
     ) -> Result<(), NoMemory>
-        ensures written { OnOk result (Writes (statement_says (statements.Revoke privileges.now table users.now)) self.old self.new) }
-        ensures lawful { OnOk result (IsLawful (statements.Revoke privileges.now table users.now)) }
+        ensures written { OnOk result (Prints (statement_says (statements.Revoke privileges.now table users.now)) self.old self.new) }
+        ensures well_formed { OnOk result (IsWellFormed (statements.Revoke privileges.now table users.now)) }
     {
         self.keyword(Keyword::Revoke)?;
         write_list(self, privileges.as_slice())?;
@@ -186,7 +186,7 @@ impl Page {
     }
 
     fn only(&mut self, only: Option<Name>) -> Result<(), NoMemory>
-        ensures { OnOk result (Writes (only_says only) self.old self.new) }
+        ensures { OnOk result (Prints (only_says only) self.old self.new) }
     {
         if let Some(table) = only {
             self.keyword(Keyword::Only)?;
@@ -196,8 +196,8 @@ impl Page {
     }
 
     fn export(&mut self, number: CheckpointNumber, only: Option<Name>) -> Result<(), NoMemory>
-        ensures written { OnOk result (Writes (statement_says (statements.Export number only)) self.old self.new) }
-        ensures lawful { OnOk result (IsLawful (statements.Export number only)) }
+        ensures written { OnOk result (Prints (statement_says (statements.Export number only)) self.old self.new) }
+        ensures well_formed { OnOk result (IsWellFormed (statements.Export number only)) }
     {
         self.keyword(Keyword::Export)?;
         self.number(number.get() as i64)?;
@@ -206,8 +206,8 @@ impl Page {
     }
 
     fn statement(&mut self, statement: &Statement) -> Result<(), NoMemory>
-        ensures written { OnOk result (Writes (statement_says statement.now) self.old self.new) }
-        ensures lawful { OnOk result (IsLawful statement.now) }
+        ensures written { OnOk result (Prints (statement_says statement.now) self.old self.new) }
+        ensures well_formed { OnOk result (IsWellFormed statement.now) }
     {
         match statement {
             Statement::CreateTable { table, columns } => self.create(*table, columns),

@@ -8,7 +8,7 @@ use Rattle.lexer_core.specs.declared.token.Kind.{Kind}
 use Rattle.lexer_core.specs.declared.token.Kind.TheVariants as kinds
 use Rattle.lexer_core.specs.declared.fault.Code.{Code}
 use Rattle.reader_core.specs.Grammar.{Grammar, End, One, Case, Items, More, Class, Key, Sign, fits, followed_by}
-use Rattle.reader_core.specs.Matches.{Spot, is_next, Matches, done, one, this, other, item, next, last}
+use Rattle.reader_core.specs.Matches.{TokenWithFault, is_next, Matches, done, one, this, other, item, next, last}
 use Rattle.reader_core.specs.Choices.{Derives, stop, token, left, right, first, further, behind, can_begin, IsApart, IsPredictive, never}
 use Rattle.reader_core.specs.Language.{statement, finish, optional, filter, grant_option, privilege_item}
 use Rattle.reader_core.proofs.Taking.{key_fits, sign_fits}
@@ -59,7 +59,7 @@ clear_followed (More r s i g) k f x y = (
 )
 
 -- ---- every sentence by some choice is one by the next token
-first_starts : {g : Grammar} {t : Kind} {w : Option Code} {ss : List Spot} → Matches g (record { kind = t; wrong = w } ∷ ss) → can_begin g never t ≡ true
+first_starts : {g : Grammar} {t : Kind} {w : Option Code} {ss : List TokenWithFault} → Matches g (record { kind = t; wrong = w } ∷ ss) → can_begin g never t ≡ true
 first_starts (one f m) = f
 first_starts {g = Case c a b} {t} (this f m) = ap (λ (x : Bool). x || can_begin b never t) f
 first_starts {g = Case c a b} {t} (other n m) = ap (λ (x : Bool). x || can_begin b never t) n ∙ first_starts m
@@ -75,14 +75,14 @@ clash : (b : Bool) → b ≡ false → b ≡ true → ⊥
 clash true e h = cc
 clash false e h = cc
 
-not_next : (c : Class) (g : Grammar) (ss : List Spot) → IsApart c (can_begin g never) → Matches g ss → is_next c ss ≡ false
+not_next : (c : Class) (g : Grammar) (ss : List TokenWithFault) → IsApart c (can_begin g never) → Matches g ss → is_next c ss ≡ false
 not_next c g [] a m = refl
 not_next c g (s ∷ ss) a m = elim (true_or_false (fits c s.kind)) [
   | inl e ↦ absurd (clash (can_begin g never s.kind) (a s.kind e) (first_starts m))
   | inr e ↦ e
 ]
 
-by_next : {g : Grammar} {ss : List Spot} → IsPredictive g never → Derives g ss → Matches g ss
+by_next : {g : Grammar} {ss : List TokenWithFault} → IsPredictive g never → Derives g ss → Matches g ss
 by_next x stop = done
 by_next x (token f d) = one f (by_next x d)
 by_next x (left f d) = this f (by_next x.1 d)
@@ -150,7 +150,7 @@ clear = (
   ),
 )
 
-by_choice : {g : Grammar} {ss : List Spot} → Matches g ss → Derives g ss
+by_choice : {g : Grammar} {ss : List TokenWithFault} → Matches g ss → Derives g ss
 by_choice done = stop
 by_choice (one f m) = token f (by_choice m)
 by_choice (this f m) = left f (by_choice m)
@@ -159,5 +159,5 @@ by_choice (item m) = first (by_choice m)
 by_choice (next f m) = further f (by_choice m)
 by_choice (last n m) = behind (by_choice m)
 
-pub one_choice : (ss : List Spot) → (Derives statement ss → Matches statement ss) × (Matches statement ss → Derives statement ss)
+pub one_choice : (ss : List TokenWithFault) → (Derives statement ss → Matches statement ss) × (Matches statement ss → Derives statement ss)
 one_choice ss = (λ d. by_next clear d, λ m. by_choice m)

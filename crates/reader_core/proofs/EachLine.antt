@@ -24,7 +24,7 @@ module _ (line : List ℕ) where
   spelled said says whole =
       let kinds = lexed_kinds line (length line) says.tokens_of said says.lexed in
       let s = whole_said said (proper_lexed line (length line) says.tokens_of said says.lexed) (subst (λ (ks : List Kind). IsWhole statement ks) kinds whole) in
-      inl (s.0, record { said = said; says = says; statement_of = s.1; lawful = s.2 })
+      inl (s.0, record { said = said; says = says; statement_of = s.1; well_formed = s.2 })
 
   fault_left : (said : List Lexeme) → (says : Says line said) → (ts : List tokens.Token) → says.tokens_of ≡ ts → AreTokens line ts → StatementOrFault
   fault_left said says [] e a = inr (codes.Empty, 0, nothing a)

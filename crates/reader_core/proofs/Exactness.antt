@@ -62,7 +62,7 @@ spelled_no_fault line s _ _ p (nothing a) = nothing_said line s p.said p.says p.
 spelled_no_fault line s _ _ p (ungrammatical {code} {offset} {t} {ts} a f) =
     let same : p.says.tokens_of ≡ t ∷ ts = one_list_of_tokens line p.says.tokens_of (t ∷ ts) (tokens_of line p.said p.says) a in
     let kinds : map kind_of p.said ≡ map (λ x. x.kind) (t ∷ ts) = sym (lexed_kinds line (length line) p.says.tokens_of p.said p.says.lexed) ∙ ap (map (λ x. x.kind)) same in
-    let whole = subst (λ (ks : List Kind). IsWhole statement ks) kinds (says_whole p.said s p.lawful p.statement_of) in
+    let whole = subst (λ (ks : List Kind). IsWhole statement ks) kinds (says_whole p.said s p.well_formed p.statement_of) in
     no_fault (code, offset) (sym (first_fault_from_whole statement (length line) (t ∷ ts) sound whole) ∙ first_fault_from_fault statement (length line) (t ∷ ts) (code, offset) sound f)
 
 abbrev Agree : Code → ℕ → Code → ℕ → Type 0
@@ -94,9 +94,9 @@ exact line (Ok t) s spelled faulty p = inl (ap Ok (spelled_once line t s spelled
 exact line (Err faults.NoMemory) s spelled faulty p = inr refl
 exact line (Err (faults.At code offset)) s spelled faulty p = absurd (spelled_no_fault line s code offset p faulty)
 
-pub told : (line : List ℕ) (r : Result Statement ReadFault) (code : Code) (offset : ℕ) → IfOk r (Spells line) → IfErr r (IsReadFaultOf line) → IsReadFault line code offset → UnlessNoMemory r (Err (faults.At code offset))
-told line (Ok t) code offset spelled faulty f = absurd (spelled_no_fault line t code offset spelled f)
-told line (Err faults.NoMemory) code offset spelled faulty f = inr refl
-told line (Err (faults.At other place)) code offset spelled faulty f =
+pub exact_fault : (line : List ℕ) (r : Result Statement ReadFault) (code : Code) (offset : ℕ) → IfOk r (Spells line) → IfErr r (IsReadFaultOf line) → IsReadFault line code offset → UnlessNoMemory r (Err (faults.At code offset))
+exact_fault line (Ok t) code offset spelled faulty f = absurd (spelled_no_fault line t code offset spelled f)
+exact_fault line (Err faults.NoMemory) code offset spelled faulty f = inr refl
+exact_fault line (Err (faults.At other place)) code offset spelled faulty f =
     let p = one_line_fault line other code place offset faulty f in
     inl (ap (λ (x : Code). Err (faults.At x place)) p.0 ∙ ap (λ (x : ℕ). Err (faults.At code x)) p.1)

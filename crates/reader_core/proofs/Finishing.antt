@@ -20,7 +20,7 @@ module _ (old new : Cursor) (r : Result (Unit {0}) ReadFault) (is : next_is (Sig
   ends_behind = go r
     where
       go : (r : Result (Unit {0}) ReadFault) → OnOk r ((fault_left End new ≡ None) × (new.rest ≡ [])) → OnOk r ((fault_left finish old ≡ None) × IsFinished (left_says old))
-      go (Ok u) h = (behind ∙ h.0, inr (says ∙ ap (λ ts. lexemes.Sign marks.Semicolon ∷ map (λ t. (lexemes.heard new.line t).lexeme) ts) h.1))
+      go (Ok u) h = (behind ∙ h.0, inr (says ∙ ap (λ ts. lexemes.Sign marks.Semicolon ∷ map (λ t. (lexemes.located new.line t).lexeme) ts) h.1))
       go (Err e) h = tt
 
   pub fails_behind : IfErr r (λ e. fault_left End new ≡ fault_of e) → IfErr r (λ e. fault_left finish old ≡ fault_of e)

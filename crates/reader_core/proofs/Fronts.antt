@@ -20,15 +20,15 @@ use Rattle.lexer_core.specs.declared.token.Kind.TheVariants as kinds
 use Rattle.lexer_core.specs.declared.token.Mark.{Mark}
 use Rattle.lexer_core.specs.declared.token.Mark.TheVariants as marks
 use Rattle.lexer_core.specs.declared.fault.Code.{Code}
-use Rattle.reader_core.specs.Grammar.{Grammar, Class, One, Case, Items, More, Rule, Key, Sign, AnyName, AnyLiteral, AnyType, AnyTest, AtLeastOne, fits, mark_of, followed_by}
-use Rattle.reader_core.specs.Recogniser.{AreFine}
-use Rattle.reader_core.specs.Matches.{Spot, fine, Matches, one, this, other, item, next, last}
+use Rattle.reader_core.specs.Grammar.{Grammar, Class, One, Case, Items, More, Rule, Key, Sign, AnyName, AnyLiteral, AnyType, AnyTest, AtLeastOne, fits, item_fault, followed_by}
+use Rattle.reader_core.specs.Recogniser.{AreFaultless}
+use Rattle.reader_core.specs.Matches.{TokenWithFault, faultless, Matches, one, this, other, item, next, last}
 use Rattle.reader_core.specs.Language.{listed, value_lexeme, type_lexeme, comparison_mark}
 use Rattle.reader_core.proofs.Taking.{key_fits, sign_fits}
 
 -- what is said, as tokens none of which is wrong
-abbrev pub spots : List Lexeme → List Spot
-spots said = map fine (map kind_of said)
+abbrev pub faultless_all : List Lexeme → List TokenWithFault
+faultless_all said = map faultless (map kind_of said)
 
 either : (a b : Bool) → (a || b) ≡ true → (a ≡ true) ⊎ (b ≡ true)
 either true b e = inl refl
@@ -114,7 +114,7 @@ least_only (lexemes.Text t) f = cc
 least_only (lexemes.Sign m) f = cc
 
 -- ---- one token
-one_back : {c : Class} {g : Grammar} {t : Kind} {w : Option Code} {ss : List Spot} → Matches (One c g) (record { kind = t; wrong = w } ∷ ss) → (fits c t ≡ true) × Matches g ss
+one_back : {c : Class} {g : Grammar} {t : Kind} {w : Option Code} {ss : List TokenWithFault} → Matches (One c g) (record { kind = t; wrong = w } ∷ ss) → (fits c t ≡ true) × Matches g ss
 one_back (one f m) = (f, m)
 
 no_one : {c : Class} {g : Grammar} → Matches (One c g) [] → ⊥
@@ -125,44 +125,44 @@ pub record Front {V : Type 0} (says : V → List Lexeme) (IsLaw : V → Type 0) 
   pub value : V
   pub rest : List Lexeme
   pub split : said ≡ says value ++ rest
-  pub lawful : IsLaw value
-  pub left : Matches k (spots rest)
+  pub well_formed : IsLaw value
+  pub left : Matches k (faultless_all rest)
 
 abbrev pub Any : {A : Type 0} → A → Type 0
 Any x = Unit {0}
 
 -- one token of a class, which says a value
 module _ {V : Type 0} (c : Class) (lexeme : V → Lexeme) (IsLaw : V → Type 0) (only : (l : Lexeme) → fits c (kind_of l) ≡ true → (v : V) × (l ≡ lexeme v) × IsLaw v) (g : Grammar) where
-  token_front : (said : List Lexeme) → Matches (One c g) (spots said) → Front (λ v. lexeme v ∷ []) IsLaw g said
+  token_front : (said : List Lexeme) → Matches (One c g) (faultless_all said) → Front (λ v. lexeme v ∷ []) IsLaw g said
   token_front [] m = absurd (no_one m)
   token_front (l ∷ rest) m =
       let p = one_back m in
       let v = only l p.0 in
-      record { value = v.0; rest = rest; split = ap (λ (x : Lexeme). x ∷ rest) v.1; lawful = v.2; left = p.1 }
+      record { value = v.0; rest = rest; split = ap (λ (x : Lexeme). x ∷ rest) v.1; well_formed = v.2; left = p.1 }
 
-pub key_front : (k : Keyword) (g : Grammar) (said : List Lexeme) → Matches (One (Key k) g) (spots said) → Front {V = Unit {0}} (λ v. lexemes.Key k ∷ []) Any g said
+pub key_front : (k : Keyword) (g : Grammar) (said : List Lexeme) → Matches (One (Key k) g) (faultless_all said) → Front {V = Unit {0}} (λ v. lexemes.Key k ∷ []) Any g said
 key_front k g said m = token_front (Key k) (λ v. lexemes.Key k) Any (λ l f. (tt, key_only k l f, tt)) g said m
 
-pub sign_front : (s : Mark) (g : Grammar) (said : List Lexeme) → Matches (One (Sign s) g) (spots said) → Front {V = Unit {0}} (λ v. lexemes.Sign s ∷ []) Any g said
+pub sign_front : (s : Mark) (g : Grammar) (said : List Lexeme) → Matches (One (Sign s) g) (faultless_all said) → Front {V = Unit {0}} (λ v. lexemes.Sign s ∷ []) Any g said
 sign_front s g said m = token_front (Sign s) (λ v. lexemes.Sign s) Any (λ l f. (tt, sign_only s l f, tt)) g said m
 
-pub name_front : (g : Grammar) (said : List Lexeme) → Matches (One AnyName g) (spots said) → Front (λ n. lexemes.Named n ∷ []) Any g said
+pub name_front : (g : Grammar) (said : List Lexeme) → Matches (One AnyName g) (faultless_all said) → Front (λ n. lexemes.Named n ∷ []) Any g said
 name_front g said m = token_front AnyName lexemes.Named Any (λ l f. let n = name_only l f in (n.0, n.1, tt)) g said m
 
-pub literal_front : (g : Grammar) (said : List Lexeme) → Matches (One AnyLiteral g) (spots said) → Front (λ v. value_lexeme v ∷ []) Any g said
+pub literal_front : (g : Grammar) (said : List Lexeme) → Matches (One AnyLiteral g) (faultless_all said) → Front (λ v. value_lexeme v ∷ []) Any g said
 literal_front g said m = token_front AnyLiteral value_lexeme Any (λ l f. let n = literal_only l f in (n.0, n.1, tt)) g said m
 
-pub type_front : (g : Grammar) (said : List Lexeme) → Matches (One AnyType g) (spots said) → Front (λ t. type_lexeme t ∷ []) Any g said
+pub type_front : (g : Grammar) (said : List Lexeme) → Matches (One AnyType g) (faultless_all said) → Front (λ t. type_lexeme t ∷ []) Any g said
 type_front g said m = token_front AnyType type_lexeme Any (λ l f. let n = type_only l f in (n.0, n.1, tt)) g said m
 
-pub test_front : (g : Grammar) (said : List Lexeme) → Matches (One AnyTest g) (spots said) → Front (λ c. lexemes.Sign (comparison_mark c) ∷ []) Any g said
+pub test_front : (g : Grammar) (said : List Lexeme) → Matches (One AnyTest g) (faultless_all said) → Front (λ c. lexemes.Sign (comparison_mark c) ∷ []) Any g said
 test_front g said m = token_front AnyTest (λ c. lexemes.Sign (comparison_mark c)) Any (λ l f. let n = test_only l f in (n.0, n.1, tt)) g said m
 
-pub least_front : (g : Grammar) (said : List Lexeme) → Matches (One AtLeastOne g) (spots said) → Front (λ n. lexemes.Number (pos n) ∷ []) (λ n. 1 ≤ n) g said
+pub least_front : (g : Grammar) (said : List Lexeme) → Matches (One AtLeastOne g) (faultless_all said) → Front (λ n. lexemes.Number (pos n) ∷ []) (λ n. 1 ≤ n) g said
 least_front g said m = token_front AtLeastOne (λ n. lexemes.Number (pos n)) (λ n. 1 ≤ n) least_only g said m
 
 -- ---- a choice
-case_back : {c : Class} {a b : Grammar} {t : Kind} {w : Option Code} {ss : List Spot} → Matches (Case c a b) (record { kind = t; wrong = w } ∷ ss) → ((fits c t ≡ true) × Matches a ss) ⊎ Matches b (record { kind = t; wrong = w } ∷ ss)
+case_back : {c : Class} {a b : Grammar} {t : Kind} {w : Option Code} {ss : List TokenWithFault} → Matches (Case c a b) (record { kind = t; wrong = w } ∷ ss) → ((fits c t ≡ true) × Matches a ss) ⊎ Matches b (record { kind = t; wrong = w } ∷ ss)
 case_back (this f m) = inl (f, m)
 case_back (other n m) = inr m
 
@@ -170,7 +170,7 @@ case_end : {c : Class} {a b : Grammar} → Matches (Case c a b) [] → Matches b
 case_end (other n m) = m
 
 -- the first of the two, behind its first token, or the second
-pub case_front : (c : Class) (l : Lexeme) (a b : Grammar) (said : List Lexeme) → ((x : Lexeme) → fits c (kind_of x) ≡ true → x ≡ l) → Matches (Case c a b) (spots said) → ((rest : List Lexeme) × (said ≡ l ∷ rest) × Matches a (spots rest)) ⊎ Matches b (spots said)
+pub case_front : (c : Class) (l : Lexeme) (a b : Grammar) (said : List Lexeme) → ((x : Lexeme) → fits c (kind_of x) ≡ true → x ≡ l) → Matches (Case c a b) (faultless_all said) → ((rest : List Lexeme) × (said ≡ l ∷ rest) × Matches a (faultless_all rest)) ⊎ Matches b (faultless_all said)
 case_front c l a b [] only m = inr (case_end m)
 case_front c l a b (x ∷ rest) only m = elim (case_back m) [
   | inl p ↦ inl (rest, ap (λ (y : Lexeme). y ∷ rest) (only x p.0), p.1)
@@ -178,13 +178,13 @@ case_front c l a b (x ∷ rest) only m = elim (case_back m) [
 ]
 
 -- ---- lists
-item_back : {r : Rule} {s : List Kind} {i g : Grammar} {t : Kind} {w : Option Code} {ss : List Spot} → Matches (Items r s i g) (record { kind = t; wrong = w } ∷ ss) → (mark_of r s t ≡ w) × Matches (followed_by i (More r (s ++ t ∷ []) i g)) (fine t ∷ ss)
+item_back : {r : Rule} {s : List Kind} {i g : Grammar} {t : Kind} {w : Option Code} {ss : List TokenWithFault} → Matches (Items r s i g) (record { kind = t; wrong = w } ∷ ss) → (item_fault r s t ≡ w) × Matches (followed_by i (More r (s ++ t ∷ []) i g)) (faultless t ∷ ss)
 item_back (item m) = (refl, m)
 
 no_item : {r : Rule} {s : List Kind} {i g : Grammar} → Matches (Items r s i g) [] → ⊥
 no_item m = elim m [ ]
 
-more_back : {r : Rule} {s : List Kind} {i g : Grammar} {t : Kind} {w : Option Code} {ss : List Spot} → Matches (More r s i g) (record { kind = t; wrong = w } ∷ ss) → ((fits r.separator t ≡ true) × Matches (Items r s i g) ss) ⊎ Matches g (record { kind = t; wrong = w } ∷ ss)
+more_back : {r : Rule} {s : List Kind} {i g : Grammar} {t : Kind} {w : Option Code} {ss : List TokenWithFault} → Matches (More r s i g) (record { kind = t; wrong = w } ∷ ss) → ((fits r.separator t ≡ true) × Matches (Items r s i g) ss) ⊎ Matches g (record { kind = t; wrong = w } ∷ ss)
 more_back (next f m) = inl (f, m)
 more_back (last n m) = inr m
 
@@ -196,7 +196,7 @@ pub record TellsItem {A : Type 0} (r : Rule) (i : Grammar) (separator : Lexeme) 
   pub tail : A → List Kind
   pub begins : (x : A) → map kind_of (says x) ≡ first x ∷ tail x
   pub separates : (l : Lexeme) → fits r.separator (kind_of l) ≡ true → l ≡ separator
-  pub one_item : (k : Grammar) (said : List Lexeme) → Matches (followed_by i k) (spots said) → Front says IsItem k said
+  pub one_item : (k : Grammar) (said : List Lexeme) → Matches (followed_by i k) (faultless_all said) → Front says IsItem k said
 
 -- the items of a list, and what is left
 pub record Listed {A : Type 0} (r : Rule) (s : List Kind) (g : Grammar) (first : A → Kind) (texts : List A → List Lexeme) (IsItem : A → Type 0) (said : List Lexeme) : Type 0 where
@@ -204,8 +204,8 @@ pub record Listed {A : Type 0} (r : Rule) (s : List Kind) (g : Grammar) (first :
   pub rest : List Lexeme
   pub split : said ≡ texts items ++ rest
   pub are : AllByRecursion IsItem items
-  pub free : AreFine r s (map first items)
-  pub left : Matches g (spots rest)
+  pub free : AreFaultless r s (map first items)
+  pub left : Matches g (faultless_all rest)
 
 module _ {A : Type 0} {r : Rule} {i : Grammar} {separator : Lexeme} {first : A → Kind} {says : A → List Lexeme} {IsItem : A → Type 0} (of : TellsItem r i separator first says IsItem) (g : Grammar) where
   abbrev behind : List A → List Lexeme
@@ -224,7 +224,7 @@ module _ {A : Type 0} {r : Rule} {i : Grammar} {separator : Lexeme} {first : A �
   shorter x said rest e = omega (arith, ap length e, length-append (says x) rest, ap length (of.begins x), length-map (says x) kind_of)
 
   -- an item, and those further on
-  some_items : (s : List Kind) (said : List Lexeme) → ((s : List Kind) (rest : List Lexeme) → length rest < length said → Matches (More r s i g) (spots rest) → Listed r s g first behind IsItem rest) → Matches (Items r s i g) (spots said) → (t : Listed r s g first (listed separator says) IsItem said) × (0 < length t.items)
+  some_items : (s : List Kind) (said : List Lexeme) → ((s : List Kind) (rest : List Lexeme) → length rest < length said → Matches (More r s i g) (faultless_all rest) → Listed r s g first behind IsItem rest) → Matches (Items r s i g) (faultless_all said) → (t : Listed r s g first (listed separator says) IsItem said) × (0 < length t.items)
   some_items s [] further m = absurd (no_item m)
   some_items s (l ∷ rest) further m =
       let p = item_back m in
@@ -235,14 +235,14 @@ module _ {A : Type 0} {r : Rule} {i : Grammar} {separator : Lexeme} {first : A �
           items = x.value ∷ more.items;
           rest = more.rest;
           split = and_then (says x.value) (behind more.items) more.rest x.split more.split;
-          are = (x.lawful, more.are);
-          free = (ap (mark_of r s) (sym same) ∙ p.0, subst (λ (t : Kind). AreFine r (s ++ t ∷ []) (map first more.items)) same more.free);
+          are = (x.well_formed, more.are);
+          free = (ap (item_fault r s) (sym same) ∙ p.0, subst (λ (t : Kind). AreFaultless r (s ++ t ∷ []) (map first more.items)) same more.free);
           left = more.left;
         },
         omega arith,
       )
 
-  more_items : (fuel : ℕ) (s : List Kind) (said : List Lexeme) → length said ≤ fuel → Matches (More r s i g) (spots said) → Listed r s g first behind IsItem said
+  more_items : (fuel : ℕ) (s : List Kind) (said : List Lexeme) → length said ≤ fuel → Matches (More r s i g) (faultless_all said) → Listed r s g first behind IsItem said
   more_items fuel s [] h m = record { items = []; rest = []; split = refl; are = tt; free = tt; left = more_end m }
   more_items zero s (l ∷ said) h m = absurd (omega (arith, h))
   more_items (suc fuel) s (l ∷ said) h m = elim (more_back m) [
@@ -258,9 +258,9 @@ module _ {A : Type 0} {r : Rule} {i : Grammar} {separator : Lexeme} {first : A �
   ]
 
   abbrev pub IsList : List A → Type 0
-  IsList xs = (0 < length xs) × All IsItem xs × AreFine r [] (map first xs)
+  IsList xs = (0 < length xs) × All IsItem xs × AreFaultless r [] (map first xs)
 
-  pub list_front : (said : List Lexeme) → Matches (Items r [] i g) (spots said) → Front (listed separator says) IsList g said
+  pub list_front : (said : List Lexeme) → Matches (Items r [] i g) (faultless_all said) → Front (listed separator says) IsList g said
   list_front said m =
       let t = some_items [] said (λ s rest lt n. more_items (length said) s rest (omega (arith, lt)) n) m in
-      record { value = t.0.items; rest = t.0.rest; split = t.0.split; lawful = (t.1, All-from_recursion IsItem t.0.items t.0.are, t.0.free); left = t.0.left }
+      record { value = t.0.items; rest = t.0.rest; split = t.0.split; well_formed = (t.1, All-from_recursion IsItem t.0.items t.0.are, t.0.free); left = t.0.left }

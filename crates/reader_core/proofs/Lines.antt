@@ -2,7 +2,7 @@
 use Rattle.std.proofs.Common.{◌≡◌, ◌≢◌, ℕ, true, false, List, [], ◌∷◌, ◌++◌, map, length, Some, Result, Ok, Err, IfErr, IsErrAnd, ap, sym, subst, ◌∙◌, refl, inl, inr, ◌==◌, arith, Vec, Global, vec_len}
 use Rattle.std.proofs.lemmas.Bool.{eqb-true}
 use Rattle.std.proofs.lemmas.List.{append-nil}
-use Rattle.lexer_core.specs.Lexing.{Lexeme, Says, AreTokens, IsFaultOf, heard}
+use Rattle.lexer_core.specs.Lexing.{Lexeme, Says, AreTokens, IsFaultOf, located}
 use Rattle.lexer_core.specs.declared.token.Token as tokens
 use Rattle.lexer_core.specs.declared.fault.Code.{Code}
 use Rattle.lexer_core.specs.declared.fault.Code.TheVariants as codes
@@ -12,7 +12,7 @@ use Rattle.reader_core.specs.declared.statement.Statement.{Statement}
 use Rattle.reader_core.specs.Grammar.{Fault}
 use Rattle.reader_core.specs.Recogniser.{first_fault}
 use Rattle.reader_core.specs.Cursor.{Cursor, Takes, Faults, fault_left, fault_of, left_says}
-use Rattle.reader_core.specs.Language.{statement, body, finish, statement_says, SaysStatement, IsFinished, IsLawful, Spells, IsReadFault, lexical, nothing, ungrammatical, IsReadFaultOf}
+use Rattle.reader_core.specs.Language.{statement, body, finish, statement_says, SaysStatement, IsFinished, IsWellFormed, Spells, IsReadFault, lexical, nothing, ungrammatical, IsReadFaultOf}
 use Rattle.reader_core.proofs.Theory.{sound, fault_from_first_fault}
 
 -- ---- what the reader answers
@@ -53,12 +53,12 @@ module _ (line : List ℕ) (ts deref : List tokens.Token) (first : Cursor) (star
   pub end_fault : (mid : Cursor) (said : List Lexeme) (e : ReadFault) → Takes body (λ k. k) said first mid → fault_left finish mid ≡ fault_of e → IsReadFaultOf line e
   end_fault mid said e t f = fault_so line ts e tokens_are some (λ ne. ap (λ (c : Cursor). fault_left statement c) (sym here) ∙ t.fault finish ∙ f)
 
-  pub spelled_so : (mid : Cursor) (s : Statement) → Says line (map (λ t. (heard line t).lexeme) ts) → Takes body (λ k. k) (statement_says s) first mid → IsFinished (left_says mid) → IsLawful s → Spells line s
-  spelled_so mid s says t ends lawful = record {
+  pub spelled_so : (mid : Cursor) (s : Statement) → Says line (map (λ t. (located line t).lexeme) ts) → Takes body (λ k. k) (statement_says s) first mid → IsFinished (left_says mid) → IsWellFormed s → Spells line s
+  spelled_so mid s says t ends well_formed = record {
     said = left_says (at line ts);
     says = says;
     statement_of = says_statement (left_says (at line ts)) (left_says mid) s (ap left_says (sym here) ∙ t.says) ends;
-    lawful = lawful;
+    well_formed = well_formed;
   }
 
 -- whether there are tokens

@@ -4,32 +4,32 @@ use Rattle.std.proofs.lemmas.Grind.{flat_map-append}
 use Rattle.std.proofs.lemmas.List.{append-nil, length-map}
 use Rattle.std.proofs.lemmas.List.Elements.{All-nil, All-cons, All-append}
 use Rattle.std.specs.List.{list_any, flat_map}
-use Rattle.lexer_core.specs.Lexing.{Lexeme, heard}
+use Rattle.lexer_core.specs.Lexing.{Lexeme, located}
 use Rattle.lexer_core.specs.declared.token.Kind.{Kind}
 use Rattle.lexer_core.specs.declared.token.Token as tokens
 use Rattle.lexer_core.specs.declared.fault.ReadFault.{ReadFault}
 use Rattle.lexer_core.specs.declared.fault.ReadFault.TheVariants as faults
 use Rattle.lexer_core.specs.declared.fault.Code.{Code}
 use Rattle.lexer_core.specs.declared.fault.Code.TheVariants as codes
-use Rattle.reader_core.specs.Grammar.{Grammar, Class, Rule, Items, More, One, Case, fits, mark_of, followed_by, same, mark_from}
-use Rattle.reader_core.specs.Recogniser.{first_fault, marked, step, can_end, AreFine}
+use Rattle.reader_core.specs.Grammar.{Grammar, Class, Rule, Items, More, One, Case, fits, item_fault, followed_by, same, repeated_or_too_many}
+use Rattle.reader_core.specs.Recogniser.{first_fault, with_fault, step, can_end, AreFaultless}
 use Rattle.reader_core.specs.Cursor.{Cursor, Takes, Faults, fault_of, fault_left, left_says, next_kind, next_lexeme, next_is, offset_at}
 use Rattle.reader_core.specs.Language.{listed}
 use Rattle.reader_core.proofs.Theory.{first_fault_nil, first_fault_none, first_fault_some}
 use Rattle.reader_core.proofs.Taking.{says_taken, at_line}
 
-step_item : (r : Rule) (s : List Kind) (c : Class) (i k : Grammar) (x y : Kind) (m : Option Code) → y ≡ x → fits c x ≡ true → mark_of r s x ≡ m → step (Items r s (One c i) k) y ≡ Some (m, followed_by i (More r (s ++ x ∷ []) (One c i) k))
+step_item : (r : Rule) (s : List Kind) (c : Class) (i k : Grammar) (x y : Kind) (m : Option Code) → y ≡ x → fits c x ≡ true → item_fault r s x ≡ m → step (Items r s (One c i) k) y ≡ Some (m, followed_by i (More r (s ++ x ∷ []) (One c i) k))
 step_item r s c i k x y m e f h =
     ap (λ z. step (Items r s (One c i) k) z) e
-    ∙ ap (λ b. marked (mark_of r s x) (if b then Some (followed_by i (More r (s ++ x ∷ []) (One c i) k)) else None)) f
-    ∙ ap (λ z. marked z (Some (followed_by i (More r (s ++ x ∷ []) (One c i) k)))) h
+    ∙ ap (λ b. with_fault (item_fault r s x) (if b then Some (followed_by i (More r (s ++ x ∷ []) (One c i) k)) else None)) f
+    ∙ ap (λ z. with_fault z (Some (followed_by i (More r (s ++ x ∷ []) (One c i) k)))) h
 
 step_misfit : (r : Rule) (s : List Kind) (c : Class) (i k : Grammar) (y : Kind) → fits c y ≡ false → step (Items r s (One c i) k) y ≡ None
-step_misfit r s c i k y f = ap (λ b. marked (mark_of r s y) (if b then Some (followed_by i (More r (s ++ y ∷ []) (One c i) k)) else None)) f
+step_misfit r s c i k y f = ap (λ b. with_fault (item_fault r s y) (if b then Some (followed_by i (More r (s ++ y ∷ []) (One c i) k)) else None)) f
 
 -- ---- the first token of an item
 module _ (at : Cursor) (r : Rule) (s : List Kind) (c : Class) (i k : Grammar) where
-  pub item_bad : (x : Kind) (code : Code) → next_kind at ≡ Some x → fits c x ≡ true → mark_of r s x ≡ Some code → fault_left (Items r s (One c i) k) at ≡ Some (code, offset_at at)
+  pub item_bad : (x : Kind) (code : Code) → next_kind at ≡ Some x → fits c x ≡ true → item_fault r s x ≡ Some code → fault_left (Items r s (One c i) k) at ≡ Some (code, offset_at at)
   item_bad x code is f m = go at.rest is
     where
       go : (ts : List tokens.Token) → next_kind (at_line at.line ts) ≡ Some x → fault_left (Items r s (One c i) k) (at_line at.line ts) ≡ Some (code, offset_at (at_line at.line ts))
@@ -47,11 +47,11 @@ pub item_misfit_at : (old : Cursor) (r : Rule) (s : List Kind) (c : Class) (i : 
 item_misfit_at old r s c i e same h = record { fault = λ ne k. item_misfit old r s c i k h ∙ sym (ap fault_of same) }
 
 -- an item past the limit, where items may repeat
-pub item_bad_at : (old : Cursor) (r : Rule) (s : List Kind) (c : Class) (i : Grammar) (code : Code) (e : ReadFault) → r.distinct ≡ false → next_is c old ≡ true → mark_from false (length s) r.limit ≡ Some code → e ≡ faults.At code (offset_at old) → Faults (λ k. Items r s (One c i) k) e old
+pub item_bad_at : (old : Cursor) (r : Rule) (s : List Kind) (c : Class) (i : Grammar) (code : Code) (e : ReadFault) → r.distinct ≡ false → next_is c old ≡ true → repeated_or_too_many false (length s) r.limit ≡ Some code → e ≡ faults.At code (offset_at old) → Faults (λ k. Items r s (One c i) k) e old
 item_bad_at old r s c i code e any is m fault = record { fault = λ ne k. go k old.rest is ∙ sym (ap fault_of fault) }
   where
-    at_any : (t : Kind) → mark_of r s t ≡ Some code
-    at_any t = ap (λ b. mark_from (b && list_any (λ x. same x t) s) (length s) r.limit) any ∙ m
+    at_any : (t : Kind) → item_fault r s t ≡ Some code
+    at_any t = ap (λ b. repeated_or_too_many (b && list_any (λ x. same x t) s) (length s) r.limit) any ∙ m
 
     go : (k : Grammar) (ts : List tokens.Token) → next_is c (at_line old.line ts) ≡ true → fault_left (Items r s (One c i) k) (at_line old.line ts) ≡ Some (code, offset_at (at_line old.line ts))
     go k [] e = cc
@@ -62,7 +62,7 @@ pub item_misfit_so : {V : Type 0} (old : Cursor) (r : Rule) (s : List Kind) (c :
 item_misfit_so old r s c i e h = let p = h.0 in let same : e ≡ faults.At codes.Expected (offset_at old) = cc in item_misfit_at old r s c i e same h.1
 
 -- the token that begins an item is taken
-pub item_taken : {old new : Cursor} (r : Rule) (s : List Kind) (c : Class) (i : Grammar) (x : Kind) (l : Lexeme) → next_kind old ≡ Some x → next_lexeme old ≡ Some l → fits c x ≡ true → mark_of r s x ≡ None → new.rest ≡ drop 1 old.rest → new.line ≡ old.line → Takes (λ k. Items r s (One c i) k) (λ k. followed_by i (More r (s ++ x ∷ []) (One c i) k)) (l ∷ []) old new
+pub item_taken : {old new : Cursor} (r : Rule) (s : List Kind) (c : Class) (i : Grammar) (x : Kind) (l : Lexeme) → next_kind old ≡ Some x → next_lexeme old ≡ Some l → fits c x ≡ true → item_fault r s x ≡ None → new.rest ≡ drop 1 old.rest → new.line ≡ old.line → Takes (λ k. Items r s (One c i) k) (λ k. followed_by i (More r (s ++ x ∷ []) (One c i) k)) (l ∷ []) old new
 item_taken {old} {new} r s c i x l is says f m rest line = record {
   says = says_taken old new l says rest line;
   line = line;
@@ -99,13 +99,13 @@ pub record SoFar {A : Type 0} (r : Rule) (separator : Lexeme) (i : Grammar) (fir
   pub line : here.line ≡ old.line
   pub fault : (k : Grammar) → fault_left (Items r [] i k) old ≡ fault_left (Items r (map first xs) i k) here
   pub said : separator ∷ left_says old ≡ behind_each separator says xs ++ separator ∷ left_says here
-  pub fine : AreFine r [] (map first xs)
-  pub lawful : All IsItem xs
+  pub faultless : AreFaultless r [] (map first xs)
+  pub well_formed : All IsItem xs
 
--- fine items, with one more
-fine_push : (r : Rule) (seen ks : List Kind) (k : Kind) → AreFine r seen ks → mark_of r (seen ++ ks) k ≡ None → AreFine r seen (ks ++ k ∷ [])
-fine_push r seen [] k h m = (subst (λ (s : List Kind). mark_of r s k ≡ None) (append-nil seen) m, tt)
-fine_push r seen (j ∷ ks) k h m = (h.0, fine_push r (seen ++ j ∷ []) ks k h.1 (subst (λ (s : List Kind). mark_of r s k ≡ None) (sym (append_assoc seen (j ∷ []) ks)) m))
+-- faultless items, with one more
+fine_push : (r : Rule) (seen ks : List Kind) (k : Kind) → AreFaultless r seen ks → item_fault r (seen ++ ks) k ≡ None → AreFaultless r seen (ks ++ k ∷ [])
+fine_push r seen [] k h m = (subst (λ (s : List Kind). item_fault r s k ≡ None) (append-nil seen) m, tt)
+fine_push r seen (j ∷ ks) k h m = (h.0, fine_push r (seen ++ j ∷ []) ks k h.1 (subst (λ (s : List Kind). item_fault r s k ≡ None) (sym (append_assoc seen (j ∷ []) ks)) m))
 
 pub firsts_push : {A : Type 0} (first : A → Kind) (xs : List A) (x : A) → map first (xs ++ x ∷ []) ≡ map first xs ++ first x ∷ []
 firsts_push first [] x = refl
@@ -116,27 +116,27 @@ firsts_length first [] = refl
 firsts_length first (x ∷ xs) = ap suc (firsts_length first xs)
 
 pub nothing_yet : {A : Type 0} (r : Rule) (separator : Lexeme) (i : Grammar) (first : A → Kind) (says : A → List Lexeme) (IsItem : A → Type 0) (xs : List A) (here : Cursor) → xs ≡ [] → SoFar r separator i first says IsItem xs here here
-nothing_yet {A} r separator i first says IsItem xs here e = subst (λ (ys : List A). SoFar r separator i first says IsItem ys here here) (sym e) (record { line = refl; fault = λ k. refl; said = refl; fine = tt; lawful = All-nil IsItem })
+nothing_yet {A} r separator i first says IsItem xs here e = subst (λ (ys : List A). SoFar r separator i first says IsItem ys here here) (sym e) (record { line = refl; fault = λ k. refl; said = refl; faultless = tt; well_formed = All-nil IsItem })
 
 module _ {A : Type 0} {r : Rule} {separator : Lexeme} {i : Grammar} {first : A → Kind} {says : A → List Lexeme} {IsItem : A → Type 0} {xs : List A} {old here mid : Cursor} (x : A)
-    (so_far : SoFar r separator i first says IsItem xs old here) (t : Takes (λ k. Items r (map first xs) i k) (λ k. More r (map first (xs ++ x ∷ [])) i k) (says x) here mid) (m : mark_of r (map first xs) (first x) ≡ None) (is_item : IsItem x) where
+    (so_far : SoFar r separator i first says IsItem xs old here) (t : Takes (λ k. Items r (map first xs) i k) (λ k. More r (map first (xs ++ x ∷ [])) i k) (says x) here mid) (m : item_fault r (map first xs) (first x) ≡ None) (is_item : IsItem x) where
   pub lawful_on : All IsItem (xs ++ x ∷ [])
-  lawful_on = All-append IsItem xs (x ∷ []) so_far.lawful (All-cons IsItem x [] is_item (All-nil IsItem))
+  lawful_on = All-append IsItem xs (x ∷ []) so_far.well_formed (All-cons IsItem x [] is_item (All-nil IsItem))
 
-  pub fine_on : AreFine r [] (map first (xs ++ x ∷ []))
-  fine_on = subst (AreFine r []) (sym (firsts_push first xs x)) (fine_push r [] (map first xs) (first x) so_far.fine m)
+  pub faultless_on : AreFaultless r [] (map first (xs ++ x ∷ []))
+  faultless_on = subst (AreFaultless r []) (sym (firsts_push first xs x)) (fine_push r [] (map first xs) (first x) so_far.faultless m)
 
   pub list_on : (new : Cursor) → next_is r.separator mid ≡ true → next_lexeme mid ≡ Some separator → new.rest ≡ drop 1 mid.rest → new.line ≡ mid.line → SoFar r separator i first says IsItem (xs ++ x ∷ []) old new
-  list_on new is heard rest line =
-      let said = says_taken mid new separator heard rest line in
+  list_on new is located rest line =
+      let said = says_taken mid new separator located rest line in
       record {
         line = line ∙ t.line ∙ so_far.line;
         fault = λ k. so_far.fault k ∙ t.fault k ∙ more_on (length mid.line) mid.line mid.rest r (map first (xs ++ x ∷ [])) i k is
             ∙ ap (λ (ts : List tokens.Token). first_fault (length mid.line) (Items r (map first (xs ++ x ∷ [])) i k) ts) (sym rest)
             ∙ ap (λ (b : List ℕ). first_fault (length b) (Items r (map first (xs ++ x ∷ [])) i k) new.rest) (sym line);
         said = so_far.said ∙ ap (λ z. behind_each separator says xs ++ separator ∷ z) (t.says ∙ ap (λ z. says x ++ z) said) ∙ sym (each_push separator says xs x (separator ∷ left_says new));
-        fine = fine_on;
-        lawful = lawful_on;
+        faultless = faultless_on;
+        well_formed = lawful_on;
       }
 
   pub list_done : next_is r.separator mid ≡ false → Takes (λ k. Items r [] i k) (λ k. k) (listed separator says (xs ++ x ∷ [])) old mid
@@ -151,7 +151,7 @@ module _ {A : Type 0} {r : Rule} {separator : Lexeme} {i : Grammar} {first : A �
 -- a list goes on behind fewer tokens
 pub shorter : (old mid new : Cursor) (c : Class) (said : List Lexeme) → left_says old ≡ said ++ left_says mid → next_is c mid ≡ true → new.rest ≡ drop 1 mid.rest → length new.rest < length old.rest
 shorter old mid new c said e is rest =
-    let count : length old.rest ≡ length said + length mid.rest = sym (length-map old.rest (λ t. (heard old.line t).lexeme)) ∙ ap length e ∙ length-append said (left_says mid) ∙ ap (λ n. length said + n) (length-map mid.rest (λ t. (heard mid.line t).lexeme)) in
+    let count : length old.rest ≡ length said + length mid.rest = sym (length-map old.rest (λ t. (located old.line t).lexeme)) ∙ ap length e ∙ length-append said (left_says mid) ∙ ap (λ n. length said + n) (length-map mid.rest (λ t. (located mid.line t).lexeme)) in
     let less : length (drop 1 mid.rest) < length mid.rest = go mid.rest is in
     let same : length new.rest ≡ length (drop 1 mid.rest) = ap length rest in
     omega arith

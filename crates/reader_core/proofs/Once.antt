@@ -20,7 +20,7 @@ use Rattle.reader_core.specs.declared.privilege.Privilege.{Privilege}
 use Rattle.reader_core.specs.declared.privilege.Privilege.TheVariants as privileges_of
 use Rattle.reader_core.specs.declared.statement.Statement.{Statement}
 use Rattle.reader_core.specs.declared.statement.Statement.TheVariants as statements
-use Rattle.reader_core.specs.Language.{comma, listed, name_says, names_say, user_says, column_says, value_says, value_lexeme, type_lexeme, comparison_mark, condition_says, set_says, filter_says, selection_says, columns_say, privilege_says, option_says, only_says, statement_says, SaysStatement}
+use Rattle.reader_core.specs.Language.{comma_lexeme, listed, name_says, names_say, user_says, column_says, value_says, value_lexeme, type_lexeme, comparison_mark, condition_says, set_says, filter_says, selection_says, columns_say, privilege_says, option_says, only_says, statement_says, SaysStatement}
 use Rattle.reader_core.proofs.Whole.{ending, ended}
 
 abbrev bracket : Lexeme
@@ -131,11 +131,11 @@ one_condition x y u v _ _ e =
     let k : value_lexeme x.literal ≡ value_lexeme y.literal = cc in
     (same_condition x y (cc) (same_comparison x.comparison y.comparison m) (same_value x.literal y.literal k), cc)
 
-same_names : (xs ys : List Name) (u v : List Lexeme) → Stops comma name_says u → Stops comma name_says v → names_say xs ++ u ≡ names_say ys ++ v → (xs ≡ ys) × (u ≡ v)
-same_names = same_list comma name_says (λ e. cc) one_name
+same_names : (xs ys : List Name) (u v : List Lexeme) → Stops comma_lexeme name_says u → Stops comma_lexeme name_says v → names_say xs ++ u ≡ names_say ys ++ v → (xs ≡ ys) × (u ≡ v)
+same_names = same_list comma_lexeme name_says (λ e. cc) one_name
 
 -- a closing bracket or a keyword stops a list of names
-closes : (w : List Lexeme) → Stops comma name_says (close ∷ w)
+closes : (w : List Lexeme) → Stops comma_lexeme name_says (close ∷ w)
 closes w = record { calm = λ v e. cc; shut = λ v e. cc; none = λ y z e. cc }
 
 same_columns : (c d : Option (List Name)) (u v : List Lexeme) → IsFree bracket u → IsFree bracket v → columns_say c ++ u ≡ columns_say d ++ v → (c ≡ d) × (u ≡ v)
@@ -172,7 +172,7 @@ same_filter (c ∷ cs) (d ∷ ds) a b e =
     stops true = record { calm = λ v e. cc; shut = λ v e. cc; none = λ y z e. cc }
     stops false = record { calm = λ v e. cc; shut = λ v e. cc; none = λ y z e. cc }
 
-filter_stops : (cs : List Condition) (b : Bool) → Stops comma set_says (filter_says cs ++ ending b)
+filter_stops : (cs : List Condition) (b : Bool) → Stops comma_lexeme set_says (filter_says cs ++ ending b)
 filter_stops [] true = record { calm = λ v e. cc; shut = λ v e. cc; none = λ y z e. cc }
 filter_stops [] false = record { calm = λ v e. cc; shut = λ v e. cc; none = λ y z e. cc }
 filter_stops (c ∷ cs) b = record { calm = λ v e. cc; shut = λ v e. cc; none = λ y z e. cc }
@@ -185,7 +185,7 @@ same_option true false a false e = cc
 same_option false true true b e = cc
 same_option false true false b e = cc
 
-option_stops : (o b : Bool) → Stops comma user_says (option_says o ++ ending b)
+option_stops : (o b : Bool) → Stops comma_lexeme user_says (option_says o ++ ending b)
 option_stops true b = record { calm = λ v e. cc; shut = λ v e. cc; none = λ y z e. cc }
 option_stops false true = record { calm = λ v e. cc; shut = λ v e. cc; none = λ y z e. cc }
 option_stops false false = record { calm = λ v e. cc; shut = λ v e. cc; none = λ y z e. cc }
@@ -201,7 +201,7 @@ same_only (Some m) None a false e = cc
 abbrev from : Name → List Condition → List Lexeme
 from table cs = lexemes.Key keywords.From ∷ lexemes.Named table ∷ filter_says cs
 
-from_stops : (table : Name) (cs : List Condition) (b : Bool) → Stops comma name_says (from table cs ++ ending b)
+from_stops : (table : Name) (cs : List Condition) (b : Bool) → Stops comma_lexeme name_says (from table cs ++ ending b)
 from_stops table cs b = record { calm = λ v e. cc; shut = λ v e. cc; none = λ y z e. cc }
 
 same_selection : (l k : Option (List Name)) (m n : Name) (cs ds : List Condition) (a b : Bool) → (selection_says l ++ from m cs) ++ ending a ≡ (selection_says k ++ from n ds) ++ ending b → (l ≡ k) × (from m cs ++ ending a ≡ from n ds ++ ending b)
@@ -211,14 +211,14 @@ same_selection None (Some (y ∷ ys)) m n cs ds a b e = cc
 same_selection (Some []) None m n cs ds a b e = cc
 same_selection (Some (x ∷ xs)) None m n cs ds a b e = cc
 same_selection (Some xs) (Some ys) m n cs ds a b e =
-    let r = same_front comma name_says (λ z. cc) one_name xs ys (from m cs) (from n ds) (ending a) (ending b) (from_stops m cs a) (from_stops n ds b) e in
+    let r = same_front comma_lexeme name_says (λ z. cc) one_name xs ys (from m cs) (from n ds) (ending a) (ending b) (from_stops m cs a) (from_stops n ds b) e in
     (ap Some r.0, r.1)
 
 -- ON name, and then a keyword
 abbrev on : Name → List Lexeme → List Lexeme
 on table u = lexemes.Key keywords.On ∷ lexemes.Named table ∷ u
 
-on_stops : (table : Name) (u : List Lexeme) (b : Bool) → Stops comma privilege_says (on table u ++ ending b)
+on_stops : (table : Name) (u : List Lexeme) (b : Bool) → Stops comma_lexeme privilege_says (on table u ++ ending b)
 on_stops table u b = record { calm = λ v e. cc; shut = λ v e. cc; none = none }
   where
     none : (y : Privilege) (w : List Lexeme) → on table u ++ ending b ≡ privilege_says y ++ w → ⊥
@@ -227,32 +227,32 @@ on_stops table u b = record { calm = λ v e. cc; shut = λ v e. cc; none = none 
     none privileges_of.Delete w e = cc
     none (privileges_of.Update c) w e = cc
 
-same_privileges : (xs ys : List Privilege) (m n : Name) (u v : List Lexeme) (a b : Bool) → (listed comma privilege_says xs ++ on m u) ++ ending a ≡ (listed comma privilege_says ys ++ on n v) ++ ending b → (xs ≡ ys) × (on m u ++ ending a ≡ on n v ++ ending b)
-same_privileges xs ys m n u v a b e = same_front comma privilege_says (λ z. cc) one_privilege xs ys (on m u) (on n v) (ending a) (ending b) (on_stops m u a) (on_stops n v b) e
+same_privileges : (xs ys : List Privilege) (m n : Name) (u v : List Lexeme) (a b : Bool) → (listed comma_lexeme privilege_says xs ++ on m u) ++ ending a ≡ (listed comma_lexeme privilege_says ys ++ on n v) ++ ending b → (xs ≡ ys) × (on m u ++ ending a ≡ on n v ++ ending b)
+same_privileges xs ys m n u v a b e = same_front comma_lexeme privilege_says (λ z. cc) one_privilege xs ys (on m u) (on n v) (ending a) (ending b) (on_stops m u a) (on_stops n v b) e
 
-close_stops_columns : (b : Bool) → Stops comma column_says (close ∷ [] ++ ending b)
+close_stops_columns : (b : Bool) → Stops comma_lexeme column_says (close ∷ [] ++ ending b)
 close_stops_columns b = record { calm = λ v e. cc; shut = λ v e. cc; none = λ y z e. cc }
 
-close_stops_values : (b : Bool) → Stops comma value_says (close ∷ [] ++ ending b)
+close_stops_values : (b : Bool) → Stops comma_lexeme value_says (close ∷ [] ++ ending b)
 close_stops_values b = record { calm = λ v e. cc; shut = λ v e. cc; none = none }
   where
     none : (y : Value) (w : List Lexeme) → close ∷ [] ++ ending b ≡ value_says y ++ w → ⊥
     none (values.Int n) w e = cc
     none (values.Text n) w e = cc
 
-users_stop : (b : Bool) → Stops comma user_says (ending b)
+users_stop : (b : Bool) → Stops comma_lexeme user_says (ending b)
 users_stop true = record { calm = λ v e. cc; shut = λ v e. cc; none = λ y z e. cc }
 users_stop false = record { calm = λ v e. cc; shut = λ v e. cc; none = λ y z e. cc }
 
 same_statement : (s t : Statement) (a b : Bool) → statement_says s ++ ending a ≡ statement_says t ++ ending b → s ≡ t
 same_statement (statements.CreateTable m xs) (statements.CreateTable n ys) a b e =
-    let f : (listed comma column_says xs ++ close ∷ []) ++ ending a ≡ (listed comma column_says ys ++ close ∷ []) ++ ending b = cc in
-    let l = same_front comma column_says (λ z. cc) one_column xs ys (close ∷ []) (close ∷ []) (ending a) (ending b) (close_stops_columns a) (close_stops_columns b) f in
+    let f : (listed comma_lexeme column_says xs ++ close ∷ []) ++ ending a ≡ (listed comma_lexeme column_says ys ++ close ∷ []) ++ ending b = cc in
+    let l = same_front comma_lexeme column_says (λ z. cc) one_column xs ys (close ∷ []) (close ∷ []) (ending a) (ending b) (close_stops_columns a) (close_stops_columns b) f in
     let same : xs ≡ ys = l.0 in
     cc
 same_statement (statements.Insert m xs) (statements.Insert n ys) a b e =
-    let f : (listed comma value_says xs ++ close ∷ []) ++ ending a ≡ (listed comma value_says ys ++ close ∷ []) ++ ending b = cc in
-    let l = same_front comma value_says (λ z. cc) one_value xs ys (close ∷ []) (close ∷ []) (ending a) (ending b) (close_stops_values a) (close_stops_values b) f in
+    let f : (listed comma_lexeme value_says xs ++ close ∷ []) ++ ending a ≡ (listed comma_lexeme value_says ys ++ close ∷ []) ++ ending b = cc in
+    let l = same_front comma_lexeme value_says (λ z. cc) one_value xs ys (close ∷ []) (close ∷ []) (ending a) (ending b) (close_stops_values a) (close_stops_values b) f in
     let same : xs ≡ ys = l.0 in
     cc
 same_statement (statements.Select l m cs) (statements.Select k n ds) a b e =
@@ -268,31 +268,31 @@ same_statement (statements.Delete m cs) (statements.Delete n ds) a b e =
     let table : m ≡ n = cc in
     cc
 same_statement (statements.Update m xs cs) (statements.Update n ys ds) a b e =
-    let f : (listed comma set_says xs ++ filter_says cs) ++ ending a ≡ (listed comma set_says ys ++ filter_says ds) ++ ending b = cc in
-    let l = same_front comma set_says (λ z. cc) one_set xs ys (filter_says cs) (filter_says ds) (ending a) (ending b) (filter_stops cs a) (filter_stops ds b) f in
+    let f : (listed comma_lexeme set_says xs ++ filter_says cs) ++ ending a ≡ (listed comma_lexeme set_says ys ++ filter_says ds) ++ ending b = cc in
+    let l = same_front comma_lexeme set_says (λ z. cc) one_set xs ys (filter_says cs) (filter_says ds) (ending a) (ending b) (filter_stops cs a) (filter_stops ds b) f in
     let sets : xs ≡ ys = l.0 in
     let same : cs ≡ ds = same_filter cs ds a b l.1 in
     let table : m ≡ n = cc in
     cc
 same_statement (statements.Grant ps m us o) (statements.Grant qs n vs p) a b e =
-    let f : (listed comma privilege_says ps ++ on m (lexemes.Key keywords.To ∷ (listed comma user_says us ++ option_says o))) ++ ending a ≡ (listed comma privilege_says qs ++ on n (lexemes.Key keywords.To ∷ (listed comma user_says vs ++ option_says p))) ++ ending b = cc in
+    let f : (listed comma_lexeme privilege_says ps ++ on m (lexemes.Key keywords.To ∷ (listed comma_lexeme user_says us ++ option_says o))) ++ ending a ≡ (listed comma_lexeme privilege_says qs ++ on n (lexemes.Key keywords.To ∷ (listed comma_lexeme user_says vs ++ option_says p))) ++ ending b = cc in
     let l = same_privileges ps qs m n _ _ a b f in
     let privileges : ps ≡ qs = l.0 in
-    let behind : on m (lexemes.Key keywords.To ∷ (listed comma user_says us ++ option_says o)) ++ ending a ≡ on n (lexemes.Key keywords.To ∷ (listed comma user_says vs ++ option_says p)) ++ ending b = l.1 in
+    let behind : on m (lexemes.Key keywords.To ∷ (listed comma_lexeme user_says us ++ option_says o)) ++ ending a ≡ on n (lexemes.Key keywords.To ∷ (listed comma_lexeme user_says vs ++ option_says p)) ++ ending b = l.1 in
     let table : m ≡ n = cc in
-    let g : (listed comma user_says us ++ option_says o) ++ ending a ≡ (listed comma user_says vs ++ option_says p) ++ ending b = cc in
-    let r = same_front comma user_says (λ z. cc) one_user us vs (option_says o) (option_says p) (ending a) (ending b) (option_stops o a) (option_stops p b) g in
+    let g : (listed comma_lexeme user_says us ++ option_says o) ++ ending a ≡ (listed comma_lexeme user_says vs ++ option_says p) ++ ending b = cc in
+    let r = same_front comma_lexeme user_says (λ z. cc) one_user us vs (option_says o) (option_says p) (ending a) (ending b) (option_stops o a) (option_stops p b) g in
     let users : us ≡ vs = r.0 in
     let option : o ≡ p = same_option o p a b r.1 in
     cc
 same_statement (statements.Revoke ps m us) (statements.Revoke qs n vs) a b e =
-    let f : (listed comma privilege_says ps ++ on m (lexemes.Key keywords.From ∷ listed comma user_says us)) ++ ending a ≡ (listed comma privilege_says qs ++ on n (lexemes.Key keywords.From ∷ listed comma user_says vs)) ++ ending b = cc in
+    let f : (listed comma_lexeme privilege_says ps ++ on m (lexemes.Key keywords.From ∷ listed comma_lexeme user_says us)) ++ ending a ≡ (listed comma_lexeme privilege_says qs ++ on n (lexemes.Key keywords.From ∷ listed comma_lexeme user_says vs)) ++ ending b = cc in
     let l = same_privileges ps qs m n _ _ a b f in
     let privileges : ps ≡ qs = l.0 in
-    let behind : on m (lexemes.Key keywords.From ∷ listed comma user_says us) ++ ending a ≡ on n (lexemes.Key keywords.From ∷ listed comma user_says vs) ++ ending b = l.1 in
+    let behind : on m (lexemes.Key keywords.From ∷ listed comma_lexeme user_says us) ++ ending a ≡ on n (lexemes.Key keywords.From ∷ listed comma_lexeme user_says vs) ++ ending b = l.1 in
     let table : m ≡ n = cc in
-    let g : listed comma user_says us ++ ending a ≡ listed comma user_says vs ++ ending b = cc in
-    let r = same_list comma user_says (λ z. cc) one_user us vs (ending a) (ending b) (users_stop a) (users_stop b) g in
+    let g : listed comma_lexeme user_says us ++ ending a ≡ listed comma_lexeme user_says vs ++ ending b = cc in
+    let r = same_list comma_lexeme user_says (λ z. cc) one_user us vs (ending a) (ending b) (users_stop a) (users_stop b) g in
     let users : us ≡ vs = r.0 in
     cc
 same_statement statements.Checkpoint statements.Checkpoint a b e = refl

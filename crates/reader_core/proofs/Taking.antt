@@ -10,7 +10,7 @@ use Rattle.base_core.specs.declared.value.ColType.{ColType}
 use Rattle.base_core.specs.declared.value.ColType.TheVariants as types
 use Rattle.base_core.specs.declared.condition.Comparison.{Comparison}
 use Rattle.base_core.specs.declared.condition.Comparison.TheVariants as comparisons
-use Rattle.lexer_core.specs.Lexing.{Lexeme, AreHeard, heard, lexeme_of, kind_of}
+use Rattle.lexer_core.specs.Lexing.{Lexeme, AreSpelled, located, lexeme_of, kind_of}
 use Rattle.lexer_core.specs.Lexing as lexemes
 use Rattle.lexer_core.specs.declared.token.Kind.{Kind}
 use Rattle.lexer_core.specs.declared.token.Kind.TheVariants as kinds
@@ -26,10 +26,10 @@ use Rattle.reader_core.specs.Cursor.{Cursor, Takes, Faults, fault_left, left_say
 use Rattle.reader_core.specs.Language.{type_lexeme, value_lexeme, comparison_mark}
 use Rattle.reader_core.proofs.Theory.{first_fault_nil, first_fault_none, first_fault_some}
 
--- what is left is heard too
-pub AreHeard-drop : (line : List ℕ) (ts : List tokens.Token) → AreHeard line ts → AreHeard line (drop 1 ts)
-AreHeard-drop line [] h = h
-AreHeard-drop line (t ∷ ts) h = h.1
+-- what is left is spelled too
+pub AreSpelled-drop : (line : List ℕ) (ts : List tokens.Token) → AreSpelled line ts → AreSpelled line (drop 1 ts)
+AreSpelled-drop line [] h = h
+AreSpelled-drop line (t ∷ ts) h = h.1
 
 abbrev pub at_line : List ℕ → List tokens.Token → Cursor
 at_line line ts = record { line = line; rest = ts }
@@ -54,7 +54,7 @@ says_taken old new l e rest line = go old.rest e ∙ ap (λ (c : Cursor). l ∷ 
 
     go : (ts : List tokens.Token) → next_lexeme (at_line old.line ts) ≡ Some l → left_says (at_line old.line ts) ≡ l ∷ left_says (at_line old.line (drop 1 ts))
     go [] e = cc
-    go (t ∷ ts) e = let is : (heard old.line t).lexeme ≡ l = cc in ap (λ (x : Lexeme). x ∷ left_says (at_line old.line ts)) is
+    go (t ∷ ts) e = let is : (located old.line t).lexeme ≡ l = cc in ap (λ (x : Lexeme). x ∷ left_says (at_line old.line ts)) is
 
 -- a token of the class was taken
 pub one_taken : (old new : Cursor) (c : Class) (l : Lexeme) → next_is c old ≡ true → next_lexeme old ≡ Some l → new.rest ≡ drop 1 old.rest → new.line ≡ old.line → Takes (λ g. One c g) (λ g. g) (l ∷ []) old new

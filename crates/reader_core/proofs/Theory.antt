@@ -8,10 +8,10 @@ use Rattle.lexer_core.specs.declared.token.Kind.TheVariants as kinds
 use Rattle.lexer_core.specs.declared.token.Token as tokens
 use Rattle.lexer_core.specs.declared.fault.Code.{Code}
 use Rattle.lexer_core.specs.declared.fault.Code.TheVariants as codes
-use Rattle.reader_core.specs.Grammar.{Grammar, End, One, Case, Items, More, Class, Key, Sign, AnyName, AnyLiteral, AnyType, AnyTest, AtLeastOne, fits, mark_of, mark_from, followed_by, Fault}
-use Rattle.reader_core.specs.Recogniser.{marked, enter, step, can_end, first_fault}
+use Rattle.reader_core.specs.Grammar.{Grammar, End, One, Case, Items, More, Class, Key, Sign, AnyName, AnyLiteral, AnyType, AnyTest, AtLeastOne, fits, item_fault, repeated_or_too_many, followed_by, Fault}
+use Rattle.reader_core.specs.Recogniser.{with_fault, enter, step, can_end, first_fault}
 use Rattle.reader_core.specs.Language.{statement}
-use Rattle.reader_core.specs.Matches.{Spot, fine, is_next, Matches, done, one, this, other, item, next, last, IsWhole, Begins, GoesOn, IsWrongAt, IsWrongHere, IsFault}
+use Rattle.reader_core.specs.Matches.{TokenWithFault, faultless, is_next, Matches, done, one, this, other, item, next, last, IsWhole, IsViablePrefix, CanFollow, IsWrongAt, IsWrongHere, IsFault}
 
 -- ---- grammars whose items begin with a token of their own, and whose lists are followed by no comma
 abbrev pub BeginsWithToken : Grammar → Type 0
@@ -48,7 +48,7 @@ can_end_no (last n m) = can_end_no m
 
 -- ---- one token
 -- a sentence's first token is a step
-enter_of : (i k : Grammar) {t : Kind} {ss : List Spot} → BeginsWithToken i → Matches (followed_by i k) (fine t ∷ ss) → (g : Grammar) × (enter i k t ≡ Some g) × Matches g ss
+enter_of : (i k : Grammar) {t : Kind} {ss : List TokenWithFault} → BeginsWithToken i → Matches (followed_by i k) (faultless t ∷ ss) → (g : Grammar) × (enter i k t ≡ Some g) × Matches g ss
 enter_of End k b m = absurd b
 enter_of (One c g) k b (one f m) = (followed_by g k, ap (λ x. if x then Some (followed_by g k) else None) f, m)
 enter_of (Case c a d) k {t} b (this f m) = (followed_by a k, ap (λ x. if x then Some (followed_by a k) else enter d k t) f, m)
@@ -88,12 +88,12 @@ IsSound (Case c a b) = IsSound a × IsSound b
 IsSound (Items r s i g) = BeginsWithToken i × IsSound i × IsSound g × IsCalm r.separator g
 IsSound (More r s i g) = BeginsWithToken i × IsSound i × IsSound g × IsCalm r.separator g
 
-step_of : (g : Grammar) {t : Kind} {w : Option Code} {ss : List Spot} → IsSound g → Matches g (record { kind = t; wrong = w } ∷ ss) → (g' : Grammar) × (step g t ≡ Some (w, g')) × Matches g' ss
+step_of : (g : Grammar) {t : Kind} {w : Option Code} {ss : List TokenWithFault} → IsSound g → Matches g (record { kind = t; wrong = w } ∷ ss) → (g' : Grammar) × (step g t ≡ Some (w, g')) × Matches g' ss
 step_of End b m = elim m [ ]
 step_of (One c g) b (one f m) = (g, ap (λ x. if x then Some (None, g) else None) f, m)
 step_of (Case c a d) {t} b (this f m) = (a, ap (λ x. if x then Some (None, a) else step d t) f, m)
 step_of (Case c a d) {t} b (other n m) = let r = step_of d b.1 m in (r.0, ap (λ x. if x then Some (None, a) else step d t) n ∙ r.1, r.2)
-step_of (Items r s i g) {t} b (item m) = let e = enter_of i _ b.0 m in (e.0, ap (marked (mark_of r s t)) e.1, e.2)
+step_of (Items r s i g) {t} b (item m) = let e = enter_of i _ b.0 m in (e.0, ap (with_fault (item_fault r s t)) e.1, e.2)
 step_of (More r s i g) {t} b (next f m) = (Items r s i g, ap (λ x. if x then Some (None, Items r s i g) else step g t) f, m)
 step_of (More r s i g) {t} b (last n m) = let e = step_of g b.2 m in (e.0, ap (λ x. if x then Some (None, Items r s i g) else step g t) n ∙ e.1, e.2)
 
@@ -105,11 +105,11 @@ choose false e = inr (refl, e)
 same_step : (p q : Option Code × Grammar) → Some p ≡ Some q → (p.0 ≡ q.0) × (p.1 ≡ q.1)
 same_step p q e = let h : p ≡ q = cc in (ap (λ (x : Option Code × Grammar). x.0) h, ap (λ (x : Option Code × Grammar). x.1) h)
 
-at_step : {g g1 g2 : Grammar} {t : Kind} {w v : Option Code} {ss : List Spot} → (v ≡ w) × (g1 ≡ g2) → (Matches g1 ss → Matches g (record { kind = t; wrong = v } ∷ ss)) → Matches g2 ss → Matches g (record { kind = t; wrong = w } ∷ ss)
+at_step : {g g1 g2 : Grammar} {t : Kind} {w v : Option Code} {ss : List TokenWithFault} → (v ≡ w) × (g1 ≡ g2) → (Matches g1 ss → Matches g (record { kind = t; wrong = v } ∷ ss)) → Matches g2 ss → Matches g (record { kind = t; wrong = w } ∷ ss)
 at_step {g} {g1} {g2} {t} {w} {v} {ss} e f m =
     subst (λ (x : Option Code). Matches g (record { kind = t; wrong = x } ∷ ss)) e.0 (f (subst (λ (x : Grammar). Matches x ss) (sym e.1) m))
 
-enter_back : (i k : Grammar) {t : Kind} {g : Grammar} {ss : List Spot} → enter i k t ≡ Some g → Matches g ss → Matches (followed_by i k) (fine t ∷ ss)
+enter_back : (i k : Grammar) {t : Kind} {g : Grammar} {ss : List TokenWithFault} → enter i k t ≡ Some g → Matches g ss → Matches (followed_by i k) (faultless t ∷ ss)
 enter_back End k e m = cc
 enter_back (One c h) k {t} {g} {ss} e m = elim (choose (fits c t) e) [
   | inl p ↦ let gg : followed_by h k ≡ g = cc in one p.0 (subst (λ (x : Grammar). Matches x ss) (sym gg) m)
@@ -122,11 +122,11 @@ enter_back (Case c a b) k {t} {g} {ss} e m = elim (choose (fits c t) e) [
 enter_back (Items r s i g) k e m = cc
 enter_back (More r s i g) k e m = cc
 
-unmark : {m w : Option Code} (o : Option Grammar) {g : Grammar} → marked m o ≡ Some (w, g) → (o ≡ Some g) × (m ≡ w)
+unmark : {m w : Option Code} (o : Option Grammar) {g : Grammar} → with_fault m o ≡ Some (w, g) → (o ≡ Some g) × (m ≡ w)
 unmark None e = cc
 unmark {m} {w} (Some h) {g} e = let p = same_step (m, h) (w, g) e in (ap (λ (x : Grammar). Some x) p.1, p.0)
 
-step_back : (g : Grammar) {t : Kind} {w : Option Code} {g' : Grammar} {ss : List Spot} → step g t ≡ Some (w, g') → Matches g' ss → Matches g (record { kind = t; wrong = w } ∷ ss)
+step_back : (g : Grammar) {t : Kind} {w : Option Code} {g' : Grammar} {ss : List TokenWithFault} → step g t ≡ Some (w, g') → Matches g' ss → Matches g (record { kind = t; wrong = w } ∷ ss)
 step_back End e m = cc
 step_back (One c g) {t} e m = elim (choose (fits c t) e) [ inl p ↦ at_step (same_step _ _ p.1) (one p.0) m | inr p ↦ cc ]
 step_back (Case c a b) {t} e m = elim (choose (fits c t) e) [ inl p ↦ at_step (same_step _ _ p.1) (this p.0) m | inr p ↦ other p.0 (step_back b p.1 m) ]
@@ -180,33 +180,33 @@ first (Case c a b) = witness c
 first _ = kinds.Text
 
 pub record Sentence (g k : Grammar) : Type 0 where
-  pub spots : List Spot
-  pub matches : Matches (followed_by g k) spots
-  pub calm : (d : Class) → IsCalm d g → is_next d spots ≡ false
-  pub rest : List Spot
-  pub begins : BeginsWithToken g → spots ≡ fine (first g) ∷ rest
+  pub faultless_all : List TokenWithFault
+  pub matches : Matches (followed_by g k) faultless_all
+  pub calm : (d : Class) → IsCalm d g → is_next d faultless_all ≡ false
+  pub rest : List TokenWithFault
+  pub begins : BeginsWithToken g → faultless_all ≡ faultless (first g) ∷ rest
 
-complete : (g k : Grammar) {ss : List Spot} → IsSound g → Matches k ss → Sentence g k
-complete End k {ss} h m = record { spots = ss; matches = m; calm = λ d c. absurd c; rest = []; begins = λ b. absurd b }
+complete : (g k : Grammar) {ss : List TokenWithFault} → IsSound g → Matches k ss → Sentence g k
+complete End k {ss} h m = record { faultless_all = ss; matches = m; calm = λ d c. absurd c; rest = []; begins = λ b. absurd b }
 complete (One c g) k h m =
     let r = complete g k h m in
-    record { spots = fine (witness c) ∷ r.spots; matches = one (witness_fits c) r.matches; calm = λ d q. q; rest = r.spots; begins = λ b. refl }
+    record { faultless_all = faultless (witness c) ∷ r.faultless_all; matches = one (witness_fits c) r.matches; calm = λ d q. q; rest = r.faultless_all; begins = λ b. refl }
 complete (Case c a d) k h m =
     let r = complete a k h.0 m in
-    record { spots = fine (witness c) ∷ r.spots; matches = this (witness_fits c) r.matches; calm = λ d q. q; rest = r.spots; begins = λ b. refl }
+    record { faultless_all = faultless (witness c) ∷ r.faultless_all; matches = this (witness_fits c) r.matches; calm = λ d q. q; rest = r.faultless_all; begins = λ b. refl }
 complete (Items r s i g) k h m =
     let e = complete g k h.2 m in
     let n = complete i (More r (s ++ first i ∷ []) i (followed_by g k)) h.1 (last (e.calm r.separator h.3) e.matches) in
     record {
-      spots = record { kind = first i; wrong = mark_of r s (first i) } ∷ n.rest;
-      matches = item (subst (λ (x : List Spot). Matches (followed_by i (More r (s ++ first i ∷ []) i (followed_by g k))) x) (n.begins h.0) n.matches);
+      faultless_all = record { kind = first i; wrong = item_fault r s (first i) } ∷ n.rest;
+      matches = item (subst (λ (x : List TokenWithFault). Matches (followed_by i (More r (s ++ first i ∷ []) i (followed_by g k))) x) (n.begins h.0) n.matches);
       calm = λ d c. absurd c;
       rest = [];
       begins = λ b. absurd b;
     }
 complete (More r s i g) k h m =
     let e = complete g k h.2 m in
-    record { spots = e.spots; matches = last (e.calm r.separator h.3) e.matches; calm = λ d c. absurd c; rest = []; begins = λ b. absurd b }
+    record { faultless_all = e.faultless_all; matches = last (e.calm r.separator h.3) e.matches; calm = λ d c. absurd c; rest = []; begins = λ b. absurd b }
 
 then_end : (g : Grammar) → followed_by g End ≡ g
 then_end End = refl
@@ -215,46 +215,46 @@ then_end (Case c a b) = ap (λ x. Case c x (followed_by b End)) (then_end a) ∙
 then_end (Items r s i g) = ap (Items r s i) (then_end g)
 then_end (More r s i g) = ap (More r s i) (then_end g)
 
-sentence : (g : Grammar) → IsSound g → (ss : List Spot) × Matches g ss
-sentence g h = let r = complete g End h done in (r.spots, subst (λ (x : Grammar). Matches x r.spots) (then_end g) r.matches)
+sentence : (g : Grammar) → IsSound g → (ss : List TokenWithFault) × Matches g ss
+sentence g h = let r = complete g End h done in (r.faultless_all, subst (λ (x : Grammar). Matches x r.faultless_all) (then_end g) r.matches)
 
 -- ---- the leftmost fault
 -- the tokens lead from the one grammar to the other
 pub record Reaches (all : Grammar) (before : List Kind) (g : Grammar) : Type 0 where
-  pub to : (ss : List Spot) → Matches g ss → Matches all (map fine before ++ ss)
-  pub back : (ss : List Spot) → Matches all (map fine before ++ ss) → Matches g ss
+  pub to : (ss : List TokenWithFault) → Matches g ss → Matches all (map faultless before ++ ss)
+  pub back : (ss : List TokenWithFault) → Matches all (map faultless before ++ ss) → Matches g ss
 
-fine_push : (ks : List Kind) (t : Kind) (ss : List Spot) → map fine (ks ++ t ∷ []) ++ ss ≡ map fine ks ++ fine t ∷ ss
+fine_push : (ks : List Kind) (t : Kind) (ss : List TokenWithFault) → map faultless (ks ++ t ∷ []) ++ ss ≡ map faultless ks ++ faultless t ∷ ss
 fine_push [] t ss = refl
-fine_push (k ∷ ks) t ss = ap (λ x. fine k ∷ x) (fine_push ks t ss)
+fine_push (k ∷ ks) t ss = ap (λ x. faultless k ∷ x) (fine_push ks t ss)
 
 reaches_step : {all g g' : Grammar} (before : List Kind) (t : Kind) → Reaches all before g → IsSound g → step g t ≡ Some (None, g') → Reaches all (before ++ t ∷ []) g'
 reaches_step {all} {g} {g'} before t r h e = record {
-  to = λ ss m. subst (λ (x : List Spot). Matches all x) (sym (fine_push before t ss)) (r.to (fine t ∷ ss) (step_back g e m));
+  to = λ ss m. subst (λ (x : List TokenWithFault). Matches all x) (sym (fine_push before t ss)) (r.to (faultless t ∷ ss) (step_back g e m));
   back = λ ss m.
-      let n = step_of g h (r.back (fine t ∷ ss) (subst (λ (x : List Spot). Matches all x) (fine_push before t ss) m)) in
+      let n = step_of g h (r.back (faultless t ∷ ss) (subst (λ (x : List TokenWithFault). Matches all x) (fine_push before t ss) m)) in
       let q : g' ≡ n.0 = (same_step _ _ (sym e ∙ n.1)).1 in
       subst (λ (x : Grammar). Matches x ss) (sym q) n.2;
 }
 
 whole_at : {all g : Grammar} (before : List Kind) → Reaches all before g → Matches g [] → IsWhole all before
-whole_at {all} before r m = subst (λ (x : List Spot). Matches all x) (append-nil _) (r.to [] m)
+whole_at {all} before r m = subst (λ (x : List TokenWithFault). Matches all x) (append-nil _) (r.to [] m)
 
 at_whole : {all g : Grammar} (before : List Kind) → Reaches all before g → IsWhole all before → Matches g []
-at_whole {all} before r m = r.back [] (subst (λ (x : List Spot). Matches all x) (sym (append-nil _)) m)
+at_whole {all} before r m = r.back [] (subst (λ (x : List TokenWithFault). Matches all x) (sym (append-nil _)) m)
 
 map_push : (ts : List tokens.Token) (t : tokens.Token) → map (λ x. x.kind) (ts ++ t ∷ []) ≡ map (λ x. x.kind) ts ++ t.kind ∷ []
 map_push [] t = refl
 map_push (x ∷ ts) t = ap (λ ks. x.kind ∷ ks) (map_push ts t)
 
-begins_at : {all g : Grammar} (before : List Kind) → Reaches all before g → IsSound g → Begins all before
+begins_at : {all g : Grammar} (before : List Kind) → Reaches all before g → IsSound g → IsViablePrefix all before
 begins_at {all} {g} before r h = let s = sentence g h in (s.0, r.to s.0 s.1)
 
 -- at one token that leads nowhere, or to a wrong item
 wrong_none : {all g : Grammar} (before : List Kind) (end : ℕ) (t : tokens.Token) (ts : List tokens.Token) (f : Fault) → Reaches all before g → IsSound g → step g t.kind ≡ None → Some ((if can_end g then codes.Trailing else codes.Expected), t.start) ≡ Some f → IsWrongHere all before end (t ∷ ts) f
 wrong_none {all} {g} before end t ts f r h e q = go (can_end g) refl q
   where
-    no : (wrong : Option Code) → GoesOn all before t.kind wrong → ⊥
+    no : (wrong : Option Code) → CanFollow all before t.kind wrong → ⊥
     no wrong o = let n = step_of g h (r.back _ o.1) in let z : ◌≡◌ {A = Option (Option Code × Grammar)} None (Some (wrong, n.0)) = sym e ∙ n.1 in cc
 
     go : (b : Bool) → can_end g ≡ b → Some ((if b then codes.Trailing else codes.Expected), t.start) ≡ Some f → IsWrongHere all before end (t ∷ ts) f
@@ -266,8 +266,8 @@ wrong_mark true c code e = inl (cc)
 wrong_mark false true code e = inr (cc)
 wrong_mark false false code e = cc
 
-wrong_code : (code : Code) (b : Bool) (n l : ℕ) → mark_from b n l ≡ Some code → (code ≡ codes.Duplicate) ⊎ (code ≡ codes.TooMany)
-unfolding mark_from
+wrong_code : (code : Code) (b : Bool) (n l : ℕ) → repeated_or_too_many b n l ≡ Some code → (code ≡ codes.Duplicate) ⊎ (code ≡ codes.TooMany)
+unfolding repeated_or_too_many
 wrong_code code b n l e = wrong_mark b (nat_le l n) code e
 
 wrong_step : (g : Grammar) (t : Kind) (code : Code) (g' : Grammar) → step g t ≡ Some (Some code, g') → (code ≡ codes.Duplicate) ⊎ (code ≡ codes.TooMany)
@@ -280,10 +280,10 @@ wrong_step (More r s i g) t code g' e = elim (choose (fits r.separator t) e) [ i
 wrong_some : {all g : Grammar} (before : List Kind) (end : ℕ) (t : tokens.Token) (ts : List tokens.Token) (code : Code) (g' : Grammar) → Reaches all before g → IsSound g → step g t.kind ≡ Some (Some code, g') → IsWrongHere all before end (t ∷ ts) (code, t.start)
 wrong_some {all} {g} before end t ts code g' r h e =
     let s = sentence g' (sound_step g t.kind h e) in
-    let o : GoesOn all before t.kind (Some code) = (s.0, r.to _ (step_back g e s.1)) in
+    let o : CanFollow all before t.kind (Some code) = (s.0, r.to _ (step_back g e s.1)) in
     elim (wrong_step g t.kind code g' e) [
-      | inl p ↦ subst (λ (x : Code). IsWrongHere all before end (t ∷ ts) (x, t.start)) (sym p) (subst (λ (x : Code). GoesOn all before t.kind (Some x)) p o, refl)
-      | inr p ↦ subst (λ (x : Code). IsWrongHere all before end (t ∷ ts) (x, t.start)) (sym p) (subst (λ (x : Code). GoesOn all before t.kind (Some x)) p o, refl)
+      | inl p ↦ subst (λ (x : Code). IsWrongHere all before end (t ∷ ts) (x, t.start)) (sym p) (subst (λ (x : Code). CanFollow all before t.kind (Some x)) p o, refl)
+      | inr p ↦ subst (λ (x : Code). IsWrongHere all before end (t ∷ ts) (x, t.start)) (sym p) (subst (λ (x : Code). CanFollow all before t.kind (Some x)) p o, refl)
     ]
 
 left_fault : (all : Grammar) (end : ℕ) (line : List tokens.Token) (ts before : List tokens.Token) (g : Grammar) (f : Fault) → line ≡ before ++ ts → Reaches all (map (λ x. x.kind) before) g → IsSound g → first_fault end g ts ≡ Some f → IsFault all end line f
@@ -333,7 +333,7 @@ pub whole_from_first_fault : (all : Grammar) (end : ℕ) (ts : List tokens.Token
 whole_from_first_fault all end ts h e = left_whole all end ts [] all (reaches_start all) h e
 
 -- ---- and back: a whole sentence has no fault, and no line has two
-pub first_fault_from_whole : (g : Grammar) (end : ℕ) (ts : List tokens.Token) → IsSound g → Matches g (map fine (map (λ t. t.kind) ts)) → first_fault end g ts ≡ None
+pub first_fault_from_whole : (g : Grammar) (end : ℕ) (ts : List tokens.Token) → IsSound g → Matches g (map faultless (map (λ t. t.kind) ts)) → first_fault end g ts ≡ None
 first_fault_from_whole g end [] h m = first_fault_nil end g ∙ ap (λ b. if b then None else Some (codes.Expected, end)) (can_end_no m)
 first_fault_from_whole g end (t ∷ ts) h m =
     let n = step_of g h m in
@@ -345,14 +345,14 @@ pub record Run (all g : Grammar) (end : ℕ) (done before rest : List tokens.Tok
   pub reaches : Reaches all (map (λ t. t.kind) (done ++ before)) left
   pub fault_left : first_fault end g (before ++ rest) ≡ first_fault end left rest
 
-run : (all g : Grammar) (end : ℕ) (past before rest : List tokens.Token) (ss : List Spot) → IsSound g → Reaches all (map (λ t. t.kind) past) g → Matches g (map fine (map (λ t. t.kind) before) ++ ss) → Run all g end past before rest
+run : (all g : Grammar) (end : ℕ) (past before rest : List tokens.Token) (ss : List TokenWithFault) → IsSound g → Reaches all (map (λ t. t.kind) past) g → Matches g (map faultless (map (λ t. t.kind) before) ++ ss) → Run all g end past before rest
 run all g end past [] rest ss h r m = record { left = g; sound = h; reaches = subst (λ (x : List tokens.Token). Reaches all (map (λ t. t.kind) x) g) (sym (append-nil past)) r; fault_left = refl }
 run all g end past (t ∷ before) rest ss h r m =
     let n = step_of g h m in
     let more = run all n.0 end (past ++ t ∷ []) before rest ss (sound_step g t.kind h n.1) (subst (λ (ks : List Kind). Reaches all ks n.0) (sym (map_push past t)) (reaches_step _ t.kind r h n.1)) n.2 in
     record { left = more.left; sound = more.sound; reaches = subst (λ (x : List tokens.Token). Reaches all (map (λ t. t.kind) x) more.left) (append_assoc past (t ∷ []) before) more.reaches; fault_left = first_fault_some end g t (before ++ rest) None n.0 n.1 ∙ more.fault_left }
 
-stuck : {all g : Grammar} (before : List Kind) (t : Kind) → Reaches all before g → IsSound g → ((wrong : Option Code) → GoesOn all before t wrong → ⊥) → step g t ≡ None
+stuck : {all g : Grammar} (before : List Kind) (t : Kind) → Reaches all before g → IsSound g → ((wrong : Option Code) → CanFollow all before t wrong → ⊥) → step g t ≡ None
 stuck {all} {g} before t r h nowhere = go (step g t) refl
   where
     go : (st : Option (Option Code × Grammar)) → step g t ≡ st → st ≡ None
@@ -370,7 +370,7 @@ first_fault_here : (all g : Grammar) (end : ℕ) (before : List Kind) (rest : Li
 first_fault_here all g end before [] f h r w = first_fault_nil end g ∙ ap (λ b. if b then None else Some (codes.Expected, end)) (ends_or_not before r w.0) ∙ ap (λ (x : Fault). Some x) (sym w.1)
 first_fault_here all g end before (t ∷ ts) (code, offset) h r w = go code w.0 ∙ ap (λ (n : ℕ). Some (code, n)) (sym w.1)
   where
-    marked_so : (c : Code) → GoesOn all before t.kind (Some c) → first_fault end g (t ∷ ts) ≡ Some (c, t.start)
+    marked_so : (c : Code) → CanFollow all before t.kind (Some c) → first_fault end g (t ∷ ts) ≡ Some (c, t.start)
     marked_so c o = let n = step_of g h (r.back _ o.1) in first_fault_some end g t ts (Some c) n.0 n.1
 
     go : (c : Code) → IsWrongAt all before t.kind c → first_fault end g (t ∷ ts) ≡ Some (c, t.start)

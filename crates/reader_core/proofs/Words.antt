@@ -11,8 +11,8 @@ use Rattle.lexer_core.specs.declared.fault.ReadFault.{ReadFault}
 use Rattle.lexer_core.specs.declared.fault.ReadFault.TheVariants as faults
 use Rattle.reader_core.specs.declared.privilege.Word.{Word}
 use Rattle.reader_core.specs.declared.privilege.Word.TheVariants as words
-use Rattle.reader_core.specs.Grammar.{Grammar, Items, More, mark_of, is_keyword, is_privilege}
-use Rattle.reader_core.specs.Recogniser.{first_fault, marked, enter, step}
+use Rattle.reader_core.specs.Grammar.{Grammar, Items, More, item_fault, is_keyword, is_privilege}
+use Rattle.reader_core.specs.Recogniser.{first_fault, with_fault, enter, step}
 use Rattle.reader_core.specs.Cursor.{Cursor, Takes, Faults, fault_left, fault_of, next_kind, next_is_privilege, offset_at}
 use Rattle.reader_core.specs.Privileges.{word_keyword}
 use Rattle.reader_core.specs.Language.{privileges_rule, privilege_item, behind_word, word_says}
@@ -44,17 +44,17 @@ none_of_four false false false false x y z u e = refl
 no_word_enters : (t : Kind) (k : Grammar) → is_privilege t ≡ false → enter privilege_item k t ≡ None
 no_word_enters t k e = none_of_four (is_keyword keywords.Select t) (is_keyword keywords.Insert t) (is_keyword keywords.Delete t) (is_keyword keywords.Update t) (Some k) (Some k) (Some k) (Some (behind_word words.Update k)) e
 
-step_word : (s : List Kind) (k : Grammar) (w : Word) (t : Kind) (m : Option Code) → t ≡ word_kind w → mark_of privileges_rule s (word_kind w) ≡ m → step (items s k) t ≡ Some (m, behind s w k)
+step_word : (s : List Kind) (k : Grammar) (w : Word) (t : Kind) (m : Option Code) → t ≡ word_kind w → item_fault privileges_rule s (word_kind w) ≡ m → step (items s k) t ≡ Some (m, behind s w k)
 step_word s k w t m e h =
     ap (step (items s k)) e
-    ∙ ap (marked (mark_of privileges_rule s (word_kind w))) (word_enters w (More privileges_rule (s ++ word_kind w ∷ []) privilege_item k))
-    ∙ ap (λ z. marked z (Some (behind s w k))) h
+    ∙ ap (with_fault (item_fault privileges_rule s (word_kind w))) (word_enters w (More privileges_rule (s ++ word_kind w ∷ []) privilege_item k))
+    ∙ ap (λ z. with_fault z (Some (behind s w k))) h
 
 step_no_word : (s : List Kind) (k : Grammar) (t : Kind) → is_privilege t ≡ false → step (items s k) t ≡ None
-step_no_word s k t e = ap (marked (mark_of privileges_rule s t)) (no_word_enters t (More privileges_rule (s ++ t ∷ []) privilege_item k) e)
+step_no_word s k t e = ap (with_fault (item_fault privileges_rule s t)) (no_word_enters t (More privileges_rule (s ++ t ∷ []) privilege_item k) e)
 
 module _ (at : Cursor) (s : List Kind) where
-  word_bad : (k : Grammar) (w : Word) (code : Code) → next_kind at ≡ Some (word_kind w) → mark_of privileges_rule s (word_kind w) ≡ Some code → fault_left (items s k) at ≡ Some (code, offset_at at)
+  word_bad : (k : Grammar) (w : Word) (code : Code) → next_kind at ≡ Some (word_kind w) → item_fault privileges_rule s (word_kind w) ≡ Some code → fault_left (items s k) at ≡ Some (code, offset_at at)
   word_bad k w code is m = go at.rest is
     where
       go : (ts : List tokens.Token) → next_kind (at_line at.line ts) ≡ Some (word_kind w) → fault_left (items s k) (at_line at.line ts) ≡ Some (code, offset_at (at_line at.line ts))
@@ -69,7 +69,7 @@ module _ (at : Cursor) (s : List Kind) where
       go (t ∷ ts) e = first_fault_none (length at.line) _ t ts (step_no_word s k t.kind e)
 
   -- a word that may not stand there
-  pub word_bad_at : (w : Word) (code : Code) (e : ReadFault) → next_kind at ≡ Some (word_kind w) → mark_of privileges_rule s (word_kind w) ≡ Some code → e ≡ faults.At code (offset_at at) → Faults (items s) e at
+  pub word_bad_at : (w : Word) (code : Code) (e : ReadFault) → next_kind at ≡ Some (word_kind w) → item_fault privileges_rule s (word_kind w) ≡ Some code → e ≡ faults.At code (offset_at at) → Faults (items s) e at
   word_bad_at w code e is m same = record { fault = λ ne k. word_bad k w code is m ∙ sym (ap fault_of same) }
 
   -- a look at the next token that found none
@@ -77,7 +77,7 @@ module _ (at : Cursor) (s : List Kind) where
   word_misfit_so e h = let p = h.0 in let same : e ≡ faults.At codes.Expected (offset_at at) = cc in record { fault = λ ne k. word_misfit k h.1 ∙ sym (ap fault_of same) }
 
 -- the word that begins a privilege is taken
-pub word_taken : {old new : Cursor} (s : List Kind) (w : Word) → next_kind old ≡ Some (word_kind w) → mark_of privileges_rule s (word_kind w) ≡ None → new.rest ≡ drop 1 old.rest → new.line ≡ old.line → Takes (items s) (behind s w) (word_says w) old new
+pub word_taken : {old new : Cursor} (s : List Kind) (w : Word) → next_kind old ≡ Some (word_kind w) → item_fault privileges_rule s (word_kind w) ≡ None → new.rest ≡ drop 1 old.rest → new.line ≡ old.line → Takes (items s) (behind s w) (word_says w) old new
 word_taken {old} {new} s w is m rest line = record {
   says = says_taken old new (lexemes.Key (word_keyword w)) (said_by_kind old (word_kind w) (lexemes.Key (word_keyword w)) is (λ bytes. refl)) rest line;
   line = line;

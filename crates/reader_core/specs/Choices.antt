@@ -1,18 +1,18 @@
 -- What it means that a grammar leaves no choice open.
 use Rattle.std.specs.Prelude.{◌≡◌, Bool, true, false, ◌||◌, List, [], ◌∷◌, ◌++◌}
 use Rattle.lexer_core.specs.declared.token.Kind.{Kind}
-use Rattle.reader_core.specs.Grammar.{Grammar, End, One, Case, Items, More, Class, Rule, fits, mark_of, followed_by}
-use Rattle.reader_core.specs.Matches.{Spot, fine}
+use Rattle.reader_core.specs.Grammar.{Grammar, End, One, Case, Items, More, Class, Rule, fits, item_fault, followed_by}
+use Rattle.reader_core.specs.Matches.{TokenWithFault, faultless}
 
 -- The tokens are a sentence by any choice: the same rules, but a part may be left out, or the next one taken, whatever comes next.
-pub data Derives : Grammar → List Spot → Type 0 where
+pub data Derives : Grammar → List TokenWithFault → Type 0 where
   stop : Derives End []
-  token : {c : Class} {g : Grammar} {t : Kind} {ss : List Spot} → fits c t ≡ true → Derives g ss → Derives (One c g) (fine t ∷ ss)
-  left : {c : Class} {a b : Grammar} {t : Kind} {ss : List Spot} → fits c t ≡ true → Derives a ss → Derives (Case c a b) (fine t ∷ ss)
-  right : {c : Class} {a b : Grammar} {ss : List Spot} → Derives b ss → Derives (Case c a b) ss
-  first : {r : Rule} {s : List Kind} {i g : Grammar} {t : Kind} {ss : List Spot} → Derives (followed_by i (More r (s ++ t ∷ []) i g)) (fine t ∷ ss) → Derives (Items r s i g) (record { kind = t; wrong = mark_of r s t } ∷ ss)
-  further : {r : Rule} {s : List Kind} {i g : Grammar} {t : Kind} {ss : List Spot} → fits r.separator t ≡ true → Derives (Items r s i g) ss → Derives (More r s i g) (fine t ∷ ss)
-  behind : {r : Rule} {s : List Kind} {i g : Grammar} {ss : List Spot} → Derives g ss → Derives (More r s i g) ss
+  token : {c : Class} {g : Grammar} {t : Kind} {ss : List TokenWithFault} → fits c t ≡ true → Derives g ss → Derives (One c g) (faultless t ∷ ss)
+  left : {c : Class} {a b : Grammar} {t : Kind} {ss : List TokenWithFault} → fits c t ≡ true → Derives a ss → Derives (Case c a b) (faultless t ∷ ss)
+  right : {c : Class} {a b : Grammar} {ss : List TokenWithFault} → Derives b ss → Derives (Case c a b) ss
+  first : {r : Rule} {s : List Kind} {i g : Grammar} {t : Kind} {ss : List TokenWithFault} → Derives (followed_by i (More r (s ++ t ∷ []) i g)) (faultless t ∷ ss) → Derives (Items r s i g) (record { kind = t; wrong = item_fault r s t } ∷ ss)
+  further : {r : Rule} {s : List Kind} {i g : Grammar} {t : Kind} {ss : List TokenWithFault} → fits r.separator t ≡ true → Derives (Items r s i g) ss → Derives (More r s i g) (faultless t ∷ ss)
+  behind : {r : Rule} {s : List Kind} {i g : Grammar} {ss : List TokenWithFault} → Derives g ss → Derives (More r s i g) ss
 
 -- whether the tokens of the grammar, and then what begins by the test, can begin with this token
 abbrev pub can_begin : Grammar → (Kind → Bool) → Kind → Bool

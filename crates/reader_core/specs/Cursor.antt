@@ -1,6 +1,6 @@
 -- What a part of the reader does to the tokens that are left.
 use Rattle.std.specs.Prelude.{◌≡◌, ◌≢◌, ℕ, Bool, false, List, [], ◌∷◌, ◌++◌, length, map, Option, Some, None, Result, Ok, Err}
-use Rattle.lexer_core.specs.Lexing.{Lexeme, heard}
+use Rattle.lexer_core.specs.Lexing.{Lexeme, located}
 use Rattle.lexer_core.specs.declared.token.Kind.{Kind}
 use Rattle.lexer_core.specs.declared.token.Token as tokens
 use Rattle.lexer_core.specs.declared.fault.Code.{Code}
@@ -23,7 +23,7 @@ next_kind c = elim c.rest [ [] ↦ None | t ∷ ts ↦ Some t.kind ]
 
 -- what the next token says
 abbrev pub next_lexeme : Cursor → Option Lexeme
-next_lexeme c = elim c.rest [ [] ↦ None | t ∷ ts ↦ Some (heard c.line t).lexeme ]
+next_lexeme c = elim c.rest [ [] ↦ None | t ∷ ts ↦ Some (located c.line t).lexeme ]
 
 abbrev pub next_is : Class → Cursor → Bool
 next_is c cursor = elim cursor.rest [ [] ↦ false | t ∷ ts ↦ fits c t.kind ]
@@ -38,7 +38,7 @@ next_is_privilege cursor = elim cursor.rest [ [] ↦ false | t ∷ ts ↦ is_pri
 
 -- what the tokens that are left say
 abbrev pub left_says : Cursor → List Lexeme
-left_says c = map (λ t. (heard c.line t).lexeme) c.rest
+left_says c = map (λ t. (located c.line t).lexeme) c.rest
 
 -- what is wrong with the tokens that are left, by a grammar
 abbrev pub fault_left : Grammar → Cursor → Option Fault

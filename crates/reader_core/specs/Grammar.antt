@@ -138,12 +138,12 @@ followed_by (More r s i g) k = More r s i (followed_by g k)
 
 -- ---- what is wrong with an item
 -- of one that comes after so many, and is repeated or is not
-unfoldable pub mark_from : Bool → ℕ → ℕ → Option Code
-mark_from repeated count limit = if repeated then Some codes.Duplicate else if nat_le limit count then Some codes.TooMany else None
+unfoldable pub repeated_or_too_many : Bool → ℕ → ℕ → Option Code
+repeated_or_too_many repeated count limit = if repeated then Some codes.Duplicate else if nat_le limit count then Some codes.TooMany else None
 
 -- the same of an item that begins with this token, after those that began with the tokens seen
-abbrev pub mark_of : Rule → List Kind → Kind → Option Code
-mark_of r seen t = mark_from (r.distinct && list_any (λ x. same x t) seen) (length seen) r.limit
+abbrev pub item_fault : Rule → List Kind → Kind → Option Code
+item_fault r seen t = repeated_or_too_many (r.distinct && list_any (λ x. same x t) seen) (length seen) r.limit
 
 -- a code, and the byte where it stands
 abbrev pub Fault : Type 0

@@ -35,12 +35,12 @@ use Rattle.reader_core.specs.Privileges.{word_of, word_keyword, are_different}
 
 -- ---- the grammar
 -- items with commas between them: how many at most, and whether their first tokens differ
-abbrev pub commas : ℕ → Bool → Rule
-commas n d = record { limit = n; distinct = d; separator = Sign marks.Comma }
+abbrev pub comma_separated : ℕ → Bool → Rule
+comma_separated n d = record { limit = n; distinct = d; separator = Sign marks.Comma }
 
 -- items that begin with different names
 abbrev pub names_rule : ℕ → Rule
-names_rule n = commas n true
+names_rule n = comma_separated n true
 
 -- where the next token begins the first, that; otherwise the second
 abbrev pub either : Grammar → Grammar → Grammar
@@ -72,7 +72,7 @@ create k = One (Key keywords.Create) (One (Key keywords.Table) (One AnyName (One
 
 -- insert = INSERT INTO name VALUES "(" literal { "," literal } ")"
 abbrev pub insert : Grammar → Grammar
-insert k = One (Key keywords.Insert) (One (Key keywords.Into) (One AnyName (One (Key keywords.Values) (One (Sign marks.Open) (Items (commas 32 false) [] literal_item (One (Sign marks.Close) k))))))
+insert k = One (Key keywords.Insert) (One (Key keywords.Into) (One AnyName (One (Key keywords.Values) (One (Sign marks.Open) (Items (comma_separated 32 false) [] literal_item (One (Sign marks.Close) k))))))
 
 -- cond = name ( "=" | "<>" | "<" | "<=" | ">" | ">=" ) literal
 abbrev pub condition_item : Grammar
@@ -86,8 +86,8 @@ abbrev pub filter : Grammar → Grammar
 filter k = One (Key keywords.Where) (Items conditions_rule [] condition_item k)
 
 -- "*" | name { "," name }
-abbrev pub selected : Grammar → Grammar
-selected k = either (One (Sign marks.Star) k) (name_list 32 k)
+abbrev pub selection : Grammar → Grammar
+selection k = either (One (Sign marks.Star) k) (name_list 32 k)
 
 -- FROM name [ filter ]
 abbrev pub from_table : Grammar → Grammar
@@ -95,7 +95,7 @@ from_table k = One (Key keywords.From) (One AnyName (optional filter k))
 
 -- select = SELECT ( "*" | name { "," name } ) FROM name [ filter ]
 abbrev pub select : Grammar → Grammar
-select k = One (Key keywords.Select) (selected (from_table k))
+select k = One (Key keywords.Select) (selection (from_table k))
 
 -- delete = DELETE FROM name [ filter ]
 abbrev pub delete : Grammar → Grammar
@@ -124,7 +124,7 @@ behind_word _ k = k
 
 -- no word twice, so that a fifth privilege is never just one too many
 abbrev pub privileges_rule : Rule
-privileges_rule = commas 4 true
+privileges_rule = comma_separated 4 true
 
 -- privs = priv { "," priv }, and then ON name
 abbrev pub privileges_on : Grammar → Grammar
@@ -171,8 +171,8 @@ abbrev pub statement : Grammar
 statement = body finish
 
 -- ---- what statements say, token by token
-abbrev pub comma : Lexeme
-comma = lexemes.Sign marks.Comma
+abbrev pub comma_lexeme : Lexeme
+comma_lexeme = lexemes.Sign marks.Comma
 
 -- the items, with a separator between each two
 abbrev pub listed : {A : Type 0} → Lexeme → (A → List Lexeme) → List A → List Lexeme
@@ -200,7 +200,7 @@ abbrev pub value_says : Value → List Lexeme
 value_says v = value_lexeme v ∷ []
 
 abbrev pub names_say : List Name → List Lexeme
-names_say names = listed comma name_says names
+names_say names = listed comma_lexeme name_says names
 
 abbrev pub user_says : User → List Lexeme
 user_says u = lexemes.Named u.0 ∷ []
@@ -259,13 +259,13 @@ only_says None = []
 only_says (Some table) = lexemes.Key keywords.Only ∷ lexemes.Named table ∷ []
 
 abbrev pub statement_says : Statement → List Lexeme
-statement_says (statements.CreateTable table columns) = lexemes.Key keywords.Create ∷ lexemes.Key keywords.Table ∷ lexemes.Named table ∷ lexemes.Sign marks.Open ∷ (listed comma column_says columns ++ lexemes.Sign marks.Close ∷ [])
-statement_says (statements.Insert table values) = lexemes.Key keywords.Insert ∷ lexemes.Key keywords.Into ∷ lexemes.Named table ∷ lexemes.Key keywords.Values ∷ lexemes.Sign marks.Open ∷ (listed comma value_says values ++ lexemes.Sign marks.Close ∷ [])
+statement_says (statements.CreateTable table columns) = lexemes.Key keywords.Create ∷ lexemes.Key keywords.Table ∷ lexemes.Named table ∷ lexemes.Sign marks.Open ∷ (listed comma_lexeme column_says columns ++ lexemes.Sign marks.Close ∷ [])
+statement_says (statements.Insert table values) = lexemes.Key keywords.Insert ∷ lexemes.Key keywords.Into ∷ lexemes.Named table ∷ lexemes.Key keywords.Values ∷ lexemes.Sign marks.Open ∷ (listed comma_lexeme value_says values ++ lexemes.Sign marks.Close ∷ [])
 statement_says (statements.Select list table filter) = lexemes.Key keywords.Select ∷ (selection_says list ++ lexemes.Key keywords.From ∷ lexemes.Named table ∷ filter_says filter)
 statement_says (statements.Delete table filter) = lexemes.Key keywords.Delete ∷ lexemes.Key keywords.From ∷ lexemes.Named table ∷ filter_says filter
-statement_says (statements.Update table sets filter) = lexemes.Key keywords.Update ∷ lexemes.Named table ∷ lexemes.Key keywords.Set ∷ (listed comma set_says sets ++ filter_says filter)
-statement_says (statements.Grant privileges table users option) = lexemes.Key keywords.Grant ∷ (listed comma privilege_says privileges ++ lexemes.Key keywords.On ∷ lexemes.Named table ∷ lexemes.Key keywords.To ∷ (listed comma user_says users ++ option_says option))
-statement_says (statements.Revoke privileges table users) = lexemes.Key keywords.Revoke ∷ (listed comma privilege_says privileges ++ lexemes.Key keywords.On ∷ lexemes.Named table ∷ lexemes.Key keywords.From ∷ listed comma user_says users)
+statement_says (statements.Update table sets filter) = lexemes.Key keywords.Update ∷ lexemes.Named table ∷ lexemes.Key keywords.Set ∷ (listed comma_lexeme set_says sets ++ filter_says filter)
+statement_says (statements.Grant privileges table users option) = lexemes.Key keywords.Grant ∷ (listed comma_lexeme privilege_says privileges ++ lexemes.Key keywords.On ∷ lexemes.Named table ∷ lexemes.Key keywords.To ∷ (listed comma_lexeme user_says users ++ option_says option))
+statement_says (statements.Revoke privileges table users) = lexemes.Key keywords.Revoke ∷ (listed comma_lexeme privilege_says privileges ++ lexemes.Key keywords.On ∷ lexemes.Named table ∷ lexemes.Key keywords.From ∷ listed comma_lexeme user_says users)
 statement_says statements.Checkpoint = lexemes.Key keywords.Checkpoint ∷ []
 statement_says statements.Checkpoints = lexemes.Key keywords.Checkpoints ∷ []
 statement_says (statements.Export number only) = lexemes.Key keywords.Export ∷ lexemes.Number (pos number) ∷ only_says only
@@ -286,28 +286,28 @@ abbrev pub IsSelection : Option (List Name) → Type 0
 IsSelection None = Unit {0}
 IsSelection (Some names) = AreNamed 32 (λ n. n) names
 
-abbrev pub IsLawfulPrivilege : Privilege → Type 0
-IsLawfulPrivilege p = IsSelection (privilege_columns p)
+abbrev pub IsWellFormedPrivilege : Privilege → Type 0
+IsWellFormedPrivilege p = IsSelection (privilege_columns p)
 
 -- with different words, and each with columns as they may be
 abbrev pub ArePrivileges : List Privilege → Type 0
-ArePrivileges ps = IsShort 4 ps × (are_different ps ≡ true) × All IsLawfulPrivilege ps
+ArePrivileges ps = IsShort 4 ps × (are_different ps ≡ true) × All IsWellFormedPrivilege ps
 
 abbrev pub AreUsers : List User → Type 0
 AreUsers users = AreNamed 16 (λ u. u.0) users
 
 -- what a statement may be
-abbrev pub IsLawful : Statement → Type 0
-IsLawful (statements.CreateTable table columns) = AreNamed 32 (λ c. c.name) columns
-IsLawful (statements.Insert table values) = IsShort 32 values
-IsLawful (statements.Select list table filter) = IsSelection list × (length filter ≤ 32)
-IsLawful (statements.Delete table filter) = length filter ≤ 32
-IsLawful (statements.Update table sets filter) = AreNamed 32 (λ a. a.column) sets × (length filter ≤ 32)
-IsLawful (statements.Grant privileges table users option) = ArePrivileges privileges × AreUsers users
-IsLawful (statements.Revoke privileges table users) = ArePrivileges privileges × AreUsers users
-IsLawful statements.Checkpoint = Unit {0}
-IsLawful statements.Checkpoints = Unit {0}
-IsLawful (statements.Export number only) = (1 ≤ number) × (number < 2 ^ 63)
+abbrev pub IsWellFormed : Statement → Type 0
+IsWellFormed (statements.CreateTable table columns) = AreNamed 32 (λ c. c.name) columns
+IsWellFormed (statements.Insert table values) = IsShort 32 values
+IsWellFormed (statements.Select list table filter) = IsSelection list × (length filter ≤ 32)
+IsWellFormed (statements.Delete table filter) = length filter ≤ 32
+IsWellFormed (statements.Update table sets filter) = AreNamed 32 (λ a. a.column) sets × (length filter ≤ 32)
+IsWellFormed (statements.Grant privileges table users option) = ArePrivileges privileges × AreUsers users
+IsWellFormed (statements.Revoke privileges table users) = ArePrivileges privileges × AreUsers users
+IsWellFormed statements.Checkpoint = Unit {0}
+IsWellFormed statements.Checkpoints = Unit {0}
+IsWellFormed (statements.Export number only) = (1 ≤ number) × (number < 2 ^ 63)
 
 -- ---- lines
 -- the tokens say the statement, with or without a ";" behind it
@@ -319,7 +319,7 @@ pub record Spells (line : List ℕ) (s : Statement) : Type 0 where
   pub said : List Lexeme
   pub says : Says line said
   pub statement_of : SaysStatement said s
-  pub lawful : IsLawful s
+  pub well_formed : IsWellFormed s
 
 -- the one fault of a line that spells no statement: its leftmost lexical fault, no token at all, or the leftmost fault of the grammar
 pub data IsReadFault (line : List ℕ) : Code → ℕ → Type 0 where

@@ -4,46 +4,46 @@ use Rattle.lexer_core.specs.declared.token.Kind.{Kind}
 use Rattle.lexer_core.specs.declared.token.Token as tokens
 use Rattle.lexer_core.specs.declared.fault.Code.{Code}
 use Rattle.lexer_core.specs.declared.fault.Code.TheVariants as codes
-use Rattle.reader_core.specs.Grammar.{Grammar, End, One, Case, Items, More, Class, Rule, fits, mark_of, followed_by, Fault}
+use Rattle.reader_core.specs.Grammar.{Grammar, End, One, Case, Items, More, Class, Rule, fits, item_fault, followed_by, Fault}
 
 -- a token of a sentence, and what is wrong with it as the first of a list's item
-pub record Spot : Type 0 where
+pub record TokenWithFault : Type 0 where
   pub kind : Kind
   pub wrong : Option Code
 
-abbrev pub fine : Kind → Spot
-fine t = record { kind = t; wrong = None }
+abbrev pub faultless : Kind → TokenWithFault
+faultless t = record { kind = t; wrong = None }
 
 -- whether a token of the class comes next
-abbrev pub is_next : Class → List Spot → Bool
+abbrev pub is_next : Class → List TokenWithFault → Bool
 is_next c [] = false
 is_next c (s ∷ ss) = fits c s.kind
 
 -- The tokens are a sentence of the grammar.
-pub data Matches : Grammar → List Spot → Type 0 where
+pub data Matches : Grammar → List TokenWithFault → Type 0 where
   done : Matches End []
-  one : {c : Class} {g : Grammar} {t : Kind} {ss : List Spot} → fits c t ≡ true → Matches g ss → Matches (One c g) (fine t ∷ ss)
-  this : {c : Class} {a b : Grammar} {t : Kind} {ss : List Spot} → fits c t ≡ true → Matches a ss → Matches (Case c a b) (fine t ∷ ss)
-  other : {c : Class} {a b : Grammar} {ss : List Spot} → is_next c ss ≡ false → Matches b ss → Matches (Case c a b) ss
-  item : {r : Rule} {s : List Kind} {i g : Grammar} {t : Kind} {ss : List Spot} → Matches (followed_by i (More r (s ++ t ∷ []) i g)) (fine t ∷ ss) → Matches (Items r s i g) (record { kind = t; wrong = mark_of r s t } ∷ ss)
-  next : {r : Rule} {s : List Kind} {i g : Grammar} {t : Kind} {ss : List Spot} → fits r.separator t ≡ true → Matches (Items r s i g) ss → Matches (More r s i g) (fine t ∷ ss)
-  last : {r : Rule} {s : List Kind} {i g : Grammar} {ss : List Spot} → is_next r.separator ss ≡ false → Matches g ss → Matches (More r s i g) ss
+  one : {c : Class} {g : Grammar} {t : Kind} {ss : List TokenWithFault} → fits c t ≡ true → Matches g ss → Matches (One c g) (faultless t ∷ ss)
+  this : {c : Class} {a b : Grammar} {t : Kind} {ss : List TokenWithFault} → fits c t ≡ true → Matches a ss → Matches (Case c a b) (faultless t ∷ ss)
+  other : {c : Class} {a b : Grammar} {ss : List TokenWithFault} → is_next c ss ≡ false → Matches b ss → Matches (Case c a b) ss
+  item : {r : Rule} {s : List Kind} {i g : Grammar} {t : Kind} {ss : List TokenWithFault} → Matches (followed_by i (More r (s ++ t ∷ []) i g)) (faultless t ∷ ss) → Matches (Items r s i g) (record { kind = t; wrong = item_fault r s t } ∷ ss)
+  next : {r : Rule} {s : List Kind} {i g : Grammar} {t : Kind} {ss : List TokenWithFault} → fits r.separator t ≡ true → Matches (Items r s i g) ss → Matches (More r s i g) (faultless t ∷ ss)
+  last : {r : Rule} {s : List Kind} {i g : Grammar} {ss : List TokenWithFault} → is_next r.separator ss ≡ false → Matches g ss → Matches (More r s i g) ss
 
 -- the tokens are a sentence, and no item of a list is wrong; they begin one; so they do with one more
 abbrev pub IsWhole : Grammar → List Kind → Type 0
-IsWhole g ks = Matches g (map fine ks)
+IsWhole g ks = Matches g (map faultless ks)
 
-abbrev pub Begins : Grammar → List Kind → Type 0
-Begins g ks = (ss : List Spot) × Matches g (map fine ks ++ ss)
+abbrev pub IsViablePrefix : Grammar → List Kind → Type 0
+IsViablePrefix g ks = (ss : List TokenWithFault) × Matches g (map faultless ks ++ ss)
 
-abbrev pub GoesOn : Grammar → List Kind → Kind → Option Code → Type 0
-GoesOn g ks t wrong = (ss : List Spot) × Matches g (map fine ks ++ record { kind = t; wrong = wrong } ∷ ss)
+abbrev pub CanFollow : Grammar → List Kind → Kind → Option Code → Type 0
+CanFollow g ks t wrong = (ss : List TokenWithFault) × Matches g (map faultless ks ++ record { kind = t; wrong = wrong } ∷ ss)
 
 abbrev pub IsWrongAt : Grammar → List Kind → Kind → Code → Type 0
-IsWrongAt g ks t codes.Trailing = IsWhole g ks × ((wrong : Option Code) → GoesOn g ks t wrong → ⊥)
-IsWrongAt g ks t codes.Expected = (IsWhole g ks → ⊥) × ((wrong : Option Code) → GoesOn g ks t wrong → ⊥)
-IsWrongAt g ks t codes.Duplicate = GoesOn g ks t (Some codes.Duplicate)
-IsWrongAt g ks t codes.TooMany = GoesOn g ks t (Some codes.TooMany)
+IsWrongAt g ks t codes.Trailing = IsWhole g ks × ((wrong : Option Code) → CanFollow g ks t wrong → ⊥)
+IsWrongAt g ks t codes.Expected = (IsWhole g ks → ⊥) × ((wrong : Option Code) → CanFollow g ks t wrong → ⊥)
+IsWrongAt g ks t codes.Duplicate = CanFollow g ks t (Some codes.Duplicate)
+IsWrongAt g ks t codes.TooMany = CanFollow g ks t (Some codes.TooMany)
 IsWrongAt g ks t _ = ⊥
 
 abbrev pub IsWrongHere : Grammar → List Kind → ℕ → List tokens.Token → Fault → Type 0
@@ -55,5 +55,5 @@ pub record IsFault (g : Grammar) (end : ℕ) (ts : List tokens.Token) (fault : F
   pub before : List tokens.Token
   pub rest : List tokens.Token
   pub split : ts ≡ before ++ rest
-  pub begins : Begins g (map (λ t. t.kind) before)
+  pub begins : IsViablePrefix g (map (λ t. t.kind) before)
   pub wrong : IsWrongHere g (map (λ t. t.kind) before) end rest fault

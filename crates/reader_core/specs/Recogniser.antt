@@ -4,7 +4,7 @@ use Rattle.lexer_core.specs.declared.token.Kind.{Kind}
 use Rattle.lexer_core.specs.declared.token.Token as tokens
 use Rattle.lexer_core.specs.declared.fault.Code.{Code}
 use Rattle.lexer_core.specs.declared.fault.Code.TheVariants as codes
-use Rattle.reader_core.specs.Grammar.{Grammar, End, One, Case, Items, More, Rule, Fault, fits, followed_by, mark_of}
+use Rattle.reader_core.specs.Grammar.{Grammar, End, One, Case, Items, More, Rule, Fault, fits, followed_by, item_fault}
 
 -- whether nothing may come
 abbrev pub can_end : Grammar → Bool
@@ -15,9 +15,9 @@ can_end (Items r s i g) = false
 can_end (More r s i g) = can_end g
 
 -- each of the first tokens is as the list's rule wants it, after those seen
-abbrev pub AreFine : Rule → List Kind → List Kind → Type 0
-AreFine r seen [] = Unit {0}
-AreFine r seen (t ∷ ts) = (mark_of r seen t ≡ None) × AreFine r (seen ++ t ∷ []) ts
+abbrev pub AreFaultless : Rule → List Kind → List Kind → Type 0
+AreFaultless r seen [] = Unit {0}
+AreFaultless r seen (t ∷ ts) = (item_fault r seen t ≡ None) × AreFaultless r (seen ++ t ∷ []) ts
 
 -- what may follow a token, the first of the grammar
 abbrev pub enter : Grammar → Grammar → Kind → Option Grammar
@@ -27,15 +27,15 @@ enter (Case c a b) k t = if fits c t then Some (followed_by a k) else enter b k 
 enter (Items r s i g) k t = None
 enter (More r s i g) k t = None
 
-abbrev pub marked : Option Code → Option Grammar → Option (Option Code × Grammar)
-marked m None = None
-marked m (Some g) = Some (m, g)
+abbrev pub with_fault : Option Code → Option Grammar → Option (Option Code × Grammar)
+with_fault m None = None
+with_fault m (Some g) = Some (m, g)
 
 abbrev pub step : Grammar → Kind → Option (Option Code × Grammar)
 step End t = None
 step (One c g) t = if fits c t then Some (None, g) else None
 step (Case c a b) t = if fits c t then Some (None, a) else step b t
-step (Items r s i g) t = marked (mark_of r s t) (enter i (More r (s ++ t ∷ []) i g) t)
+step (Items r s i g) t = with_fault (item_fault r s t) (enter i (More r (s ++ t ∷ []) i g) t)
 step (More r s i g) t = if fits r.separator t then Some (None, Items r s i g) else step g t
 
 -- the first token that is wrong, as its code and its place; or `Expected` at the end, where they are not whole

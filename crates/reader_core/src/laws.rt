@@ -3,9 +3,9 @@ ghost use Rattle.std.specs.Prelude.{◌≡◌, ◌⊎◌, ℕ, List, All, map};
 ghost use Rattle.lexer_core.specs.Lexing.{Lexeme, IsProper, kind_of};
 ghost use Rattle.lexer_core.specs.declared.fault.Code.{Code};
 ghost use Rattle.reader_core.specs.declared.statement.Statement.{Statement};
-ghost use Rattle.reader_core.specs.Matches.{Spot, Matches, IsWhole};
+ghost use Rattle.reader_core.specs.Matches.{TokenWithFault, Matches, IsWhole};
 ghost use Rattle.reader_core.specs.Choices.{Derives, IsPredictive, never};
-ghost use Rattle.reader_core.specs.Language.{statement, SaysStatement, Spells, IsLawful, IsReadFault};
+ghost use Rattle.reader_core.specs.Language.{statement, SaysStatement, Spells, IsWellFormed, IsReadFault};
 
 /// No line spells two statements.
 pub fn one_statement()
@@ -29,15 +29,15 @@ pub fn spelled_or_faulty()
 /// (`Matches`), which is what faults are defined by.
 pub fn one_choice()
     ensures apart { IsPredictive statement never }
-    ensures same { (ss : List Spot) → (Derives statement ss → Matches statement ss)
+    ensures same { (ss : List TokenWithFault) → (Derives statement ss → Matches statement ss)
         × (Matches statement ss → Derives statement ss) }
 {}
 
-/// Tokens that are a whole sentence of the grammar, none of them wrong as an item's first, say a lawful
+/// Tokens that are a whole sentence of the grammar, none of them wrong as an item's first, say a well-formed
 /// statement, where names, numbers and texts are as they may be (`IsProper`).
 pub fn whole_tokens_are_said()
     ensures { (said : List Lexeme) → All IsProper said → IsWhole statement (map kind_of said)
-        → (s : Statement) × SaysStatement said s × IsLawful s }
+        → (s : Statement) × SaysStatement said s × IsWellFormed s }
 {}
 
 /// Each line spells a statement or has a fault.

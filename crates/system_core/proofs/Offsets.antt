@@ -1,7 +1,7 @@
 -- A fault of a line stands at no great offset.
 use Rattle.std.proofs.Common.{◌≡◌, ℕ, ◌≤◌, List, [], ◌∷◌, ◌++◌, length, drop, arith, ap, subst}
 use Rattle.std.proofs.lemmas.List.{length-append, length-drop}
-use Rattle.lexer_core.specs.Lexing.{AreTokens, AreHeard, IsLineFault, long_line, behind, Lexed, start, blank, token, Fails, long_name, joined_number, great_number, bad_text, open_text, long_text, stray, Lexeme}
+use Rattle.lexer_core.specs.Lexing.{AreTokens, AreSpelled, IsLineFault, long_line, behind, Lexed, start, blank, token, Fails, long_name, joined_number, great_number, bad_text, open_text, long_text, stray, Lexeme}
 use Rattle.lexer_core.specs.Text.{written_all}
 use Rattle.lexer_core.specs.declared.fault.Code.{Code}
 use Rattle.lexer_core.specs.declared.token.Token as tokens
@@ -29,14 +29,14 @@ lexical-small : (line : List ℕ) (code : Code) (offset : ℕ) → IsLineFault l
 lexical-small line _ _ (long_line h) = omega arith
 lexical-small line _ _ (behind {n} {by} {c} {ts} {ls} short lexed fails) = omega (arith, short, lexed-within line n ts ls lexed, fails-within (drop n line) c by fails, length-drop n line)
 
-heard-at : (line : List ℕ) (before rest : List tokens.Token) (t : tokens.Token) → AreHeard line (before ++ t ∷ rest) → t.start ≤ length line
+heard-at : (line : List ℕ) (before rest : List tokens.Token) (t : tokens.Token) → AreSpelled line (before ++ t ∷ rest) → t.start ≤ length line
 heard-at line [] rest t h = omega (arith, h.0.some, h.0.within)
 heard-at line (b ∷ before) rest t h = heard-at line before rest t h.1
 
 ungrammatical-small : (line : List ℕ) (g : Grammar) (kinds : List Kind) (ts before rest : List tokens.Token) (code : Code) (offset : ℕ) → AreTokens line ts → ts ≡ before ++ rest
     → IsWrongHere g kinds (length line) rest (code, offset) → offset ≤ 8192
 ungrammatical-small line g kinds ts before [] code offset are split wrong = omega (arith, are.short, ap (λ f. f.1) wrong.1)
-ungrammatical-small line g kinds ts before (t ∷ rest) code offset are split wrong = omega (arith, are.short, wrong.1, heard-at line before rest t (subst (AreHeard line) split (tokens_heard line ts are)))
+ungrammatical-small line g kinds ts before (t ∷ rest) code offset are split wrong = omega (arith, are.short, wrong.1, heard-at line before rest t (subst (AreSpelled line) split (tokens_heard line ts are)))
 
 -- where a line is not read, the offset is small
 pub offset-small : (line : List ℕ) (code : Code) (offset : ℕ) → IsReadFault line code offset → offset ≤ 8192

@@ -3,7 +3,7 @@ ghost use Rattle.std.specs.Prelude.{◌≡◌, ◌∷◌, ◌++◌, [], ℕ, Lis
 ghost use Rattle.std.specs.List.{list_any};
 ghost use Rattle.lexer_core.specs.declared.token.Kind.{Kind};
 ghost use Rattle.lexer_core.specs.declared.token.Kind.TheVariants as kinds;
-ghost use Rattle.reader_core.specs.Grammar.{Grammar, Items, More, One, AnyName, AnyTest, AnyLiteral, followed_by, mark_of, same};
+ghost use Rattle.reader_core.specs.Grammar.{Grammar, Items, More, One, AnyName, AnyTest, AnyLiteral, followed_by, item_fault, same};
 ghost use Rattle.reader_core.specs.Cursor.{Leads};
 ghost use Rattle.reader_core.specs.Privileges.{word_of, word_keyword};
 ghost use Rattle.reader_core.specs.Language.{name_says, names_rule, conditions_rule, condition_item, privileges_rule, privilege_item, behind_word, word_says};
@@ -30,7 +30,7 @@ impl Reader<'_> {
     /// The name that begins an item of a list of at most so many, after these.
     pub fn item_name<T: Named>(&mut self, items: &[T], limit: usize) -> Result<Name, ReadFault>
         ensures leads { (i : Grammar) → Leads (λ k. Items (names_rule limit) (map (λ x. kinds.Name (T.name_of x)) items.now) (One AnyName i) k) (λ n k. followed_by i (More (names_rule limit) (map (λ x. kinds.Name (T.name_of x)) items.now ++ kinds.Name n ∷ []) (One AnyName i) k)) name_says result self.old self.new }
-        ensures fine { IfOk result (λ n. mark_of (names_rule limit) (map (λ x. kinds.Name (T.name_of x)) items.now) (kinds.Name n) ≡ None) }
+        ensures faultless { IfOk result (λ n. item_fault (names_rule limit) (map (λ x. kinds.Name (T.name_of x)) items.now) (kinds.Name n) ≡ None) }
     {
         let name = self.peek_name()?;
         self.check_item(has_name(items, name), items.len(), limit)?;
@@ -41,7 +41,7 @@ impl Reader<'_> {
     /// The column that begins a condition, after these.
     pub fn tested_column(&mut self, before: &[Condition]) -> Result<Name, ReadFault>
         ensures leads { Leads (λ k. Items conditions_rule (map (λ c. kinds.Name c.column) before.now) condition_item k) (λ n k. One AnyTest (One AnyLiteral (More conditions_rule (map (λ c. kinds.Name c.column) before.now ++ kinds.Name n ∷ []) condition_item k))) name_says result self.old self.new }
-        ensures fine { IfOk result (λ n. mark_of conditions_rule (map (λ c. kinds.Name c.column) before.now) (kinds.Name n) ≡ None) }
+        ensures faultless { IfOk result (λ n. item_fault conditions_rule (map (λ c. kinds.Name c.column) before.now) (kinds.Name n) ≡ None) }
     {
         let column = self.peek_name()?;
         self.check_item(false, before.len(), MAX_ITEMS)?;
@@ -52,7 +52,7 @@ impl Reader<'_> {
     /// The word that begins a privilege, after these.
     pub fn item_word(&mut self, before: &[Privilege]) -> Result<Word, ReadFault>
         ensures leads { Leads (λ k. Items privileges_rule (map (λ p. kinds.Keyword (word_keyword (word_of p))) before.now) privilege_item k) (λ w k. behind_word w (More privileges_rule (map (λ p. kinds.Keyword (word_keyword (word_of p))) before.now ++ kinds.Keyword (word_keyword w) ∷ []) privilege_item k)) word_says result self.old self.new }
-        ensures fine { IfOk result (λ w. mark_of privileges_rule (map (λ p. kinds.Keyword (word_keyword (word_of p))) before.now) (kinds.Keyword (word_keyword w)) ≡ None) }
+        ensures faultless { IfOk result (λ w. item_fault privileges_rule (map (λ p. kinds.Keyword (word_keyword (word_of p))) before.now) (kinds.Keyword (word_keyword w)) ≡ None) }
     {
         let word = self.peek_word()?;
         self.check_item(has_word(before, word), before.len(), MAX_PRIVILEGES)?;

@@ -1,7 +1,7 @@
 //! The items of the language's lists.
 ghost use Rattle.std.specs.Prelude.{◌≡◌, ◌∷◌, ◌++◌, [], ◌<◌, None, Some, IfOk, map};
 ghost use Rattle.lexer_core.specs.Lexing.{kind_of};
-ghost use Rattle.reader_core.specs.Grammar.{Items, More, mark_of};
+ghost use Rattle.reader_core.specs.Grammar.{Items, More, item_fault};
 ghost use Rattle.reader_core.specs.Cursor.{Leads, next_is};
 
 use crate::parsing::list::Item;
@@ -14,11 +14,11 @@ use std::alloc::Global;
 
 impl Item for Column {
     ghost use Rattle.lexer_core.specs.declared.token.Kind.TheVariants as kinds;
-    ghost use Rattle.reader_core.specs.Language.{names_rule, comma, column_item, column_says};
+    ghost use Rattle.reader_core.specs.Language.{names_rule, comma_lexeme, column_item, column_says};
 
     ghost rule = { names_rule 32 };
 
-    ghost separator = { comma };
+    ghost separator = { comma_lexeme };
 
     ghost grammar = { column_item };
 
@@ -44,11 +44,11 @@ impl Item for Column {
 impl Item for Value {
     ghost use Rattle.std.specs.Prelude.{false};
     ghost use Rattle.lexer_core.specs.Lexing.{kind_of};
-    ghost use Rattle.reader_core.specs.Language.{commas, comma, literal_item, value_lexeme, value_says};
+    ghost use Rattle.reader_core.specs.Language.{comma_separated, comma_lexeme, literal_item, value_lexeme, value_says};
 
-    ghost rule = { commas 32 false };
+    ghost rule = { comma_separated 32 false };
 
-    ghost separator = { comma };
+    ghost separator = { comma_lexeme };
 
     ghost grammar = { literal_item };
 
@@ -73,11 +73,11 @@ impl Item for Value {
 
 impl Item for Name {
     ghost use Rattle.lexer_core.specs.declared.token.Kind.TheVariants as kinds;
-    ghost use Rattle.reader_core.specs.Language.{names_rule, comma, name_item, name_says};
+    ghost use Rattle.reader_core.specs.Language.{names_rule, comma_lexeme, name_item, name_says};
 
     ghost rule = { names_rule 32 };
 
-    ghost separator = { comma };
+    ghost separator = { comma_lexeme };
 
     ghost grammar = { name_item };
 
@@ -96,11 +96,11 @@ impl Item for Name {
 
 impl Item for User {
     ghost use Rattle.lexer_core.specs.declared.token.Kind.TheVariants as kinds;
-    ghost use Rattle.reader_core.specs.Language.{names_rule, comma, name_item, user_says};
+    ghost use Rattle.reader_core.specs.Language.{names_rule, comma_lexeme, name_item, user_says};
 
     ghost rule = { names_rule 16 };
 
-    ghost separator = { comma };
+    ghost separator = { comma_lexeme };
 
     ghost grammar = { name_item };
 
@@ -120,11 +120,11 @@ impl Item for User {
 
 impl Item for Assignment {
     ghost use Rattle.lexer_core.specs.declared.token.Kind.TheVariants as kinds;
-    ghost use Rattle.reader_core.specs.Language.{names_rule, comma, set_item, set_says};
+    ghost use Rattle.reader_core.specs.Language.{names_rule, comma_lexeme, set_item, set_says};
 
     ghost rule = { names_rule 32 };
 
-    ghost separator = { comma };
+    ghost separator = { comma_lexeme };
 
     ghost grammar = { set_item };
 
@@ -187,11 +187,11 @@ impl Item for Condition {
 impl Item for Privilege {
     ghost use Rattle.lexer_core.specs.declared.token.Kind.TheVariants as kinds;
     ghost use Rattle.reader_core.specs.Privileges.{word_of, word_keyword};
-    ghost use Rattle.reader_core.specs.Language.{privileges_rule, comma, privilege_item, privilege_says, IsLawfulPrivilege};
+    ghost use Rattle.reader_core.specs.Language.{privileges_rule, comma_lexeme, privilege_item, privilege_says, IsWellFormedPrivilege};
 
     ghost rule = { privileges_rule };
 
-    ghost separator = { comma };
+    ghost separator = { comma_lexeme };
 
     ghost grammar = { privilege_item };
 
@@ -199,7 +199,7 @@ impl Item for Privilege {
 
     ghost says = { privilege_says };
 
-    ghost lawful = { IsLawfulPrivilege };
+    ghost well_formed = { IsWellFormedPrivilege };
 
     fn read(
         reader: &mut Reader<'_>,

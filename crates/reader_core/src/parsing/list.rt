@@ -2,8 +2,8 @@
 ghost use Rattle.std.specs.Prelude.{◌≡◌, ◌<◌, ◌∷◌, ◌++◌, [], List, None, Some, true, All, IfOk, length, map};
 ghost use Rattle.lexer_core.specs.Lexing.{Lexeme};
 ghost use Rattle.lexer_core.specs.declared.token.Kind.{Kind};
-ghost use Rattle.reader_core.specs.Grammar.{Grammar, Rule, Items, More, mark_of};
-ghost use Rattle.reader_core.specs.Recogniser.{AreFine};
+ghost use Rattle.reader_core.specs.Grammar.{Grammar, Rule, Items, More, item_fault};
+ghost use Rattle.reader_core.specs.Recogniser.{AreFaultless};
 ghost use Rattle.reader_core.specs.Cursor.{Reads, Leads, next_is, next_lexeme};
 ghost use Rattle.reader_core.specs.Language.{listed};
 
@@ -24,26 +24,26 @@ pub trait Item: Drop + Sized {
     // What it says, token by token.
     ghost says: { Self → List Lexeme };
     // What the language asks of an item by itself.
-    ghost lawful: { Self → Type 0 } = { λ _. Unit {0} };
+    ghost well_formed: { Self → Type 0 } = { λ _. Unit {0} };
 
     /// Reads the item that comes after these.
     fn read(reader: &mut Reader<'_>, alloc: Global, before: &[Self]) -> Result<Self, ReadFault>
         ensures leads { Leads (λ k. Items rule (map first before.now) grammar k) (λ x k. More rule (map first (before.now ++ x ∷ [])) grammar k) says result reader.old reader.new }
-        ensures fine { IfOk result (λ x. mark_of rule (map first before.now) (first x) ≡ None) }
-        ensures lawful { IfOk result (λ x. lawful x) };
+        ensures faultless { IfOk result (λ x. item_fault rule (map first before.now) (first x) ≡ None) }
+        ensures well_formed { IfOk result (λ x. well_formed x) };
 
     /// Whether a separator comes next.
     fn at_separator(reader: &Reader<'_>) -> bool
         ensures next { result ≡ next_is rule.separator reader.now }
-        ensures said { result ≡ true → next_lexeme reader.now ≡ Some separator };
+        ensures lexeme { result ≡ true → next_lexeme reader.now ≡ Some separator };
 }
 
 /// One item, and more of them behind separators.
 pub fn list<T: Item>(reader: &mut Reader<'_>, alloc: Global) -> Result<Vec<T>, ReadFault>
     ensures reads { Reads (λ k. Items T.rule [] T.grammar k) (λ v. listed T.separator T.says v.items) result reader.old reader.new }
     ensures some { IfOk result (λ v. 0 < length v.items) }
-    ensures fine { IfOk result (λ v. AreFine T.rule [] (map T.first v.items)) }
-    ensures lawful { IfOk result (λ v. All T.lawful v.items) }
+    ensures faultless { IfOk result (λ v. AreFaultless T.rule [] (map T.first v.items)) }
+    ensures well_formed { IfOk result (λ v. All T.well_formed v.items) }
 {
     let mut items = Vec::new(alloc);
     loop {

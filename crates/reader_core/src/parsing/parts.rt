@@ -6,7 +6,7 @@ ghost use Rattle.lexer_core.specs.declared.token.Mark.TheVariants as marks;
 ghost use Rattle.reader_core.specs.Grammar.{Items};
 ghost use Rattle.reader_core.specs.Cursor.{Reads};
 ghost use Rattle.reader_core.specs.Privileges.{word_of};
-ghost use Rattle.reader_core.specs.Language.{optional, comma, listed, name_list, names_say, name_says, user_says, selected, selection_says, in_brackets, columns_say, behind_word, privilege_columns, IsLawfulPrivilege, privileges_rule, privilege_item, privilege_says, ArePrivileges, filter, filter_says, grant_option, option_says, only_table, only_says};
+ghost use Rattle.reader_core.specs.Language.{optional, comma_lexeme, listed, name_list, names_say, name_says, user_says, selection, selection_says, in_brackets, columns_say, behind_word, privilege_columns, IsWellFormedPrivilege, privileges_rule, privilege_item, privilege_says, ArePrivileges, filter, filter_says, grant_option, option_says, only_table, only_says};
 
 use crate::parsing::list::list;
 use crate::parsing::reader::Reader;
@@ -26,7 +26,7 @@ impl Reader<'_> {
     }
 
     pub fn users(&mut self, alloc: Global) -> Result<Distinct<User, MAX_USERS>, ReadFault>
-        ensures { Reads (name_list 16) (λ users. listed comma user_says users) result self.old self.new }
+        ensures { Reads (name_list 16) (λ users. listed comma_lexeme user_says users) result self.old self.new }
     {
         let users = list::<User>(self, alloc)?;
         Ok(Distinct::from_vec(users))
@@ -37,7 +37,7 @@ impl Reader<'_> {
         &mut self,
         alloc: Global,
     ) -> Result<Option<Distinct<Name, MAX_ITEMS>>, ReadFault>
-        ensures { Reads selected (λ list. selection_says list) result self.old self.new }
+        ensures { Reads selection (λ list. selection_says list) result self.old self.new }
     {
         if self.at_mark(Mark::Star) {
             self.advance();
@@ -71,7 +71,7 @@ impl Reader<'_> {
     pub fn privilege(&mut self, alloc: Global, word: Word) -> Result<Privilege, ReadFault>
         ensures reads { Reads (behind_word word) (λ p. columns_say (privilege_columns p)) result self.old self.new }
         ensures word { IfOk result (λ p. word_of p ≡ word) }
-        ensures lawful { IfOk result (λ p. IsLawfulPrivilege p) }
+        ensures well_formed { IfOk result (λ p. IsWellFormedPrivilege p) }
     {
         match word {
             Word::Select => Ok(Privilege::Select),
@@ -85,8 +85,8 @@ impl Reader<'_> {
     }
 
     pub fn privileges(&mut self, alloc: Global) -> Result<Privileges, ReadFault>
-        ensures reads { Reads (λ k. Items privileges_rule [] privilege_item k) (λ ps. listed comma privilege_says ps) result self.old self.new }
-        ensures lawful { IfOk result (λ ps. ArePrivileges ps) }
+        ensures reads { Reads (λ k. Items privileges_rule [] privilege_item k) (λ ps. listed comma_lexeme privilege_says ps) result self.old self.new }
+        ensures well_formed { IfOk result (λ ps. ArePrivileges ps) }
     {
         let privileges = list::<Privilege>(self, alloc)?;
         Ok(Privileges::from_vec(privileges))

@@ -2,9 +2,9 @@
 ghost use Rattle.std.specs.Prelude.{◌≡◌, ◌≢◌, ◌≤◌, ◌∷◌, [], pos, nat_le, false, true, length, drop, None, Some, IfOk, IfErr, OnOk, OnErr, MatchOption};
 ghost use Rattle.base_core.specs.declared.keyword.Keyword.TheVariants as keywords;
 ghost use Rattle.lexer_core.specs.Lexing as lexemes;
-ghost use Rattle.lexer_core.specs.Lexing.{AreHeard};
+ghost use Rattle.lexer_core.specs.Lexing.{AreSpelled};
 ghost use Rattle.lexer_core.specs.declared.token.Kind.TheVariants as kinds;
-ghost use Rattle.reader_core.specs.Grammar.{One, Key, Sign, AnyName, AnyLiteral, AnyType, AnyTest, AtLeastOne, is_test, is_privilege, mark_from};
+ghost use Rattle.reader_core.specs.Grammar.{One, Key, Sign, AnyName, AnyLiteral, AnyType, AnyTest, AtLeastOne, is_test, is_privilege, repeated_or_too_many};
 ghost use Rattle.reader_core.specs.Cursor.{Cursor, Reads, Faults, Checks, offset_at, next_kind, next_lexeme, next_is, next_is_keyword, next_is_privilege};
 ghost use Rattle.reader_core.specs.Privileges.{word_keyword};
 ghost use Rattle.reader_core.specs.Language.{name_says, type_lexeme, type_says, value_lexeme, value_says, comparison_mark, comparison_says, number_says};
@@ -51,20 +51,20 @@ pub struct Reader<'a> {
 
 impl<'a> Model for Reader<'a> {
     ghost use Rattle.std.specs.Prelude.{length, ◌≤◌};
-    ghost use Rattle.lexer_core.specs.Lexing.{AreHeard};
+    ghost use Rattle.lexer_core.specs.Lexing.{AreSpelled};
     ghost use Rattle.reader_core.specs.Cursor.{Cursor};
 
     ghost Value = { Cursor };
 
     ghost view = { λ r. record { line = r.line.now; rest = r.rest.now } };
 
-    ghost invariant = { λ r. (length r.line.now ≤ 4096) × AreHeard r.line.now r.rest.now };
+    ghost invariant = { λ r. (length r.line.now ≤ 4096) × AreSpelled r.line.now r.rest.now };
 }
 
 impl<'a> Reader<'a> {
     pub fn new(line: &'a [u8], tokens: &'a [Token]) -> Reader<'a>
         requires short { length line.now ≤ 4096 }
-        requires heard { AreHeard line.now tokens.now }
+        requires spelled { AreSpelled line.now tokens.now }
         ensures { result ≡ record { line = line.now; rest = tokens.now } }
     {
         Reader { line, rest: tokens }
@@ -102,7 +102,7 @@ impl Reader<'_> {
 
     pub fn at_keyword(&self, keyword: Keyword) -> bool
         ensures next { result ≡ next_is (Key keyword) self.now }
-        ensures said { result ≡ true → next_lexeme self.now ≡ Some (lexemes.Key keyword) }
+        ensures lexeme { result ≡ true → next_lexeme self.now ≡ Some (lexemes.Key keyword) }
     {
         match self.rest {
             [
@@ -118,7 +118,7 @@ impl Reader<'_> {
 
     pub fn at_mark(&self, mark: Mark) -> bool
         ensures next { result ≡ next_is (Sign mark) self.now }
-        ensures said { result ≡ true → next_lexeme self.now ≡ Some (lexemes.Sign mark) }
+        ensures lexeme { result ≡ true → next_lexeme self.now ≡ Some (lexemes.Sign mark) }
     {
         match self.rest {
             [
@@ -344,9 +344,9 @@ impl Reader<'_> {
     }
 
     /// Whether a list of so many items may have the one that begins here.
-    #[tactic(auto, unfolding(crate::specs::Grammar::mark_from))]
+    #[tactic(auto, unfolding(crate::specs::Grammar::repeated_or_too_many))]
     pub fn check_item(&self, is_repeated: bool, count: usize, limit: usize) -> Result<(), ReadFault>
-        ensures { Checks (mark_from is_repeated count limit) self.now result }
+        ensures { Checks (repeated_or_too_many is_repeated count limit) self.now result }
     {
         if is_repeated {
             return Err(self.fault(Code::Duplicate));

@@ -2,7 +2,7 @@
 ghost use Rattle.std.specs.Prelude.{◌≡◌, ◌∷◌, [], None, IfOk, OnOk, IfErr};
 ghost use Rattle.reader_core.specs.Grammar.{End};
 ghost use Rattle.reader_core.specs.Cursor.{Reads, fault_left, fault_of, left_says};
-ghost use Rattle.reader_core.specs.Language.{create, insert, select, delete, update, grant, revoke, checkpoint, checkpoints, export, body, finish, statement_says, IsFinished, IsLawful};
+ghost use Rattle.reader_core.specs.Language.{create, insert, select, delete, update, grant, revoke, checkpoint, checkpoints, export, body, finish, statement_says, IsFinished, IsWellFormed};
 
 use crate::parsing::list::list;
 use crate::parsing::reader::Reader;
@@ -15,7 +15,7 @@ impl Reader<'_> {
     #[tactic(auto, using(crate::proofs::Exits::exit_is))]
     fn create(&mut self, alloc: Global) -> Result<Statement, ReadFault>
         ensures reads { Reads create statement_says result self.old self.new }
-        ensures lawful { IfOk result IsLawful }
+        ensures well_formed { IfOk result IsWellFormed }
     {
         self.keyword(Keyword::Create)?;
         self.keyword(Keyword::Table)?;
@@ -29,7 +29,7 @@ impl Reader<'_> {
     #[tactic(auto, using(crate::proofs::Exits::exit_is))]
     fn insert(&mut self, alloc: Global) -> Result<Statement, ReadFault>
         ensures reads { Reads insert statement_says result self.old self.new }
-        ensures lawful { IfOk result IsLawful }
+        ensures well_formed { IfOk result IsWellFormed }
     {
         self.keyword(Keyword::Insert)?;
         self.keyword(Keyword::Into)?;
@@ -44,7 +44,7 @@ impl Reader<'_> {
     #[tactic(auto, using(crate::proofs::Exits::exit_is))]
     fn select(&mut self, alloc: Global) -> Result<Statement, ReadFault>
         ensures reads { Reads select statement_says result self.old self.new }
-        ensures lawful { IfOk result IsLawful }
+        ensures well_formed { IfOk result IsWellFormed }
     {
         self.keyword(Keyword::Select)?;
         let list = self.selection(alloc)?;
@@ -61,7 +61,7 @@ impl Reader<'_> {
     #[tactic(auto, using(crate::proofs::Exits::exit_is))]
     fn delete(&mut self, alloc: Global) -> Result<Statement, ReadFault>
         ensures reads { Reads delete statement_says result self.old self.new }
-        ensures lawful { IfOk result IsLawful }
+        ensures well_formed { IfOk result IsWellFormed }
     {
         self.keyword(Keyword::Delete)?;
         self.keyword(Keyword::From)?;
@@ -73,7 +73,7 @@ impl Reader<'_> {
     #[tactic(auto, using(crate::proofs::Exits::exit_is))]
     fn update(&mut self, alloc: Global) -> Result<Statement, ReadFault>
         ensures reads { Reads update statement_says result self.old self.new }
-        ensures lawful { IfOk result IsLawful }
+        ensures well_formed { IfOk result IsWellFormed }
     {
         self.keyword(Keyword::Update)?;
         let table = self.name()?;
@@ -90,7 +90,7 @@ impl Reader<'_> {
     #[tactic(auto, using(crate::proofs::Exits::exit_is))]
     fn grant(&mut self, alloc: Global) -> Result<Statement, ReadFault>
         ensures reads { Reads grant statement_says result self.old self.new }
-        ensures lawful { IfOk result IsLawful }
+        ensures well_formed { IfOk result IsWellFormed }
     {
         self.keyword(Keyword::Grant)?;
         let privileges = self.privileges(alloc)?;
@@ -110,7 +110,7 @@ impl Reader<'_> {
     #[tactic(auto, using(crate::proofs::Exits::exit_is))]
     fn revoke(&mut self, alloc: Global) -> Result<Statement, ReadFault>
         ensures reads { Reads revoke statement_says result self.old self.new }
-        ensures lawful { IfOk result IsLawful }
+        ensures well_formed { IfOk result IsWellFormed }
     {
         self.keyword(Keyword::Revoke)?;
         let privileges = self.privileges(alloc)?;
@@ -128,7 +128,7 @@ impl Reader<'_> {
     #[tactic(auto, using(crate::proofs::Exits::exit_is))]
     fn checkpoint(&mut self) -> Result<Statement, ReadFault>
         ensures reads { Reads checkpoint statement_says result self.old self.new }
-        ensures lawful { IfOk result IsLawful }
+        ensures well_formed { IfOk result IsWellFormed }
     {
         self.keyword(Keyword::Checkpoint)?;
         Ok(Statement::Checkpoint)
@@ -137,7 +137,7 @@ impl Reader<'_> {
     #[tactic(auto, using(crate::proofs::Exits::exit_is))]
     fn checkpoints(&mut self) -> Result<Statement, ReadFault>
         ensures reads { Reads checkpoints statement_says result self.old self.new }
-        ensures lawful { IfOk result IsLawful }
+        ensures well_formed { IfOk result IsWellFormed }
     {
         self.keyword(Keyword::Checkpoints)?;
         Ok(Statement::Checkpoints)
@@ -146,7 +146,7 @@ impl Reader<'_> {
     #[tactic(auto, using(crate::proofs::Exits::exit_is))]
     fn export(&mut self) -> Result<Statement, ReadFault>
         ensures reads { Reads export statement_says result self.old self.new }
-        ensures lawful { IfOk result IsLawful }
+        ensures well_formed { IfOk result IsWellFormed }
     {
         self.keyword(Keyword::Export)?;
         let number = self.number()?;
@@ -157,7 +157,7 @@ impl Reader<'_> {
     /// A statement without its ";".
     pub fn body(&mut self, alloc: Global) -> Result<Statement, ReadFault>
         ensures reads { Reads body statement_says result self.old self.new }
-        ensures lawful { IfOk result IsLawful }
+        ensures well_formed { IfOk result IsWellFormed }
     {
         match self.peek_keyword()? {
             Keyword::Create => self.create(alloc),

@@ -4,10 +4,10 @@ use Rattle.printer_core.proofs.Writing.{nothing, each_on, all_on}
 use Rattle.printer_core.proofs.printed.write_behind.Goals as goal
 
 pub loop-item-init : goal.loop-item-init
-loop-item-init g c = record { written = nothing c.args.page.now; lawful = All-nil g.T.Printed.lawful }
+loop-item-init g c = record { written = nothing c.args.page.now; well_formed = All-nil g.T.Printed.well_formed }
 
 pub loop-item-preserved : goal.loop-item-preserved
 loop-item-preserved g c = record {
-  written = each_on g.T.Printed.separator g.T.Printed.says g.T.Printed.lawful c.args.items.now c.loop-item.item-index c.item-item.result (omega arith) c.item-item.is c.loop-item.invariant.written c.in_ok-write_separator.ensures c.in_ok-write.ensures.written;
-  lawful = all_on g.T.Printed.separator g.T.Printed.says g.T.Printed.lawful c.args.items.now c.loop-item.item-index c.item-item.result (omega arith) c.item-item.is c.loop-item.invariant.lawful c.in_ok-write.ensures.lawful;
+  written = each_on g.T.Printed.separator g.T.Printed.says g.T.Printed.well_formed c.args.items.now c.loop-item.item-index c.item-item.result (omega arith) c.item-item.is c.loop-item.invariant.written c.in_ok-write_separator.ensures c.in_ok-write.ensures.written;
+  well_formed = all_on g.T.Printed.separator g.T.Printed.says g.T.Printed.well_formed c.args.items.now c.loop-item.item-index c.item-item.result (omega arith) c.item-item.is c.loop-item.invariant.well_formed c.in_ok-write.ensures.well_formed;
 }

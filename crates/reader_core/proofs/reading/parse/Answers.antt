@@ -21,4 +21,4 @@ returns-in_err-finish-clause-faulty c =
 
 pub returns-clause-spelled : goal.returns-clause-spelled
 returns-clause-spelled c =
-    spelled_so c.args.line.now c.in_ok-tokens.tokens.items c.deref.result.now c.new-reader.result c.new-reader.ensures c.deref.ensures.value c.in_ok-tokens.ensures.outcome (some_vec c.in_ok-tokens.tokens (sym c.if-is_empty.ensures)) _ c.in_ok-statement.statement c.in_ok-tokens.ensures.says c.in_ok-statement.ensures.reads c.in_ok-finish.ensures.ok.1 c.in_ok-statement.ensures.lawful
+    spelled_so c.args.line.now c.in_ok-tokens.tokens.items c.deref.result.now c.new-reader.result c.new-reader.ensures c.deref.ensures.value c.in_ok-tokens.ensures.outcome (some_vec c.in_ok-tokens.tokens (sym c.if-is_empty.ensures)) _ c.in_ok-statement.statement c.in_ok-tokens.ensures.says c.in_ok-statement.ensures.reads c.in_ok-finish.ensures.ok.1 c.in_ok-statement.ensures.well_formed

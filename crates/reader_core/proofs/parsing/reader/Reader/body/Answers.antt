@@ -52,5 +52,5 @@ returns-in_default c = record {
     not_checkpoints = c.in_default.not-Checkpoints;
     not_export = c.in_default.not-Export;
   }) c.fault.ensures;
-  lawful = tt;
+  well_formed = tt;
 }

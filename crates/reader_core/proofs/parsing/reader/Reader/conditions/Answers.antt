@@ -6,4 +6,4 @@ use Rattle.reader_core.proofs.parsing.reader.Reader.conditions.Goals as goal
 
 pub from_vec-requires : goal.from_vec-requires
 from_vec-requires c =
-    (omega arith, few_if_fine conditions_rule (λ x. kinds.Name x.column) c.in_ok-conditions.conditions.items c.in_ok-conditions.ensures.fine)
+    (omega arith, few_if_fine conditions_rule (λ x. kinds.Name x.column) c.in_ok-conditions.conditions.items c.in_ok-conditions.ensures.faultless)

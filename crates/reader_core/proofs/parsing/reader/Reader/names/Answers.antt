@@ -7,4 +7,4 @@ use Rattle.reader_core.proofs.parsing.reader.Reader.names.Goals as goal
 pub from_vec-requires : goal.from_vec-requires
 from_vec-requires c =
     let names = c.in_ok-names.names.items in
-    (omega arith, (c.in_ok-names.ensures.some, (few_if_fine (names_rule 32) (λ x. kinds.Name x) names c.in_ok-names.ensures.fine, distinct_if_fine 32 (λ x. x) names c.in_ok-names.ensures.fine)))
+    (omega arith, (c.in_ok-names.ensures.some, (few_if_fine (names_rule 32) (λ x. kinds.Name x) names c.in_ok-names.ensures.faultless, distinct_if_fine 32 (λ x. x) names c.in_ok-names.ensures.faultless)))

@@ -12,7 +12,7 @@ abbrev names : Grammar → Grammar
 names k = name_list 32 k
 
 pub returns-then-at_mark : goal.returns-then-at_mark
-returns-then-at_mark c = entered_takes (Sign marks.Star) (λ k. k) names c.args.self.now (sym c.if-at_mark.ensures.next) (one_taken c.args.self.now c.advance.new.self (Sign marks.Star) (lexemes.Sign marks.Star) (sym c.if-at_mark.ensures.next) (c.at_mark.ensures.said c.if-at_mark.true) c.advance.ensures.rest c.advance.ensures.line)
+returns-then-at_mark c = entered_takes (Sign marks.Star) (λ k. k) names c.args.self.now (sym c.if-at_mark.ensures.next) (one_taken c.args.self.now c.advance.new.self (Sign marks.Star) (lexemes.Sign marks.Star) (sym c.if-at_mark.ensures.next) (c.at_mark.ensures.lexeme c.if-at_mark.true) c.advance.ensures.rest c.advance.ensures.line)
 
 pub returns-in_err-names : goal.returns-in_err-names
 returns-in_err-names c = exits _ _ _ _ _ _ _ c.from_residual.ensures.1 (passed_faults (Sign marks.Star) (λ k. k) names c.args.self.now (sym c.if-at_mark.ensures.next) c.in_err-names.ensures)

@@ -2,7 +2,7 @@ use Rattle.std.proofs.Common.{refl, ◌∙◌, ◌≡◌, None, Some, sym, ap, m
 use Rattle.lexer_core.specs.Lexing as lexemes
 use Rattle.lexer_core.specs.declared.token.Kind.{Kind}
 use Rattle.lexer_core.specs.declared.token.Kind.TheVariants as kinds
-use Rattle.reader_core.specs.Grammar.{Grammar, mark_of, One, End, AnyName, AnyTest, AnyLiteral}
+use Rattle.reader_core.specs.Grammar.{Grammar, item_fault, One, End, AnyName, AnyTest, AnyLiteral}
 use Rattle.reader_core.specs.Cursor.{fault_of}
 use Rattle.reader_core.specs.Language.{conditions_rule}
 use Rattle.reader_core.proofs.Exits.{exits}
@@ -23,12 +23,12 @@ returns-in_err-check_item-clause-leads c =
     let n = c.in_ok-column.column in
     let seen : List Kind = map (λ x. kinds.Name x.column) c.args.before.now in
     let ch = c.in_err-check_item.ensures in
-    let m : mark_of conditions_rule seen (kinds.Name n) ≡ Some ch.0 = rw (firsts_length (λ x. kinds.Name x.column) c.args.before.now) ch.1 in
+    let m : item_fault conditions_rule seen (kinds.Name n) ≡ Some ch.0 = rw (firsts_length (λ x. kinds.Name x.column) c.args.before.now) ch.1 in
     exits _ _ _ _ _ _ _ c.from_residual-in_err-check_item.ensures.1 record { fault = λ ne k. item_bad c.args.self.now conditions_rule seen AnyName rest k (kinds.Name n) ch.0 c.in_ok-column.ensures.kind refl m ∙ sym (ap fault_of ch.2) }
 
 pub returns-clause-leads : goal.returns-clause-leads
 returns-clause-leads c =
     let n = c.in_ok-column.column in
     let seen : List Kind = map (λ x. kinds.Name x.column) c.args.before.now in
-    let m : mark_of conditions_rule seen (kinds.Name n) ≡ None = rw (firsts_length (λ x. kinds.Name x.column) c.args.before.now) c.in_ok-check_item.ensures in
+    let m : item_fault conditions_rule seen (kinds.Name n) ≡ None = rw (firsts_length (λ x. kinds.Name x.column) c.args.before.now) c.in_ok-check_item.ensures in
     item_taken conditions_rule seen AnyName rest (kinds.Name n) (lexemes.Named n) c.in_ok-column.ensures.kind (said_by_kind c.args.self.now (kinds.Name n) (lexemes.Named n) c.in_ok-column.ensures.kind (λ bytes. refl)) refl m c.advance.ensures.rest c.advance.ensures.line
