@@ -1,9 +1,10 @@
 //! Calls of the core, and its replies.
 use base_core::{Limits, Name, User};
 use reader_core::read;
+use script_core::reply_text;
 use std::alloc::Global;
 use std::test::Fail;
-use system_core::{Event, Reply, System, reply_text};
+use system_core::{Event, Reply, System};
 
 /// That this user says this.
 pub fn say_as(alloc: Global, user: &[u8], statement: &[u8]) -> Result<Event, Fail> {

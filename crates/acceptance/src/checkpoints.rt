@@ -45,7 +45,10 @@ fn kept_value(rt: HostRuntime) -> Result<(), Fail> {
             ("ann: CHECKPOINT", "checkpoint 1 begun @4"),
             ("ann: UPDATE t SET v = 9", "done @5"),
             ("ann: DELETE FROM t", "done @6"),
-            ("ann: EXPORT 1", "export 1 point 4 @6\ntable,t,v\nrow,1\nrow,2\nrow,3\nend 1"),
+            (
+                "ann: EXPORT 1",
+                "export 1 point 4 @6\ntable,t,v\nrow,1\nrow,2\nrow,3\nend 1",
+            ),
             ("ann: SELECT * FROM t", "rows 0 @6"),
         ],
     )?;
@@ -68,7 +71,10 @@ fn captured_grants(rt: HostRuntime) -> Result<(), Fail> {
             ("u: EXPORT 1", "export 1 point 3 @4\nwithheld,t,now\nend 1"),
             ("u: EXPORT 1 ONLY t", "denied @4: u now lacks SELECT on t"),
             ("o: GRANT SELECT ON t TO u", "done @5"),
-            ("u: EXPORT 1", "export 1 point 3 @5\ntable,t,v\nrow,7\nend 1"),
+            (
+                "u: EXPORT 1",
+                "export 1 point 3 @5\ntable,t,v\nrow,7\nend 1",
+            ),
         ],
     )?;
     Ok(())
@@ -85,7 +91,10 @@ fn granted_after_point(rt: HostRuntime) -> Result<(), Fail> {
             ("o: INSERT INTO t VALUES (7)", "done @2"),
             ("o: CHECKPOINT", "checkpoint 1 begun @2"),
             ("o: GRANT SELECT ON t TO u", "done @3"),
-            ("u: EXPORT 1", "export 1 point 2 @3\nwithheld,t,point\nend 1"),
+            (
+                "u: EXPORT 1",
+                "export 1 point 2 @3\nwithheld,t,point\nend 1",
+            ),
             ("u: EXPORT 1 ONLY t", "denied @2: u lacked SELECT on t"),
         ],
     )?;
@@ -146,7 +155,10 @@ fn tables_after_the_point(rt: HostRuntime) -> Result<(), Fail> {
             ("o: CREATE TABLE t (x INTEGER)", "done @1"),
             ("o: CHECKPOINT", "checkpoint 1 begun @1"),
             ("o: CREATE TABLE s (x INTEGER)", "done @2"),
-            ("o: EXPORT 1 ONLY s", "denied @1: no table s at checkpoint 1"),
+            (
+                "o: EXPORT 1 ONLY s",
+                "denied @1: no table s at checkpoint 1",
+            ),
             ("o: EXPORT 1 ONLY r", "denied @2: no table r"),
             ("o: EXPORT 2 ONLY t", "denied @2: no checkpoint 2"),
             ("o: EXPORT 1", "export 1 point 1 @2\ntable,t,x\nend 1"),

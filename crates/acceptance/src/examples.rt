@@ -2,11 +2,12 @@
 ghost use Rattle.std.specs.Prelude.{◌<◌, ◌≤◌};
 
 use base_core::{StdSink, StdSource};
+use script_core::script;
 use std::alloc::Global;
 use std::io::BufWriter;
 use std::process::Abort;
 use std::test::Fail;
-use system_core::{System, script};
+use system_core::System;
 
 /// What a script of these bytes writes, and the core after it.
 pub fn played(alloc: Global, lines: &[u8], chunk: usize) -> Result<(Vec<u8>, System), Fail>

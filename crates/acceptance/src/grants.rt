@@ -80,7 +80,10 @@ fn list_denied_whole(rt: HostRuntime) -> Result<(), Fail> {
         &[
             ("o: CREATE TABLE t (x INTEGER)", "done @1"),
             ("o: GRANT SELECT ON t TO b WITH GRANT OPTION", "done @2"),
-            ("b: GRANT SELECT, INSERT ON t TO c", "denied @2: b may not grant INSERT on t"),
+            (
+                "b: GRANT SELECT, INSERT ON t TO c",
+                "denied @2: b may not grant INSERT on t",
+            ),
             ("c: SELECT * FROM t", "denied @2: c lacks SELECT on t"),
         ],
     )?;
@@ -98,7 +101,10 @@ fn hidden_reading(rt: HostRuntime) -> Result<(), Fail> {
         &[
             ("o: CREATE TABLE t (x INTEGER)", "done @1"),
             ("o: GRANT DELETE ON t TO u", "done @2"),
-            ("u: DELETE FROM t WHERE x = 1", "denied @2: u lacks SELECT on t"),
+            (
+                "u: DELETE FROM t WHERE x = 1",
+                "denied @2: u lacks SELECT on t",
+            ),
             ("u: DELETE FROM t", "done @3"),
         ],
     )?;
@@ -115,7 +121,10 @@ fn repeated_revoke(rt: HostRuntime) -> Result<(), Fail> {
             ("o: CREATE TABLE t (x INTEGER)", "done @1"),
             ("o: GRANT SELECT ON t TO u", "done @2"),
             ("o: REVOKE SELECT ON t FROM u", "done @3"),
-            ("o: REVOKE SELECT ON t FROM u", "denied @3: o granted no SELECT on t to u"),
+            (
+                "o: REVOKE SELECT ON t FROM u",
+                "denied @3: o granted no SELECT on t to u",
+            ),
         ],
     )?;
     Ok(())
@@ -171,7 +180,10 @@ fn update_by_columns(rt: HostRuntime) -> Result<(), Fail> {
             ("o: GRANT UPDATE ON t TO u", "done @2"),
             ("u: UPDATE t SET x = 1, n = 'a'", "done @3"),
             ("o: REVOKE UPDATE (n) ON t FROM u", "done @4"),
-            ("u: UPDATE t SET x = 1, n = 'a'", "denied @4: u lacks UPDATE(n) on t"),
+            (
+                "u: UPDATE t SET x = 1, n = 'a'",
+                "denied @4: u lacks UPDATE(n) on t",
+            ),
             ("u: UPDATE t SET x = 1", "done @5"),
         ],
     )?;
@@ -189,14 +201,38 @@ fn first_lack_of_a_list(rt: HostRuntime) -> Result<(), Fail> {
         &[
             ("o: CREATE TABLE t (n TEXT, x INTEGER)", "done @1"),
             ("o: GRANT UPDATE (x) ON t TO u", "done @2"),
-            ("u: GRANT SELECT, UPDATE (y) ON s TO v", "denied @2: no table s"),
-            ("u: GRANT SELECT, UPDATE (y) ON t TO v", "denied @2: no column y in t"),
-            ("u: GRANT UPDATE, SELECT ON t TO v", "denied @2: u may not grant UPDATE(n) on t"),
-            ("u: GRANT UPDATE (x), SELECT ON t TO v", "denied @2: u may not grant UPDATE(x) on t"),
-            ("o: REVOKE SELECT, UPDATE (y) ON s FROM u", "denied @2: no table s"),
-            ("o: REVOKE SELECT, UPDATE (y) ON t FROM u", "denied @2: no column y in t"),
-            ("o: REVOKE UPDATE (x), SELECT ON t FROM u, v", "denied @2: o granted no UPDATE(x) on t to v"),
-            ("o: REVOKE UPDATE (n, x) ON t FROM u, v", "denied @2: o granted no UPDATE(n) on t to u"),
+            (
+                "u: GRANT SELECT, UPDATE (y) ON s TO v",
+                "denied @2: no table s",
+            ),
+            (
+                "u: GRANT SELECT, UPDATE (y) ON t TO v",
+                "denied @2: no column y in t",
+            ),
+            (
+                "u: GRANT UPDATE, SELECT ON t TO v",
+                "denied @2: u may not grant UPDATE(n) on t",
+            ),
+            (
+                "u: GRANT UPDATE (x), SELECT ON t TO v",
+                "denied @2: u may not grant UPDATE(x) on t",
+            ),
+            (
+                "o: REVOKE SELECT, UPDATE (y) ON s FROM u",
+                "denied @2: no table s",
+            ),
+            (
+                "o: REVOKE SELECT, UPDATE (y) ON t FROM u",
+                "denied @2: no column y in t",
+            ),
+            (
+                "o: REVOKE UPDATE (x), SELECT ON t FROM u, v",
+                "denied @2: o granted no UPDATE(x) on t to v",
+            ),
+            (
+                "o: REVOKE UPDATE (n, x) ON t FROM u, v",
+                "denied @2: o granted no UPDATE(n) on t to u",
+            ),
         ],
     )?;
     Ok(())
@@ -212,12 +248,27 @@ fn order_of_lacks(rt: HostRuntime) -> Result<(), Fail> {
         &[
             ("ann: CREATE TABLE pay (name TEXT, wage INTEGER)", "done @1"),
             ("ann: GRANT UPDATE (wage) ON pay TO bob", "done @2"),
-            ("bob: UPDATE pay SET name = 'x', wage = 'y'", "denied @2: bob lacks UPDATE(name) on pay"),
-            ("bob: UPDATE pay SET wage = 'y'", "refused @2: column wage takes INTEGER"),
+            (
+                "bob: UPDATE pay SET name = 'x', wage = 'y'",
+                "denied @2: bob lacks UPDATE(name) on pay",
+            ),
+            (
+                "bob: UPDATE pay SET wage = 'y'",
+                "refused @2: column wage takes INTEGER",
+            ),
             ("bob: UPDATE pay SET wage = 1", "done @3"),
-            ("ann: INSERT INTO pay VALUES ('x')", "refused @3: 1 values for 2 columns"),
-            ("ann: SELECT age FROM pay", "denied @3: no column age in pay"),
-            ("ann: CREATE TABLE pay (x TEXT)", "denied @3: table pay exists"),
+            (
+                "ann: INSERT INTO pay VALUES ('x')",
+                "refused @3: 1 values for 2 columns",
+            ),
+            (
+                "ann: SELECT age FROM pay",
+                "denied @3: no column age in pay",
+            ),
+            (
+                "ann: CREATE TABLE pay (x TEXT)",
+                "denied @3: table pay exists",
+            ),
             ("bob: SELECT * FROM pax", "denied @3: no table pax"),
         ],
     )?;

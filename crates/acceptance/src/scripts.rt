@@ -34,9 +34,18 @@ fn ends_of_the_type(rt: HostRuntime) -> Result<(), Fail> {
         &[
             ("ann: CREATE TABLE n (v INTEGER)", "done @1"),
             ("ann: INSERT INTO n VALUES (9223372036854775807)", "done @2"),
-            ("ann: INSERT INTO n VALUES (-9223372036854775808)", "done @3"),
-            ("ann: INSERT INTO n VALUES (9223372036854775808)", "error 5 at 27: bad number"),
-            ("ann: SELECT * FROM n", "rows 2 @3\nrow,9223372036854775807\nrow,-9223372036854775808"),
+            (
+                "ann: INSERT INTO n VALUES (-9223372036854775808)",
+                "done @3",
+            ),
+            (
+                "ann: INSERT INTO n VALUES (9223372036854775808)",
+                "error 5 at 27: bad number",
+            ),
+            (
+                "ann: SELECT * FROM n",
+                "rows 2 @3\nrow,9223372036854775807\nrow,-9223372036854775808",
+            ),
         ],
     )?;
     Ok(())
@@ -97,8 +106,14 @@ fn rows_changed_and_deleted(rt: HostRuntime) -> Result<(), Fail> {
             ("o: INSERT INTO t VALUES ('a', 1)", "done @2"),
             ("o: INSERT INTO t VALUES ('b', 2)", "done @3"),
             ("o: INSERT INTO t VALUES ('c', 3)", "done @4"),
-            ("o: UPDATE t SET x = 9, n = 'z' WHERE x <> 2 AND n < 'c'", "done @5"),
-            ("o: SELECT x, n FROM t", "rows 3 @5\nrow,9,z\nrow,2,b\nrow,3,c"),
+            (
+                "o: UPDATE t SET x = 9, n = 'z' WHERE x <> 2 AND n < 'c'",
+                "done @5",
+            ),
+            (
+                "o: SELECT x, n FROM t",
+                "rows 3 @5\nrow,9,z\nrow,2,b\nrow,3,c",
+            ),
             ("o: DELETE FROM t WHERE x >= 3 AND n <= 'c'", "done @6"),
             ("o: SELECT * FROM t WHERE n > 'b'", "rows 1 @6\nrow,z,9"),
             ("o: DELETE FROM t", "done @7"),
@@ -117,19 +132,55 @@ fn first_lack_is_named(rt: HostRuntime) -> Result<(), Fail> {
         16,
         &[
             ("o: CREATE TABLE t (n TEXT, x INTEGER)", "done @1"),
-            ("u: SELECT y, z FROM t WHERE w = 1", "denied @1: no column y in t"),
-            ("u: SELECT x FROM t WHERE w = 1", "denied @1: no column w in t"),
-            ("u: SELECT x FROM t WHERE x = 'a'", "denied @1: u lacks SELECT on t"),
-            ("o: SELECT x FROM t WHERE n = 'a' AND x = 'a'", "refused @1: column x takes INTEGER"),
+            (
+                "u: SELECT y, z FROM t WHERE w = 1",
+                "denied @1: no column y in t",
+            ),
+            (
+                "u: SELECT x FROM t WHERE w = 1",
+                "denied @1: no column w in t",
+            ),
+            (
+                "u: SELECT x FROM t WHERE x = 'a'",
+                "denied @1: u lacks SELECT on t",
+            ),
+            (
+                "o: SELECT x FROM t WHERE n = 'a' AND x = 'a'",
+                "refused @1: column x takes INTEGER",
+            ),
             ("u: DELETE FROM s WHERE y = 1", "denied @1: no table s"),
-            ("u: DELETE FROM t WHERE y = 1", "denied @1: no column y in t"),
-            ("u: DELETE FROM t WHERE n = 1", "denied @1: u lacks DELETE on t"),
-            ("o: DELETE FROM t WHERE n = 1", "refused @1: column n takes TEXT"),
-            ("u: UPDATE t SET y = 1 WHERE z = 1", "denied @1: no column y in t"),
-            ("u: UPDATE t SET x = 'a' WHERE z = 1", "denied @1: no column z in t"),
-            ("u: UPDATE t SET x = 'a', n = 1", "denied @1: u lacks UPDATE(x) on t"),
-            ("o: UPDATE t SET n = 1 WHERE x = 'a'", "refused @1: column n takes TEXT"),
-            ("o: UPDATE t SET n = 'a' WHERE x = 'a'", "refused @1: column x takes INTEGER"),
+            (
+                "u: DELETE FROM t WHERE y = 1",
+                "denied @1: no column y in t",
+            ),
+            (
+                "u: DELETE FROM t WHERE n = 1",
+                "denied @1: u lacks DELETE on t",
+            ),
+            (
+                "o: DELETE FROM t WHERE n = 1",
+                "refused @1: column n takes TEXT",
+            ),
+            (
+                "u: UPDATE t SET y = 1 WHERE z = 1",
+                "denied @1: no column y in t",
+            ),
+            (
+                "u: UPDATE t SET x = 'a' WHERE z = 1",
+                "denied @1: no column z in t",
+            ),
+            (
+                "u: UPDATE t SET x = 'a', n = 1",
+                "denied @1: u lacks UPDATE(x) on t",
+            ),
+            (
+                "o: UPDATE t SET n = 1 WHERE x = 'a'",
+                "refused @1: column n takes TEXT",
+            ),
+            (
+                "o: UPDATE t SET n = 'a' WHERE x = 'a'",
+                "refused @1: column x takes INTEGER",
+            ),
         ],
     )?;
     Ok(())
@@ -143,12 +194,27 @@ fn what_is_missing_is_named(rt: HostRuntime) -> Result<(), Fail> {
         16,
         &[
             ("ann: CREATE TABLE pay (name TEXT, wage INTEGER)", "done @1"),
-            ("ann: INSERT INTO pay VALUES ('x')", "refused @1: 1 values for 2 columns"),
-            ("ann: INSERT INTO pay VALUES ('x', 'y')", "refused @1: column wage takes INTEGER"),
-            ("ann: CREATE TABLE pay (x TEXT)", "denied @1: table pay exists"),
+            (
+                "ann: INSERT INTO pay VALUES ('x')",
+                "refused @1: 1 values for 2 columns",
+            ),
+            (
+                "ann: INSERT INTO pay VALUES ('x', 'y')",
+                "refused @1: column wage takes INTEGER",
+            ),
+            (
+                "ann: CREATE TABLE pay (x TEXT)",
+                "denied @1: table pay exists",
+            ),
             ("bob: SELECT * FROM pax", "denied @1: no table pax"),
-            ("bob: SELECT * FROM pay", "denied @1: bob lacks SELECT on pay"),
-            ("bob: INSERT INTO pay VALUES ('x')", "denied @1: bob lacks INSERT on pay"),
+            (
+                "bob: SELECT * FROM pay",
+                "denied @1: bob lacks SELECT on pay",
+            ),
+            (
+                "bob: INSERT INTO pay VALUES ('x')",
+                "denied @1: bob lacks INSERT on pay",
+            ),
         ],
     )?;
     Ok(())

@@ -21,11 +21,12 @@ use base_core::{Broken, Sink, StdSink, StdSource, write_all};
 use command_line::{CommandLine, options};
 use ending::{NO_MEMORY, audit_end, fault_text};
 use lines_core::SessionFault;
+use script_core::script;
 use std::io::BufWriter;
 use std::mem::forget;
 use std::process::ExitCode;
 use std::{env, io};
-use system_core::{System, script};
+use system_core::System;
 
 // What is gathered of the output before it is written.
 const OUTPUT_BYTES: usize = 65536;

@@ -13,8 +13,4 @@ pub mod Exported
 pub mod Exporting
 pub mod Replaying
 mod Running
-pub mod Refusals
-pub mod Pushing
-pub mod Offsets
-pub mod Answering
 pub mod Unworn

@@ -5,14 +5,11 @@ pub mod Judging
 pub mod Step
 pub mod Carrying
 pub mod Standing
-pub use Rattle.lines_core.specs.Lines
-pub use Rattle.lines_core.specs.Serving
 pub use Rattle.base_core.specs.Words
 pub use Rattle.base_core.specs.Full
 pub use Rattle.base_core.specs.Users
 pub use Rattle.base_core.specs.Values
 pub use Rattle.base_core.specs.Lacks
-pub use Rattle.base_core.specs.Streams
 pub use Rattle.tables_core.specs.Contents
 pub use Rattle.monitor_core.specs.Atoms
 pub use Rattle.monitor_core.specs.Verdict
@@ -24,8 +21,3 @@ pub use Rattle.catalogue_core.specs.Kept
 pub use Rattle.export_core.specs.Record
 pub use Rattle.export_core.specs.Export
 pub use Rattle.export_core.specs.Ticket
-pub mod Texts
-pub mod Script
-pub mod Saying
-pub use Rattle.lexer_core.specs.Lexing
-pub use Rattle.lexer_core.specs.Codes

@@ -1,5 +1,5 @@
-//! The core: the journal of accepted changes, the tables and rights that it makes, the checkpoints of
-//! them, and the answers to a script.
+//! The core: the journal of accepted changes, the tables and rights that it makes, and the checkpoints of
+//! them.
 //!
 //! A [`System`] stands for a world: its journal; how many checkpoints were begun, those that are kept, each
 //! by its number and its point, and the active one with the number of its records that are left; its chunk
@@ -30,15 +30,7 @@
 //! ```text
 //! let mut system = System::new(alloc, 16)?;
 //! system.step(Event::Say { pass: 0, user: ann, statement });  // Done { at: Moment(1) }
-//! reply_text(alloc, &reply)?;                                 // done @1
 //! ```
-//!
-//! [`script`] has [`lines_core`] read lines `user: statement`, and gives the writer the text of each reply before it looks
-//! at the next line, and after an export's its records; before it reads on, it flushes. Each line, whatever
-//! it is, is followed by one step of the checkpointer; where that finds no memory, the checkpoint is given
-//! up, and the script says so. Texts are made in one buffer that a script makes when it starts, but for
-//! rows and lists, which may be lost for want of memory. The contract is over bytes: what was written is answers to the lines of what
-//! was read, one after another, by the machine above.
 //!
 //! # Mechanism
 //!
@@ -59,17 +51,12 @@
 //! the owners and, of who is not the owner, over all grants that were ever made; a CREATE TABLE goes over
 //! the owners, a REVOKE replays all grants, and an audit the whole journal. A CHECKPOINT copies all rows and
 //! grants in force, and its steps count; an EXPORT asks two rights of each table and then costs what it
-//! writes. A line costs its bytes once. The journal keeps each change, the tables each row, the rights each
-//! grant, also what was revoked, and each checkpoint all rows and grants of its point.
+//! writes. The journal keeps each change, the tables each row, the rights each grant, also what was
+//! revoked, and each checkpoint all rows and grants of its point.
 #![tactic(auto)]
 
 pub mod laws;
 mod machine;
-mod replies;
-mod scripts;
 
-pub use lines_core::SessionFault;
 pub use machine::event::{Checkpoint, Entry, Event, Reply};
 pub use machine::system::System;
-pub use replies::wording::reply_text;
-pub use scripts::server::script;

@@ -1,0 +1,38 @@
+-- What is said of a line before it is written, and how that comes of the line.
+use Rattle.std.specs.Prelude.{ℕ, ◌≡◌, true, false, List, [], ◌++◌, Option, Some, None, Ok}
+use Rattle.base_core.specs.declared.name.User.{User}
+use Rattle.reader_core.specs.declared.statement.Statement.{Statement}
+use Rattle.script_core.specs.Texts.{fault_text, unread_text}
+use Rattle.system_core.specs.World.{World}
+use Rattle.system_core.specs.Step.{Step}
+use Rattle.script_core.specs.Script.{addressed, Asks, IsFaulty, TellsReply, is_refused}
+use Rattle.system_core.specs.declared.machine.event.Event.TheVariants as events
+use Rattle.system_core.specs.declared.machine.event.Reply.{Reply}
+use Rattle.script_core.specs.declared.scripts.answer.Said.{Said}
+use Rattle.script_core.specs.declared.scripts.answer.Said.TheVariants as says
+
+-- what a line comes to
+abbrev pub ComesTo : World → List ℕ → Said → World → Type 0
+ComesTo old line (says.Fault code offset) new = IsFaulty line code offset × (new ≡ old)
+ComesTo old line says.Unread new = (user : User) × (start : ℕ) × (addressed line ≡ Ok (user, start)) × (new ≡ old)
+ComesTo old line (says.Answer reply) new = (user : User) × (asked : Statement) × Asks line user asked × Step old (events.Say 0 user asked) reply new
+
+-- what may be written of it
+abbrev pub TellsSaid : Said → List ℕ → Type 0
+TellsSaid (says.Fault code offset) text = text ≡ fault_text code offset
+TellsSaid says.Unread text = text ≡ unread_text
+TellsSaid (says.Answer reply) text = TellsReply reply text
+
+-- what a step of the checkpointer comes to: nothing to say, or that a checkpoint is given up
+abbrev pub Advanced : World → Option Reply → World → Type 0
+Advanced old None new = (reply : Reply) × Step old events.Step reply new × (is_refused reply ≡ false)
+Advanced old (Some reply) new = (refusal : Reply) × (mid : World) × Step old events.Step refusal mid × (is_refused refusal ≡ true) × Step mid events.Abandon reply new
+
+-- what may be written of it
+abbrev pub TellsAdvanced : Option Reply → List ℕ → Type 0
+TellsAdvanced None text = text ≡ []
+TellsAdvanced (Some reply) text = TellsReply reply text
+
+-- what may be written of both
+abbrev pub TellsBoth : Said → Option Reply → List ℕ → Type 0
+TellsBoth said advanced text = (first : List ℕ) × (second : List ℕ) × TellsSaid said first × TellsAdvanced advanced second × (text ≡ first ++ second)

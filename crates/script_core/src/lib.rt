@@ -1,0 +1,29 @@
+//! Scripts: lines read, answered by the core, and written.
+//!
+//! [`script`] is the one contract, and it is over bytes: what was written is answers to the lines of what was
+//! read, one after another, by the machine of [`system_core`] (`specs/Script.antt`). It has [`lines_core`] read
+//! lines `user: statement`, and gives the writer the text of each reply before it looks at the next line, and
+//! after an export's its records; before it reads on, it flushes. Each line, whatever it is, is followed by
+//! one step of the checkpointer; where that finds no memory, the checkpoint is given up, and the script says
+//! so.
+//!
+//! [`reply_text`] is the text of a reply, byte for byte (`specs/Texts.antt`).
+//!
+//! ```text
+//! script(alloc, &mut reader, &mut writer, 16)?;       // ann: SELECT * FROM pay
+//!                                                     // denied @0: no table pay
+//! ```
+//!
+//! Texts are made in one buffer that a script makes when it starts, with room for every text but rows, lists
+//! of checkpoints and an export's records. So a fault, a lack and what was done are told whatever memory
+//! there is; rows and lists are made in new memory and may be lost, and an export may be cut.
+//!
+//! A line costs its bytes once, what its statement costs in the core, and the bytes of its answer.
+#![tactic(auto)]
+
+mod replies;
+mod scripts;
+
+pub use lines_core::SessionFault;
+pub use replies::wording::reply_text;
+pub use scripts::server::script;
