@@ -3,6 +3,7 @@ use Rattle.std.specs.Prelude.{ℕ, List, codes}
 use Rattle.lexer_core.specs.declared.fault.Code.{Code}
 use Rattle.lexer_core.specs.declared.fault.Code.TheVariants.{Empty, TooLong, BadByte, Expected, BadNumber, OpenText, Duplicate, TooMany, LongName, Trailing}
 
+-- the number of a code
 abbrev pub code_number : Code → ℕ
 code_number Empty = 1
 code_number TooLong = 2
@@ -15,6 +16,7 @@ code_number TooMany = 8
 code_number LongName = 9
 code_number Trailing = 10
 
+-- and its words
 abbrev pub code_text : Code → List ℕ
 code_text Empty = codes "empty"
 code_text TooLong = codes "too long"

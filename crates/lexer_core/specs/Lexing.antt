@@ -45,6 +45,7 @@ IsProper (Number z) = FitsSigned w64 z
 IsProper (Text t) = IsText t
 IsProper (Sign m) = Unit {0}
 
+-- how a line writes a mark
 abbrev pub mark_text : Mark → List ℕ
 mark_text marks.Open = codes "("
 mark_text marks.Close = codes ")"
@@ -76,6 +77,7 @@ pub record QuotesText (t : List ℕ) (bytes : List ℕ) : Type 0 where
   pub value : t ≡ encode_utf8_all chars
   pub short : length t ≤ 1024
 
+-- the bytes are a text in quotes
 abbrev pub IsSomeText : List ℕ → Type 0
 IsSomeText bytes = (t : List ℕ) × QuotesText t bytes
 
@@ -93,6 +95,7 @@ mark_goes_on marks.Less b = (b == 61) || (b == 62)
 mark_goes_on marks.Greater b = b == 61
 mark_goes_on _ b = false
 
+-- the same of any token
 abbrev pub goes_on : Lexeme → ℕ → Bool
 goes_on (Key k) b = is_word_byte b
 goes_on (Named n) b = is_word_byte b
@@ -120,39 +123,59 @@ pub record BeginsMark (bytes : List ℕ) (m : Mark) : Type 0 where
 
 -- a digit, or a `-` directly before one
 abbrev pub starts_number : List ℕ → Bool
-starts_number bytes = is_ascii_digit (slice_index bytes 0) || ((slice_index bytes 0 == 45) && is_ascii_digit (slice_index bytes 1))
+starts_number bytes =
+    is_ascii_digit (slice_index bytes 0)
+    || ((slice_index bytes 0 == 45) && is_ascii_digit (slice_index bytes 1))
 
+-- a byte that begins a mark
 abbrev pub is_mark_byte : ℕ → Bool
 is_mark_byte b = list_any (λ m. b == m) (codes "(),*;=<>")
 
+-- a space or a tab
 abbrev pub is_blank : ℕ → Bool
 is_blank b = (b == 32) || (b == 9)
 
+-- a letter, a number, a quote or a mark
 abbrev pub begins_token : List ℕ → Bool
-begins_token bytes = is_ascii_alphabetic (slice_index bytes 0) || starts_number bytes || (slice_index bytes 0 == 39) || is_mark_byte (slice_index bytes 0)
+begins_token bytes =
+    is_ascii_alphabetic (slice_index bytes 0) || starts_number bytes || (slice_index bytes 0 == 39)
+    || is_mark_byte (slice_index bytes 0)
 
--- the length of the sign at the front, and of the sign and the digits
+-- the length of the sign at the front
 abbrev pub sign_len : List ℕ → ℕ
 sign_len bytes = if slice_index bytes 0 == 45 then 1 else 0
 
+-- the length of the sign and the digits at the front
 abbrev pub number_len : List ℕ → ℕ
 number_len bytes = sign_len bytes + prefix_len is_ascii_digit (drop (sign_len bytes) bytes)
 
 -- the fault that stands at the front
 pub data Fails : List ℕ → Code → ℕ → Type 0 where
-  long_name : {bytes : List ℕ} → is_ascii_alphabetic (slice_index bytes 0) ≡ true → 30 < prefix_len is_word_byte bytes → Fails bytes codes_of.LongName 0
-  joined_number : {bytes : List ℕ} → starts_number bytes ≡ true → is_word_byte (slice_index bytes (number_len bytes)) ≡ true → Fails bytes codes_of.BadNumber 0
-  great_number : {bytes : List ℕ} → starts_number bytes ≡ true → IsTooGreat (take (number_len bytes) bytes) → Fails bytes codes_of.BadNumber 0
-  bad_text : {bytes cs rest : List ℕ} → BeginsText bytes cs rest → 0 < length rest → slice_index rest 0 ≢ 39 → BeginsWithNoPlain rest → Fails bytes codes_of.BadByte (1 + length (written_all cs))
+  long_name : {bytes : List ℕ} → is_ascii_alphabetic (slice_index bytes 0) ≡ true
+      → 30 < prefix_len is_word_byte bytes → Fails bytes codes_of.LongName 0
+  joined_number : {bytes : List ℕ} → starts_number bytes ≡ true
+      → is_word_byte (slice_index bytes (number_len bytes)) ≡ true
+      → Fails bytes codes_of.BadNumber 0
+  great_number : {bytes : List ℕ} → starts_number bytes ≡ true
+      → IsTooGreat (take (number_len bytes) bytes) → Fails bytes codes_of.BadNumber 0
+  bad_text : {bytes cs rest : List ℕ} → BeginsText bytes cs rest → 0 < length rest
+      → slice_index rest 0 ≢ 39 → BeginsWithNoPlain rest
+      → Fails bytes codes_of.BadByte (1 + length (written_all cs))
   open_text : {bytes cs : List ℕ} → BeginsText bytes cs [] → Fails bytes codes_of.OpenText 0
-  long_text : {bytes cs rest : List ℕ} → BeginsText bytes cs (39 ∷ rest) → slice_index rest 0 ≢ 39 → 1024 < length (encode_utf8_all cs) → Fails bytes codes_of.TooLong 0
-  stray : {bytes : List ℕ} → begins_token bytes ≡ false → is_blank (slice_index bytes 0) ≡ false → 0 < length bytes → Fails bytes codes_of.BadByte 0
+  long_text : {bytes cs rest : List ℕ} → BeginsText bytes cs (39 ∷ rest) → slice_index rest 0 ≢ 39
+      → 1024 < length (encode_utf8_all cs) → Fails bytes codes_of.TooLong 0
+  stray : {bytes : List ℕ} → begins_token bytes ≡ false → is_blank (slice_index bytes 0) ≡ false
+      → 0 < length bytes → Fails bytes codes_of.BadByte 0
 
 -- the first n bytes of a line are blanks and these tokens, which say these things
 pub data Lexed (line : List ℕ) : ℕ → List tokens.Token → List Lexeme → Type 0 where
   start : Lexed line 0 [] []
-  blank : {n : ℕ} {ts : List tokens.Token} {ls : List Lexeme} → Lexed line n ts ls → n < length line → is_blank (slice_index line n) ≡ true → Lexed line (n + 1) ts ls
-  token : {n k : ℕ} {ts : List tokens.Token} {ls : List Lexeme} {l : Lexeme} → Lexed line n ts ls → BeginsLexeme (drop n line) l k → Lexed line (n + k) (ts ++ record { kind = kind_of l; start = n; end = n + k } ∷ []) (ls ++ l ∷ [])
+  blank : {n : ℕ} {ts : List tokens.Token} {ls : List Lexeme} → Lexed line n ts ls → n < length line
+      → is_blank (slice_index line n) ≡ true → Lexed line (n + 1) ts ls
+  token : {n k : ℕ} {ts : List tokens.Token} {ls : List Lexeme} {l : Lexeme} → Lexed line n ts ls
+      → BeginsLexeme (drop n line) l k
+      → Lexed line (n + k)
+      (ts ++ record { kind = kind_of l; start = n; end = n + k } ∷ []) (ls ++ l ∷ [])
 
 -- the line is these tokens
 pub record AreTokens (line : List ℕ) (ts : List tokens.Token) : Type 0 where
@@ -163,12 +186,15 @@ pub record AreTokens (line : List ℕ) (ts : List tokens.Token) : Type 0 where
 -- this is the leftmost fault of the line
 pub data IsLineFault (line : List ℕ) : Code → ℕ → Type 0 where
   long_line : 4096 < length line → IsLineFault line codes_of.TooLong 4096
-  behind : {n by : ℕ} {c : Code} {ts : List tokens.Token} {ls : List Lexeme} → length line ≤ 4096 → Lexed line n ts ls → Fails (drop n line) c by → IsLineFault line c (n + by)
+  behind : {n by : ℕ} {c : Code} {ts : List tokens.Token} {ls : List Lexeme} → length line ≤ 4096
+      → Lexed line n ts ls → Fails (drop n line) c by → IsLineFault line c (n + by)
 
+-- where it is a fault, it is the leftmost one
 abbrev pub IsFaultOf : List ℕ → ReadFault → Type 0
 IsFaultOf line read_faults.NoMemory = Unit {0}
 IsFaultOf line (read_faults.At code offset) = IsLineFault line code offset
 
+-- the same of a fault as the code has it
 abbrev pub FailsWith : List ℕ → faults.Fault → Type 0
 FailsWith bytes f = Fails bytes f.code f.offset
 
@@ -204,7 +230,12 @@ pub record LocatedLexeme : Type 0 where
 
 -- a token of a line, by what it says
 abbrev pub located : List ℕ → tokens.Token → LocatedLexeme
-located line t = record { lexeme = lexeme_of t.kind (take (t.end - t.start) (drop t.start line)); start = t.start }
+located line t =
+    record {
+      lexeme = lexeme_of t.kind (take (t.end - t.start)
+          (drop t.start line));
+      start = t.start;
+    }
 
 -- each token's slice spells what it says
 abbrev pub AreSpelled : List ℕ → List tokens.Token → Type 0

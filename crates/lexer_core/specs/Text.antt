@@ -16,12 +16,14 @@ written c = if c == 39 then 39 ∷ 39 ∷ [] else encode_utf8 c
 abbrev pub written_len : ℕ → ℕ
 written_len c = if c == 39 then 2 else len_utf8 c
 
+-- how it writes these characters
 abbrev pub written_all : List ℕ → List ℕ
 written_all cs = flat_map written cs
 
 -- the bytes begin with no character that may stand in a text
 abbrev pub BeginsWithNoPlain : List ℕ → Type 0
-BeginsWithNoPlain bytes = (c : ℕ) (rest : List ℕ) → IsScalar c → is_printable c ≡ true → bytes ≢ encode_utf8 c ++ rest
+BeginsWithNoPlain bytes =
+    (c : ℕ) (rest : List ℕ) → IsScalar c → is_printable c ≡ true → bytes ≢ encode_utf8 c ++ rest
 
 -- the bytes begin with a character, of n bytes, that may stand in a text
 pub record BeginsWithPlain (bytes : List ℕ) (n : ℕ) : Type 0 where

@@ -37,7 +37,8 @@ fn first_token(bytes: &[u8]) -> Result<(Kind, usize), Fault>
     requires short { length bytes.now ≤ 4096 }
     requires no_blank { is_blank (slice_index bytes.now 0) ≡ false }
     ensures fault_within { IfErr result (λ f. f.offset < length bytes.now) }
-    ensures first { MatchResult result (λ t. BeginsKind bytes.now t.0 t.1) (λ f. FailsWith bytes.now f) }
+    ensures first { MatchResult result (λ t. BeginsKind bytes.now t.0 t.1)
+        (λ f. FailsWith bytes.now f) }
 {
     let first = byte_at(bytes, 0);
     if first.is_ascii_alphabetic() {
@@ -63,12 +64,15 @@ fn first_token(bytes: &[u8]) -> Result<(Kind, usize), Fault>
 /// opening quote), `BadByte`, `BadNumber`, `OpenText` or `LongName`. `NoMemory` comes only where
 /// memory for the tokens was refused.
 pub fn tokens(alloc: Global, line: &[u8]) -> Result<Vec<Token>, ReadFault>
-    ensures outcome { MatchResult result (λ v. AreTokens line.now v.items) (λ e. IsFaultOf line.now e) }
+    ensures outcome { MatchResult result (λ v. AreTokens line.now v.items)
+        (λ e. IsFaultOf line.now e) }
     ensures spelled { IfOk result (λ v. AreSpelled line.now v.items) }
-    ensures says { IfOk result (λ v. Says line.now (map (λ t. (located line.now t).lexeme) v.items)) }
+    ensures says { IfOk result
+        (λ v. Says line.now (map (λ t. (located line.now t).lexeme) v.items)) }
 
     // Each token starts at or behind the end of the one before, and ends within the line.
-    ensures ordered { IfOk result (λ v. AllPairs (λ before after. before.end ≤ after.start) v.items) }
+    ensures ordered { IfOk result
+        (λ v. AllPairs (λ before after. before.end ≤ after.start) v.items) }
     ensures within { IfOk result (λ v. All (λ t. t.end ≤ length line.now) v.items) }
 {
     if line.len() > MAX_LINE {

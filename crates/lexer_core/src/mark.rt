@@ -48,7 +48,8 @@ fn longest_mark(first: u8, next: u8) -> Option<Mark>
 
 /// The longest mark that stands first.
 pub fn mark(bytes: &[u8]) -> Option<Mark>
-    ensures { MatchOption result (is_mark_byte (slice_index bytes.now 0) ≡ false) (BeginsMark bytes.now) }
+    ensures { MatchOption result (is_mark_byte (slice_index bytes.now 0) ≡ false)
+        (BeginsMark bytes.now) }
 {
     longest_mark(byte_at(bytes, 0), byte_at(bytes, 1))
 }

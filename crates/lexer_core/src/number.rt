@@ -55,7 +55,8 @@ fn value(spelled: &[u8]) -> Option<i64>
 pub fn number(bytes: &[u8]) -> Result<(Kind, usize), Fault>
     requires { starts_number bytes.now ≡ true }
     ensures fault_within { IfErr result (λ f. f.offset < length bytes.now) }
-    ensures first { MatchResult result (λ t. BeginsKind bytes.now t.0 t.1) (λ f. FailsWith bytes.now f) }
+    ensures first { MatchResult result (λ t. BeginsKind bytes.now t.0 t.1)
+        (λ f. FailsWith bytes.now f) }
 {
     let len = number_len(bytes);
     if is_word_byte(byte_at(bytes, len)) {

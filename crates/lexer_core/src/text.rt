@@ -16,7 +16,8 @@ const MAX_TEXT: usize = 1024;
 
 /// The character that the bytes begin with.
 fn first_char(bytes: &[u8]) -> Option<char>
-    ensures { MatchOption result (StartsWithNoChar bytes.now) (λ c. (rest : List ℕ) × (bytes.now ≡ encode_utf8 c ++ rest)) }
+    ensures { MatchOption result (StartsWithNoChar bytes.now)
+        (λ c. (rest : List ℕ) × (bytes.now ≡ encode_utf8 c ++ rest)) }
 {
     let front = &bytes[..bytes.len().min(4)];
     front.utf8_chunks().next()?.valid().chars().next()
@@ -48,7 +49,8 @@ pub fn text(bytes: &[u8]) -> Result<(Kind, usize), Fault>
     requires quote { slice_index bytes.now 0 ≡ 39 }
     requires short { length bytes.now ≤ 4096 }
     ensures fault_within { IfErr result (λ f. f.offset < length bytes.now) }
-    ensures first { MatchResult result (λ t. BeginsKind bytes.now t.0 t.1) (λ f. FailsWith bytes.now f) }
+    ensures first { MatchResult result (λ t. BeginsKind bytes.now t.0 t.1)
+        (λ f. FailsWith bytes.now f) }
 {
     let mut at = 1;
     let mut size = 0;

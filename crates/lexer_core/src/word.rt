@@ -10,8 +10,8 @@ use crate::fault::{Code, Fault};
 use crate::token::Kind;
 use base_core::{MAX_NAME, Word, is_word_byte};
 
-/// The number of bytes of letters, digits and `_` at the front. Where the first is a letter, they are
-/// a word.
+/// The number of bytes of letters, digits and `_` at the front. Where the first is a letter, they
+/// are a word.
 pub fn word_len(bytes: &[u8]) -> usize
     ensures len { result ≡ prefix_len is_word_byte bytes.now }
     ensures within { result ≤ length bytes.now }
@@ -23,7 +23,8 @@ pub fn word_len(bytes: &[u8]) -> usize
 pub fn word(bytes: &[u8]) -> Result<(Kind, usize), Fault>
     requires { is_ascii_alphabetic (slice_index bytes.now 0) ≡ true }
     ensures fault_within { IfErr result (λ f. f.offset < length bytes.now) }
-    ensures first { MatchResult result (λ t. BeginsKind bytes.now t.0 t.1) (λ f. FailsWith bytes.now f) }
+    ensures first { MatchResult result (λ t. BeginsKind bytes.now t.0 t.1)
+        (λ f. FailsWith bytes.now f) }
 {
     let len = word_len(bytes);
     if len > MAX_NAME {

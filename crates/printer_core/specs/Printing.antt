@@ -12,7 +12,8 @@ use Rattle.reader_core.specs.Language.{statement_says}
 abbrev pub doubled : List ℕ → List ℕ
 doubled bytes = flat_map (λ b. if b == 39 then 39 ∷ 39 ∷ [] else b ∷ []) bytes
 
--- keywords in capitals, names as they are, which is in small letters, numbers in plain decimal, texts in quotes
+-- keywords in capitals, names as they are, which is in small letters, numbers in plain decimal,
+-- texts in quotes
 abbrev pub lexeme_text : Lexeme → List ℕ
 lexeme_text (Key k) = text_of k
 lexeme_text (Named n) = n
@@ -20,17 +21,19 @@ lexeme_text (Number z) = signed_decimal z
 lexeme_text (Text t) = 39 ∷ (doubled t ++ 39 ∷ [])
 lexeme_text (Sign m) = mark_text m
 
--- a token that no space follows, and one that none precedes
+-- a token that no space follows
 abbrev pub is_opening : Lexeme → Bool
 is_opening (Sign marks.Open) = true
 is_opening _ = false
 
+-- a token that no space precedes
 abbrev pub is_trailing : Lexeme → Bool
 is_trailing (Sign marks.Close) = true
 is_trailing (Sign marks.Comma) = true
 is_trailing _ = false
 
--- what stands before a token: nothing at the front and behind "(", and otherwise a space, but none before ")" and before ","
+-- what stands before a token: nothing at the front and behind "(", and otherwise a space, but none
+-- before ")" and before ","
 abbrev pub gap : Bool → Lexeme → List ℕ
 gap true l = []
 gap false l = if is_trailing l then [] else 32 ∷ []
@@ -53,6 +56,7 @@ pub record Sheet : Type 0 where
   pub text : List ℕ
   pub tight : Bool
 
+-- whether a token may stand right behind these
 abbrev pub tight_behind : Bool → List Lexeme → Bool
 tight_behind tight [] = tight
 tight_behind tight (l ∷ ls) = tight_behind (is_opening l) ls

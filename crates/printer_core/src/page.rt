@@ -65,7 +65,8 @@ impl Page {
 
     /// The space before a token, where one has to stand.
     fn space(&mut self) -> Result<(), NoMemory>
-        ensures text { OnOk result (self.new.text ≡ self.old.text ++ (if self.old.tight then [] else 32 ∷ [])) }
+        ensures text { OnOk result (self.new.text ≡ self.old.text
+            ++ (if self.old.tight then [] else 32 ∷ [])) }
     {
         if !self.is_tight {
             self.text.push(' ')?;

@@ -33,7 +33,8 @@ pub trait Printed: Sized {
 }
 
 fn write_behind<T: Printed>(page: &mut Page, items: &[T]) -> Result<(), NoMemory>
-    ensures written { OnOk result (Prints (flat_map (λ x. T.separator ∷ T.says x) items.now) page.old page.new) }
+    ensures written { OnOk result
+        (Prints (flat_map (λ x. T.separator ∷ T.says x) items.now) page.old page.new) }
     ensures well_formed { OnOk result (All T.well_formed items.now) }
 {
     for item in items {
@@ -187,7 +188,9 @@ impl Printed for Condition {
 }
 
 fn write_in_brackets(page: &mut Page, names: &Distinct<Name, MAX_ITEMS>) -> Result<(), NoMemory>
-    ensures written { OnOk result (Prints (lexemes.Sign marks.Open ∷ (names_say names.now ++ lexemes.Sign marks.Close ∷ [])) page.old page.new) }
+    ensures written { OnOk result (Prints
+        (lexemes.Sign marks.Open ∷ (names_say names.now ++ lexemes.Sign marks.Close ∷ []))
+        page.old page.new) }
     ensures well_formed { OnOk result (AreNamed 32 (λ n. n) names.now) }
 {
     page.mark(Mark::Open)?;

@@ -36,8 +36,10 @@ impl From<NoMemory> for PrintFault {
 
 impl Page {
     fn create(&mut self, table: Name, columns: &Distinct<Column, MAX_ITEMS>) -> Result<(), NoMemory>
-        ensures written { OnOk result (Prints (statement_says (statements.CreateTable table columns.now)) self.old self.new) }
-        ensures well_formed { OnOk result (IsWellFormed (statements.CreateTable table columns.now)) }
+        ensures written { OnOk result (Prints
+            (statement_says (statements.CreateTable table columns.now)) self.old self.new) }
+        ensures well_formed { OnOk result
+            (IsWellFormed (statements.CreateTable table columns.now)) }
     {
         self.keyword(Keyword::Create)?;
         self.keyword(Keyword::Table)?;
@@ -49,7 +51,8 @@ impl Page {
     }
 
     fn insert(&mut self, table: Name, values: &Several<Value, MAX_ITEMS>) -> Result<(), NoMemory>
-        ensures written { OnOk result (Prints (statement_says (statements.Insert table values.now)) self.old self.new) }
+        ensures written { OnOk result (Prints
+            (statement_says (statements.Insert table values.now)) self.old self.new) }
         ensures well_formed { OnOk result (IsWellFormed (statements.Insert table values.now)) }
     {
         self.keyword(Keyword::Insert)?;
@@ -93,8 +96,10 @@ impl Page {
         table: Name,
         filter: &Limited<Condition, MAX_ITEMS>,
     ) -> Result<(), NoMemory>
-        ensures written { OnOk result (Prints (statement_says (statements.Select list.now table filter.now)) self.old self.new) }
-        ensures well_formed { OnOk result (IsWellFormed (statements.Select list.now table filter.now)) }
+        ensures written { OnOk result (Prints
+            (statement_says (statements.Select list.now table filter.now)) self.old self.new) }
+        ensures well_formed { OnOk result
+            (IsWellFormed (statements.Select list.now table filter.now)) }
     {
         self.keyword(Keyword::Select)?;
         self.selection(list)?;
@@ -109,7 +114,8 @@ impl Page {
         table: Name,
         filter: &Limited<Condition, MAX_ITEMS>,
     ) -> Result<(), NoMemory>
-        ensures written { OnOk result (Prints (statement_says (statements.Delete table filter.now)) self.old self.new) }
+        ensures written { OnOk result (Prints
+            (statement_says (statements.Delete table filter.now)) self.old self.new) }
         ensures well_formed { OnOk result (IsWellFormed (statements.Delete table filter.now)) }
     {
         self.keyword(Keyword::Delete)?;
@@ -125,8 +131,10 @@ impl Page {
         sets: &Distinct<Assignment, MAX_ITEMS>,
         filter: &Limited<Condition, MAX_ITEMS>,
     ) -> Result<(), NoMemory>
-        ensures written { OnOk result (Prints (statement_says (statements.Update table sets.now filter.now)) self.old self.new) }
-        ensures well_formed { OnOk result (IsWellFormed (statements.Update table sets.now filter.now)) }
+        ensures written { OnOk result (Prints
+            (statement_says (statements.Update table sets.now filter.now)) self.old self.new) }
+        ensures well_formed { OnOk result
+            (IsWellFormed (statements.Update table sets.now filter.now)) }
     {
         self.keyword(Keyword::Update)?;
         self.name(table)?;
@@ -154,8 +162,11 @@ impl Page {
         users: &Distinct<User, MAX_USERS>,
         option: bool,
     ) -> Result<(), NoMemory>
-        ensures written { OnOk result (Prints (statement_says (statements.Grant privileges.now table users.now option)) self.old self.new) }
-        ensures well_formed { OnOk result (IsWellFormed (statements.Grant privileges.now table users.now option)) }
+        ensures written { OnOk result (Prints
+            (statement_says (statements.Grant privileges.now table users.now option))
+            self.old self.new) }
+        ensures well_formed { OnOk result
+            (IsWellFormed (statements.Grant privileges.now table users.now option)) }
     {
         self.keyword(Keyword::Grant)?;
         write_list(self, privileges.as_slice())?;
@@ -173,8 +184,10 @@ impl Page {
         table: Name,
         users: &Distinct<User, MAX_USERS>,
     ) -> Result<(), NoMemory>
-        ensures written { OnOk result (Prints (statement_says (statements.Revoke privileges.now table users.now)) self.old self.new) }
-        ensures well_formed { OnOk result (IsWellFormed (statements.Revoke privileges.now table users.now)) }
+        ensures written { OnOk result (Prints
+            (statement_says (statements.Revoke privileges.now table users.now)) self.old self.new) }
+        ensures well_formed { OnOk result
+            (IsWellFormed (statements.Revoke privileges.now table users.now)) }
     {
         self.keyword(Keyword::Revoke)?;
         write_list(self, privileges.as_slice())?;
@@ -196,7 +209,8 @@ impl Page {
     }
 
     fn export(&mut self, number: CheckpointNumber, only: Option<Name>) -> Result<(), NoMemory>
-        ensures written { OnOk result (Prints (statement_says (statements.Export number only)) self.old self.new) }
+        ensures written { OnOk result (Prints
+            (statement_says (statements.Export number only)) self.old self.new) }
         ensures well_formed { OnOk result (IsWellFormed (statements.Export number only)) }
     {
         self.keyword(Keyword::Export)?;
@@ -241,8 +255,8 @@ impl Page {
     }
 }
 
-/// The canonical text of a statement: keywords in capitals, names in small letters, numbers in plain
-/// decimal, one space between tokens but none behind `(` and before `)` and `,`, and no `;`.
+/// The canonical text of a statement: keywords in capitals, names in small letters, numbers in
+/// plain decimal, one space between tokens but none behind `(` and before `)` and `,`, and no `;`.
 ///
 /// `TooLong` exactly where that text has more than 4,096 bytes, the most that a line may have.
 /// `NoMemory` where a request for memory was refused.

@@ -18,6 +18,7 @@ pub record Cursor : Type 0 where
 abbrev pub offset_at : Cursor → ℕ
 offset_at c = elim c.rest [ [] ↦ length c.line | t ∷ ts ↦ t.start ]
 
+-- the kind of the next token
 abbrev pub next_kind : Cursor → Option Kind
 next_kind c = elim c.rest [ [] ↦ None | t ∷ ts ↦ Some t.kind ]
 
@@ -25,6 +26,7 @@ next_kind c = elim c.rest [ [] ↦ None | t ∷ ts ↦ Some t.kind ]
 abbrev pub next_lexeme : Cursor → Option Lexeme
 next_lexeme c = elim c.rest [ [] ↦ None | t ∷ ts ↦ Some (located c.line t).lexeme ]
 
+-- whether a token of the class comes next
 abbrev pub next_is : Class → Cursor → Bool
 next_is c cursor = elim cursor.rest [ [] ↦ false | t ∷ ts ↦ fits c t.kind ]
 
@@ -44,12 +46,15 @@ left_says c = map (λ t. (located c.line t).lexeme) c.rest
 abbrev pub fault_left : Grammar → Cursor → Option Fault
 fault_left g c = first_fault (length c.line) g c.rest
 
--- The tokens were taken: they say this, and whatever is wrong with them as before is what is wrong with those left as after.
-pub record Takes (before after : Grammar → Grammar) (said : List Lexeme) (old new : Cursor) : Type 0 where
+-- The tokens were taken: they say this, and whatever is wrong with them as before is what is wrong
+-- with those left as after.
+pub record Takes (before after : Grammar → Grammar) (said : List Lexeme)
+    (old new : Cursor) : Type 0 where
   pub says : left_says old ≡ said ++ left_says new
   pub line : new.line ≡ old.line
   pub fault : (k : Grammar) → fault_left (before k) old ≡ fault_left (after k) new
 
+-- the fault that an answer names
 abbrev pub fault_of : ReadFault → Option Fault
 fault_of faults.NoMemory = None
 fault_of (faults.At code offset) = Some (code, offset)
@@ -59,11 +64,14 @@ pub record Faults (before : Grammar → Grammar) (e : ReadFault) (old : Cursor) 
   pub fault : e ≢ faults.NoMemory → (k : Grammar) → fault_left (before k) old ≡ fault_of e
 
 -- A part of the language: where it was read, the tokens say its value; else it is what is wrong.
-abbrev pub Leads : {V : Type 0} → (Grammar → Grammar) → (V → Grammar → Grammar) → (V → List Lexeme) → Result V ReadFault → Cursor → Cursor → Type 0
+abbrev pub Leads : {V : Type 0} → (Grammar → Grammar) → (V → Grammar → Grammar) → (V → List Lexeme)
+    → Result V ReadFault → Cursor → Cursor → Type 0
 Leads before after says (Ok v) old new = Takes before (after v) (says v) old new
 Leads before after says (Err e) old new = Faults before e old
 
-abbrev pub Reads : {V : Type 0} → (Grammar → Grammar) → (V → List Lexeme) → Result V ReadFault → Cursor → Cursor → Type 0
+-- the same of a part that is read whole
+abbrev pub Reads : {V : Type 0} → (Grammar → Grammar) → (V → List Lexeme) → Result V ReadFault
+    → Cursor → Cursor → Type 0
 Reads g says r old new = Leads g (λ _ k. k) says r old new
 
 -- a check of an item's first token: passed, or the code at its place

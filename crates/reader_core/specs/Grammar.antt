@@ -21,6 +21,7 @@ pub data Class : Type 0 where
   AnyTest : Class
   AtLeastOne : Class
 
+-- a number for each keyword
 abbrev pub keyword_number : Keyword → ℕ
 keyword_number keywords.And = 0
 keyword_number keywords.Checkpoint = 1
@@ -48,6 +49,7 @@ keyword_number keywords.Values = 22
 keyword_number keywords.Where = 23
 keyword_number keywords.With = 24
 
+-- a number for each mark
 abbrev pub mark_number : Mark → ℕ
 mark_number marks.Open = 0
 mark_number marks.Close = 1
@@ -61,38 +63,50 @@ mark_number marks.LessEqual = 8
 mark_number marks.Greater = 9
 mark_number marks.GreaterEqual = 10
 
+-- whether a token is this keyword
 abbrev pub is_keyword : Keyword → Kind → Bool
 is_keyword k (kinds.Keyword j) = nat_eq (keyword_number k) (keyword_number j)
 is_keyword k _ = false
 
+-- whether it is some keyword
 abbrev pub is_any_keyword : Kind → Bool
 is_any_keyword (kinds.Keyword k) = true
 is_any_keyword _ = false
 
+-- whether it is this mark
 abbrev pub is_mark : Mark → Kind → Bool
 is_mark m (kinds.Mark n) = nat_eq (mark_number m) (mark_number n)
 is_mark m _ = false
 
+-- whether it is a name
 abbrev pub is_name : Kind → Bool
 is_name (kinds.Name n) = true
 is_name _ = false
 
+-- a number or a text
 abbrev pub is_literal : Kind → Bool
 is_literal (kinds.Number n) = true
 is_literal kinds.Text = true
 is_literal _ = false
 
+-- a mark that compares
 abbrev pub is_test : Kind → Bool
-is_test t = is_mark marks.Equal t || is_mark marks.NotEqual t || is_mark marks.Less t || is_mark marks.LessEqual t || is_mark marks.Greater t || is_mark marks.GreaterEqual t
+is_test t =
+    is_mark marks.Equal t || is_mark marks.NotEqual t || is_mark marks.Less t
+    || is_mark marks.LessEqual t || is_mark marks.Greater t || is_mark marks.GreaterEqual t
 
 -- a word that names a privilege
 abbrev pub is_privilege : Kind → Bool
-is_privilege t = is_keyword keywords.Select t || is_keyword keywords.Insert t || is_keyword keywords.Delete t || is_keyword keywords.Update t
+is_privilege t =
+    is_keyword keywords.Select t || is_keyword keywords.Insert t || is_keyword keywords.Delete t
+    || is_keyword keywords.Update t
 
+-- a number from 1
 abbrev pub is_at_least_one : Kind → Bool
 is_at_least_one (kinds.Number (pos n)) = nat_le 1 n
 is_at_least_one _ = false
 
+-- whether a token is of the class
 abbrev pub fits : Class → Kind → Bool
 fits (Key k) t = is_keyword k t
 fits (Sign m) t = is_mark m t
@@ -121,9 +135,11 @@ pub data Grammar : Type 0 where
   End : Grammar
   -- a token of the class, and then the rest
   One : Class → Grammar → Grammar
-  -- where the next token is of the class, that token and then the first grammar; otherwise the second
+  -- where the next token is of the class, that token and then the first grammar; otherwise the
+  -- second
   Case : Class → Grammar → Grammar → Grammar
-  -- an item, after those that began with the tokens seen; then a separator and a further item, as often as one comes; then the rest
+  -- an item, after those that began with the tokens seen; then a separator and a further item, as
+  -- often as one comes; then the rest
   Items : Rule → List Kind → Grammar → Grammar → Grammar
   -- the same behind an item
   More : Rule → List Kind → Grammar → Grammar → Grammar
@@ -139,11 +155,14 @@ followed_by (More r s i g) k = More r s i (followed_by g k)
 -- ---- what is wrong with an item
 -- of one that comes after so many, and is repeated or is not
 unfoldable pub repeated_or_too_many : Bool → ℕ → ℕ → Option Code
-repeated_or_too_many repeated count limit = if repeated then Some codes.Duplicate else if nat_le limit count then Some codes.TooMany else None
+repeated_or_too_many repeated count limit =
+    if repeated then Some codes.Duplicate else if nat_le limit count then Some codes.TooMany
+    else None
 
 -- the same of an item that begins with this token, after those that began with the tokens seen
 abbrev pub item_fault : Rule → List Kind → Kind → Option Code
-item_fault r seen t = repeated_or_too_many (r.distinct && list_any (λ x. same x t) seen) (length seen) r.limit
+item_fault r seen t =
+    repeated_or_too_many (r.distinct && list_any (λ x. same x t) seen) (length seen) r.limit
 
 -- a code, and the byte where it stands
 abbrev pub Fault : Type 0

@@ -1,4 +1,5 @@
--- A grammar as a machine that takes token after token: what it may still be, and the leftmost fault.
+-- A grammar as a machine that takes token after token: what it may still be, and the leftmost
+-- fault.
 use Rattle.std.specs.Prelude.{◌≡◌, ℕ, Bool, true, false, if◌then◌else◌, List, [], ◌∷◌, ◌++◌, Option, Some, None}
 use Rattle.lexer_core.specs.declared.token.Kind.{Kind}
 use Rattle.lexer_core.specs.declared.token.Token as tokens
@@ -27,10 +28,12 @@ enter (Case c a b) k t = if fits c t then Some (followed_by a k) else enter b k 
 enter (Items r s i g) k t = None
 enter (More r s i g) k t = None
 
+-- the item's fault, and what may follow
 abbrev pub with_fault : Option Code → Option Grammar → Option (Option Code × Grammar)
 with_fault m None = None
 with_fault m (Some g) = Some (m, g)
 
+-- what a token makes of a grammar: its fault if it begins an item, and what may follow
 abbrev pub step : Grammar → Kind → Option (Option Code × Grammar)
 step End t = None
 step (One c g) t = if fits c t then Some (None, g) else None
@@ -38,7 +41,8 @@ step (Case c a b) t = if fits c t then Some (None, a) else step b t
 step (Items r s i g) t = with_fault (item_fault r s t) (enter i (More r (s ++ t ∷ []) i g) t)
 step (More r s i g) t = if fits r.separator t then Some (None, Items r s i g) else step g t
 
--- the first token that is wrong, as its code and its place; or `Expected` at the end, where they are not whole
+-- the first token that is wrong, as its code and its place; or `Expected` at the end, where they
+-- are not whole
 unfoldable pub first_fault : ℕ → Grammar → List tokens.Token → Option Fault
 first_fault end g [] = if can_end g then None else Some (codes.Expected, end)
 first_fault end g (t ∷ ts) = elim (step g t.kind) [

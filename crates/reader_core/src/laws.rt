@@ -24,17 +24,17 @@ pub fn spelled_or_faulty()
         → IsReadFault line code offset → ⊥ }
 {}
 
-/// No choice of the grammar is between parts that begin with the same token. And tokens are a sentence
-/// by some choice (`Derives`) exactly where they are one by the choice that the next token makes
-/// (`Matches`), which is what faults are defined by.
+/// No choice of the grammar is between parts that begin with the same token. And tokens are a
+/// sentence by some choice (`Derives`) exactly where they are one by the choice that the next token
+/// makes (`Matches`), which is what faults are defined by.
 pub fn one_choice()
     ensures apart { IsPredictive statement never }
     ensures same { (ss : List TokenWithFault) → (Derives statement ss → Matches statement ss)
         × (Matches statement ss → Derives statement ss) }
 {}
 
-/// Tokens that are a whole sentence of the grammar, none of them wrong as an item's first, say a well-formed
-/// statement, where names, numbers and texts are as they may be (`IsProper`).
+/// Tokens that are a whole sentence of the grammar, none of them wrong as an item's first, say a
+/// well-formed statement, where names, numbers and texts are as they may be (`IsProper`).
 pub fn whole_tokens_are_said()
     ensures { (said : List Lexeme) → All IsProper said → IsWhole statement (map kind_of said)
         → (s : Statement) × SaysStatement said s × IsWellFormed s }

@@ -42,13 +42,15 @@ impl Privilege {
     }
 
     pub(crate) fn has_word(&self, word: Word) -> bool
-        ensures { result ≡ is_keyword (word_keyword (word_of self.now)) (kinds.Keyword (word_keyword word)) }
+        ensures { result ≡ is_keyword (word_keyword (word_of self.now))
+            (kinds.Keyword (word_keyword word)) }
     {
         self.word() == word
     }
 }
 
-/// One to four privileges with different words, in the order written. Contracts see the list of them.
+/// One to four privileges with different words, in the order written. Contracts see the list of
+/// them.
 #[derive(Drop)]
 pub struct Privileges {
     items: Vec<Privilege>,
@@ -63,7 +65,8 @@ impl Model for Privileges {
 
     ghost view = { λ s. s.items.items };
 
-    ghost invariant = { λ s. (0 < length s.items.items) × (length s.items.items ≤ 4) × (are_different s.items.items ≡ true) };
+    ghost invariant = { λ s. (0 < length s.items.items) × (length s.items.items ≤ 4)
+        × (are_different s.items.items ≡ true) };
 }
 
 impl Privileges {

@@ -37,7 +37,8 @@ pub fn read(alloc: Global, line: &[u8]) -> Result<Statement, ReadFault>
 
     // What is spelled is read, and what is wrong is named.
     ensures exact { (s : Said) → Spells line.now s → UnlessNoMemory result (Ok s) }
-    ensures exact_fault { (code : Code) (offset : ℕ) → IsReadFault line.now code offset → UnlessNoMemory result (Err (ReadFault.At code offset)) }
+    ensures exact_fault { (code : Code) (offset : ℕ) → IsReadFault line.now code offset
+        → UnlessNoMemory result (Err (ReadFault.At code offset)) }
 {
     parse(alloc, line)
 }

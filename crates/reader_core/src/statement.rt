@@ -10,8 +10,8 @@ pub const MAX_ITEMS: usize = 32;
 /// The most users that one statement names.
 pub const MAX_USERS: usize = 16;
 
-/// A statement. Its lists keep the limits and the distinctness of the language, and come in the order
-/// written. A filter without conditions is no WHERE: every row is chosen.
+/// A statement. Its lists keep the limits and the distinctness of the language, and come in the
+/// order written. A filter without conditions is no WHERE: every row is chosen.
 #[derive(Drop)]
 pub enum Statement {
     CreateTable {

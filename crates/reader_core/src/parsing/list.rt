@@ -13,7 +13,8 @@ use std::alloc::Global;
 
 /// What a list of the language holds.
 pub trait Item: Drop + Sized {
-    // How many there may be, whether they differ by their first tokens, and what stands between them.
+    // How many there may be, whether they differ by their first tokens, and what stands between
+    // them.
     ghost rule: { Rule };
     // The separator as a token says it.
     ghost separator: { Lexeme };
@@ -28,8 +29,11 @@ pub trait Item: Drop + Sized {
 
     /// Reads the item that comes after these.
     fn read(reader: &mut Reader<'_>, alloc: Global, before: &[Self]) -> Result<Self, ReadFault>
-        ensures leads { Leads (λ k. Items rule (map first before.now) grammar k) (λ x k. More rule (map first (before.now ++ x ∷ [])) grammar k) says result reader.old reader.new }
-        ensures faultless { IfOk result (λ x. item_fault rule (map first before.now) (first x) ≡ None) }
+        ensures leads { Leads (λ k. Items rule (map first before.now) grammar k)
+            (λ x k. More rule (map first (before.now ++ x ∷ [])) grammar k) says
+            result reader.old reader.new }
+        ensures faultless { IfOk result (λ x.
+            item_fault rule (map first before.now) (first x) ≡ None) }
         ensures well_formed { IfOk result (λ x. well_formed x) };
 
     /// Whether a separator comes next.
@@ -40,7 +44,8 @@ pub trait Item: Drop + Sized {
 
 /// One item, and more of them behind separators.
 pub fn list<T: Item>(reader: &mut Reader<'_>, alloc: Global) -> Result<Vec<T>, ReadFault>
-    ensures reads { Reads (λ k. Items T.rule [] T.grammar k) (λ v. listed T.separator T.says v.items) result reader.old reader.new }
+    ensures reads { Reads (λ k. Items T.rule [] T.grammar k)
+        (λ v. listed T.separator T.says v.items) result reader.old reader.new }
     ensures some { IfOk result (λ v. 0 < length v.items) }
     ensures faultless { IfOk result (λ v. AreFaultless T.rule [] (map T.first v.items)) }
     ensures well_formed { IfOk result (λ v. All T.well_formed v.items) }

@@ -26,7 +26,8 @@ impl Reader<'_> {
     }
 
     pub fn users(&mut self, alloc: Global) -> Result<Distinct<User, MAX_USERS>, ReadFault>
-        ensures { Reads (name_list 16) (λ users. listed comma_lexeme user_says users) result self.old self.new }
+        ensures { Reads (name_list 16) (λ users. listed comma_lexeme user_says users)
+            result self.old self.new }
     {
         let users = list::<User>(self, alloc)?;
         Ok(Distinct::from_vec(users))
@@ -48,7 +49,8 @@ impl Reader<'_> {
     }
 
     fn in_brackets(&mut self, alloc: Global) -> Result<Distinct<Name, MAX_ITEMS>, ReadFault>
-        ensures { Reads in_brackets (λ names. lexemes.Sign marks.Open ∷ (names_say names ++ lexemes.Sign marks.Close ∷ [])) result self.old self.new }
+        ensures { Reads in_brackets (λ names. lexemes.Sign marks.Open
+            ∷ (names_say names ++ lexemes.Sign marks.Close ∷ [])) result self.old self.new }
     {
         self.mark(Mark::Open)?;
         let names = self.names(alloc)?;
@@ -58,7 +60,8 @@ impl Reader<'_> {
 
     /// The columns of UPDATE as a privilege, or None for all.
     fn columns(&mut self, alloc: Global) -> Result<Option<Distinct<Name, MAX_ITEMS>>, ReadFault>
-        ensures { Reads (optional in_brackets) (λ columns. columns_say columns) result self.old self.new }
+        ensures { Reads (optional in_brackets) (λ columns. columns_say columns)
+            result self.old self.new }
     {
         if !self.at_mark(Mark::Open) {
             return Ok(None);
@@ -69,7 +72,8 @@ impl Reader<'_> {
 
     /// The privilege of a word that was read.
     pub fn privilege(&mut self, alloc: Global, word: Word) -> Result<Privilege, ReadFault>
-        ensures reads { Reads (behind_word word) (λ p. columns_say (privilege_columns p)) result self.old self.new }
+        ensures reads { Reads (behind_word word) (λ p. columns_say (privilege_columns p))
+            result self.old self.new }
         ensures word { IfOk result (λ p. word_of p ≡ word) }
         ensures well_formed { IfOk result (λ p. IsWellFormedPrivilege p) }
     {
@@ -85,7 +89,8 @@ impl Reader<'_> {
     }
 
     pub fn privileges(&mut self, alloc: Global) -> Result<Privileges, ReadFault>
-        ensures reads { Reads (λ k. Items privileges_rule [] privilege_item k) (λ ps. listed comma_lexeme privilege_says ps) result self.old self.new }
+        ensures reads { Reads (λ k. Items privileges_rule [] privilege_item k)
+            (λ ps. listed comma_lexeme privilege_says ps) result self.old self.new }
         ensures well_formed { IfOk result (λ ps. ArePrivileges ps) }
     {
         let privileges = list::<Privilege>(self, alloc)?;
@@ -102,7 +107,8 @@ impl Reader<'_> {
 
     /// The conditions behind WHERE, or none.
     pub fn filter(&mut self, alloc: Global) -> Result<Limited<Condition, MAX_ITEMS>, ReadFault>
-        ensures { Reads (optional filter) (λ conditions. filter_says conditions) result self.old self.new }
+        ensures { Reads (optional filter) (λ conditions. filter_says conditions)
+            result self.old self.new }
     {
         if !self.at_keyword(Keyword::Where) {
             return Ok(Limited::new(alloc));
@@ -111,7 +117,8 @@ impl Reader<'_> {
     }
 
     fn with_grant_option(&mut self) -> Result<(), ReadFault>
-        ensures { Reads grant_option (λ _. lexemes.Key keywords.With ∷ lexemes.Key keywords.Grant ∷ lexemes.Key keywords.Option ∷ []) result self.old self.new }
+        ensures { Reads grant_option (λ _. lexemes.Key keywords.With ∷ lexemes.Key keywords.Grant
+            ∷ lexemes.Key keywords.Option ∷ []) result self.old self.new }
     {
         self.keyword(Keyword::With)?;
         self.keyword(Keyword::Grant)?;
@@ -131,7 +138,8 @@ impl Reader<'_> {
     }
 
     fn only_table(&mut self) -> Result<Name, ReadFault>
-        ensures { Reads only_table (λ table. lexemes.Key keywords.Only ∷ lexemes.Named table ∷ []) result self.old self.new }
+        ensures { Reads only_table (λ table. lexemes.Key keywords.Only ∷ lexemes.Named table ∷ [])
+            result self.old self.new }
     {
         self.keyword(Keyword::Only)?;
         let table = self.name()?;

@@ -17,7 +17,8 @@ use std::alloc::Global;
 use std::marker::Model;
 
 fn comparison_of(mark: Mark) -> Option<Comparison>
-    ensures { MatchOption result (is_test (kinds.Mark mark) ≡ false) (λ c. mark ≡ comparison_mark c) }
+    ensures { MatchOption result (is_test (kinds.Mark mark) ≡ false)
+        (λ c. mark ≡ comparison_mark c) }
 {
     match mark {
         Mark::Equal => Some(Comparison::Equal),
@@ -31,7 +32,8 @@ fn comparison_of(mark: Mark) -> Option<Comparison>
 }
 
 fn word_of(keyword: Keyword) -> Option<Word>
-    ensures { MatchOption result (is_privilege (kinds.Keyword keyword) ≡ false) (λ w. keyword ≡ word_keyword w) }
+    ensures { MatchOption result (is_privilege (kinds.Keyword keyword) ≡ false)
+        (λ w. keyword ≡ word_keyword w) }
 {
     match keyword {
         Keyword::Select => Some(Word::Select),
@@ -133,7 +135,8 @@ impl Reader<'_> {
     }
 
     pub fn keyword(&mut self, wanted: Keyword) -> Result<(), ReadFault>
-        ensures { Reads (λ k. One (Key wanted) k) (λ _. lexemes.Key wanted ∷ []) result self.old self.new }
+        ensures { Reads (λ k. One (Key wanted) k) (λ _. lexemes.Key wanted ∷ [])
+            result self.old self.new }
     {
         if !self.at_keyword(wanted) {
             return Err(self.fault(Code::Expected));
@@ -143,7 +146,8 @@ impl Reader<'_> {
     }
 
     pub fn mark(&mut self, wanted: Mark) -> Result<(), ReadFault>
-        ensures { Reads (λ k. One (Sign wanted) k) (λ _. lexemes.Sign wanted ∷ []) result self.old self.new }
+        ensures { Reads (λ k. One (Sign wanted) k) (λ _. lexemes.Sign wanted ∷ [])
+            result self.old self.new }
     {
         if !self.at_mark(wanted) {
             return Err(self.fault(Code::Expected));
@@ -161,8 +165,10 @@ impl Reader<'_> {
     }
 
     fn peek_type(&self) -> Result<ColType, ReadFault>
-        ensures kind { IfOk result (λ t. next_kind self.now ≡ Some (lexemes.kind_of (type_lexeme t))) }
-        ensures err { OnErr result ((result ≡ Err (ReadFault.At Code.Expected (offset_at self.now))) × (next_is AnyType self.now ≡ false)) }
+        ensures kind { IfOk result (λ t.
+            next_kind self.now ≡ Some (lexemes.kind_of (type_lexeme t))) }
+        ensures err { OnErr result ((result ≡ Err (ReadFault.At Code.Expected (offset_at self.now)))
+            × (next_is AnyType self.now ≡ false)) }
     {
         match self.rest {
             [
@@ -193,8 +199,10 @@ impl Reader<'_> {
 
     /// The name that comes next, which stays where it is.
     pub fn peek_name(&self) -> Result<Name, ReadFault>
-        ensures kind { IfOk result (λ n. next_kind self.now ≡ Some (lexemes.kind_of (lexemes.Named n))) }
-        ensures err { OnErr result ((result ≡ Err (ReadFault.At Code.Expected (offset_at self.now))) × (next_is AnyName self.now ≡ false)) }
+        ensures kind { IfOk result (λ n.
+            next_kind self.now ≡ Some (lexemes.kind_of (lexemes.Named n))) }
+        ensures err { OnErr result ((result ≡ Err (ReadFault.At Code.Expected (offset_at self.now)))
+            × (next_is AnyName self.now ≡ false)) }
     {
         match self.rest {
             [
@@ -219,7 +227,8 @@ impl Reader<'_> {
     pub fn value(&self, alloc: Global) -> Result<Value, ReadFault>
         requires { next_is AnyLiteral self.now ≡ true }
         ensures ok { IfOk result (λ v. next_lexeme self.now ≡ Some (value_lexeme v)) }
-        ensures kind { IfOk result (λ v. next_kind self.now ≡ Some (lexemes.kind_of (value_lexeme v))) }
+        ensures kind { IfOk result (λ v.
+            next_kind self.now ≡ Some (lexemes.kind_of (value_lexeme v))) }
         ensures err { IfErr result (λ e. e ≡ ReadFault.NoMemory) }
     {
         match self.rest {
@@ -251,8 +260,10 @@ impl Reader<'_> {
     }
 
     fn peek_comparison(&self) -> Result<Comparison, ReadFault>
-        ensures kind { IfOk result (λ c. next_kind self.now ≡ Some (kinds.Mark (comparison_mark c))) }
-        ensures err { OnErr result ((result ≡ Err (ReadFault.At Code.Expected (offset_at self.now))) × (next_is AnyTest self.now ≡ false)) }
+        ensures kind { IfOk result (λ c.
+            next_kind self.now ≡ Some (kinds.Mark (comparison_mark c))) }
+        ensures err { OnErr result ((result ≡ Err (ReadFault.At Code.Expected (offset_at self.now)))
+            × (next_is AnyTest self.now ≡ false)) }
     {
         let [
             Token {
@@ -281,7 +292,8 @@ impl Reader<'_> {
     fn peek_number(&self) -> Result<CheckpointNumber, ReadFault>
         ensures kind { IfOk result (λ n. next_kind self.now ≡ Some (kinds.Number (pos n))) }
         ensures some { IfOk result (λ n. nat_le 1 n ≡ true) }
-        ensures err { OnErr result ((result ≡ Err (ReadFault.At Code.Expected (offset_at self.now))) × (next_is AtLeastOne self.now ≡ false)) }
+        ensures err { OnErr result ((result ≡ Err (ReadFault.At Code.Expected (offset_at self.now)))
+            × (next_is AtLeastOne self.now ≡ false)) }
     {
         match self.rest {
             [
@@ -324,8 +336,10 @@ impl Reader<'_> {
 
     /// The word of a privilege that comes next, which stays where it is.
     pub fn peek_word(&self) -> Result<Word, ReadFault>
-        ensures kind { IfOk result (λ w. next_kind self.now ≡ Some (kinds.Keyword (word_keyword w))) }
-        ensures err { OnErr result ((result ≡ Err (ReadFault.At Code.Expected (offset_at self.now))) × (next_is_privilege self.now ≡ false)) }
+        ensures kind { IfOk result (λ w.
+            next_kind self.now ≡ Some (kinds.Keyword (word_keyword w))) }
+        ensures err { OnErr result ((result ≡ Err (ReadFault.At Code.Expected (offset_at self.now)))
+            × (next_is_privilege self.now ≡ false)) }
     {
         let [
             Token {
