@@ -44,4 +44,3 @@ pub use lexer::{MAX_LINE, is_blank, tokens};
 pub use text::unquoted;
 pub use token::{Kind, Mark, Token};
 pub use word::word_len;
-

@@ -48,4 +48,3 @@ pub use checkpoint::CheckpointNumber;
 pub use privilege::{MAX_PRIVILEGES, Privilege, Privileges};
 pub use reading::read;
 pub use statement::{MAX_ITEMS, MAX_USERS, Statement};
-
