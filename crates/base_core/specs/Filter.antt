@@ -30,23 +30,23 @@ accepts_order comparison (Some o) = accepts comparison o
 abbrev pub compares : Comparison → Value → Value → Bool
 compares comparison value literal = accepts_order comparison (value_order value literal)
 
--- the place of the column of this name
-abbrev pub place : List Column → Name → Option ℕ
-place columns name = position (λ c. same_name c.name name) columns
+-- the index of the column of this name
+abbrev pub column_index : List Column → Name → Option ℕ
+column_index columns name = position (λ c. same_name c.name name) columns
 
--- the value at a place, if there is one
-abbrev pub at_place : List Value → Option ℕ → Option Value
-at_place values None = None
-at_place values (Some i) = slice_get values i
+-- the value at an index, if there is one
+abbrev pub at_index : List Value → Option ℕ → Option Value
+at_index values None = None
+at_index values (Some i) = slice_get values i
 
--- the values with this one at a place, if there is one
+-- the values with this one at an index, if there is one
 abbrev pub with_value : List Value → Option ℕ → Value → List Value
 with_value values None value = values
 with_value values (Some i) value = slice_set values i value
 
 -- the value of a row in the column of this name
 abbrev pub cell : List Column → List Value → Name → Option Value
-cell columns values name = at_place values (place columns name)
+cell columns values name = at_index values (column_index columns name)
 
 -- whether a cell that may be missing meets a condition
 abbrev pub cell_meets : Condition → Option Value → Bool

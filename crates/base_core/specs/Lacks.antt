@@ -3,6 +3,7 @@ use Rattle.std.specs.Prelude.{ℕ, Bool, nat_le}
 use Rattle.base_core.specs.declared.lack.Lack.{Lack}
 use Rattle.base_core.specs.declared.lack.Lack.TheVariants as lacks
 
+-- the code of each lack
 abbrev pub code_of : Lack → ℕ
 code_of (lacks.NoTable t) = 11
 code_of (lacks.TableExists t) = 12

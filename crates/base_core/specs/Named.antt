@@ -10,9 +10,11 @@ pub record IsPadded (a : Inside) : Type 0 where
   pub size : length a.bytes ≡ 30
   pub rest : drop a.len a.bytes ≡ replicate (30 - a.len) 0
 
+-- a name as thirty bytes, with zeros behind it
 abbrev pub padded : List ℕ → List ℕ
 padded name = name ++ replicate (30 - length name) 0
 
+-- the bytes of the name
 abbrev pub name_bytes : Inside → List ℕ
 name_bytes a = take a.len a.bytes
 

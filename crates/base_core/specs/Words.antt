@@ -38,6 +38,7 @@ text_of keywords.With = codes "WITH"
 abbrev pub folded : List ℕ → List ℕ
 folded word = map to_ascii_lowercase word
 
+-- whether a word spells the keyword, in any case
 abbrev pub is_spelled_by : List ℕ → Keyword → Bool
 is_spelled_by word k = bytes_eq (folded (text_of k)) (folded word)
 
@@ -45,13 +46,20 @@ is_spelled_by word k = bytes_eq (folded (text_of k)) (folded word)
 abbrev pub begins_with : ℕ → Keyword → Bool
 begins_with letter k = slice_index (folded (text_of k)) 0 == letter
 
+-- the keywords, in the order of the alphabet
 unfoldable pub all_keywords : List Keyword
-all_keywords = keywords.And ∷ keywords.Checkpoint ∷ keywords.Checkpoints ∷ keywords.Create ∷ keywords.Delete ∷ keywords.Export ∷ keywords.For ∷ keywords.From ∷ keywords.Grant ∷ keywords.Insert ∷ keywords.Integer ∷ keywords.Into ∷ keywords.On ∷ keywords.Only ∷ keywords.Option ∷ keywords.Revoke ∷ keywords.Select ∷ keywords.Set ∷ keywords.Table ∷ keywords.Text ∷ keywords.To ∷ keywords.Update ∷ keywords.Values ∷ keywords.Where ∷ keywords.With ∷ []
+all_keywords =
+    keywords.And ∷ keywords.Checkpoint ∷ keywords.Checkpoints ∷ keywords.Create ∷ keywords.Delete
+    ∷ keywords.Export ∷ keywords.For ∷ keywords.From ∷ keywords.Grant ∷ keywords.Insert
+    ∷ keywords.Integer ∷ keywords.Into ∷ keywords.On ∷ keywords.Only ∷ keywords.Option
+    ∷ keywords.Revoke ∷ keywords.Select ∷ keywords.Set ∷ keywords.Table ∷ keywords.Text
+    ∷ keywords.To ∷ keywords.Update ∷ keywords.Values ∷ keywords.Where ∷ keywords.With ∷ []
 
 -- the keyword that a word spells, in any case
 unfoldable pub keyword_of : List ℕ → Option Keyword
 keyword_of word = find (is_spelled_by word) all_keywords
 
+-- a letter, a digit or `_`
 abbrev pub is_word_byte : ℕ → Bool
 is_word_byte b = is_ascii_alphanumeric b || (b == 95)
 

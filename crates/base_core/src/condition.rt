@@ -1,7 +1,7 @@
 //! Conditions on rows, and assignments to them.
 ghost use Rattle.std.specs.Prelude.{◌≡◌};
 ghost use Rattle.std.specs.Option.{option_copied};
-ghost use Rattle.base_core.specs.Filter.{accepts, compares, place, cell, meets, is_chosen};
+ghost use Rattle.base_core.specs.Filter.{accepts, compares, column_index, cell, meets, is_chosen};
 
 use crate::bounded::Named;
 use crate::memory::{NoMemory, Twin};
@@ -79,9 +79,9 @@ impl Value {
     }
 }
 
-/// The place of the column of this name.
-pub fn place_of(columns: &[Column], name: Name) -> Option<usize>
-    ensures { result ≡ place columns.now name }
+/// The index of the column of this name. None where there is no such column.
+pub fn column_index(columns: &[Column], name: Name) -> Option<usize>
+    ensures { result ≡ column_index columns.now name }
 {
     columns.iter().position(|column| column.name == name)
 }
@@ -90,7 +90,7 @@ pub fn place_of(columns: &[Column], name: Name) -> Option<usize>
 pub fn cell<'a>(columns: &[Column], values: &'a [Value], name: Name) -> Option<&'a Value>
     ensures { option_copied result ≡ cell columns.now values.now name }
 {
-    values.get(place_of(columns, name)?)
+    values.get(column_index(columns, name)?)
 }
 
 impl Condition {

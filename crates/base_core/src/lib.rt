@@ -3,14 +3,14 @@
 //!
 //! A value of this crate is plain data, and contracts see it as such: a [`Name`] and a [`Text`] as
 //! the list of their bytes, a [`Sequence`], [`Several`], [`Limited`] or [`Distinct`] as the list of
-//! its items, the enums and the structs with public fields as themselves. So two values are `≡` in a
-//! contract exactly where a client can't tell them apart.
+//! its items, the enums and the structs with public fields as themselves. So two values are `≡` in
+//! a contract exactly where a client can't tell them apart.
 //!
 //! What a type promises stands in its invariant, once: a [`Name`] is a word of at most 30 bytes in
 //! small letters that is no keyword, a [`Text`] is at most 1,024 bytes of UTF-8 with no control
-//! character, a [`Several`] holds between one item and its limit, a [`Limited`] none to its limit, a
-//! [`Distinct`] what a `Several` does with different names, and [`Limits`] stay within what the core
-//! can count.
+//! character, a [`Several`] holds between one item and its limit, a [`Limited`] none to its limit,
+//! a [`Distinct`] what a `Several` does with different names, and [`Limits`] stay within what the
+//! core can count.
 //!
 //! ```text
 //! Name::read(b"Pay")     // Some: the name `pay`
@@ -40,7 +40,7 @@ mod value;
 mod word;
 
 pub use bounded::{Distinct, Limited, Named, Several};
-pub use condition::{Assignment, Comparison, Condition, cell, is_chosen, place_of};
+pub use condition::{Assignment, Comparison, Condition, cell, column_index, is_chosen};
 pub use keyword::Keyword;
 pub use lack::{Lack, What};
 pub use limits::Limits;

@@ -53,8 +53,8 @@ pub enum Value {
 }
 
 impl Value {
-    /// The order of two values of one type: numbers as whole numbers, texts by their bytes. None for
-    /// values of different types.
+    /// The order of two values of one type: numbers as whole numbers, texts by their bytes. None
+    /// for values of different types.
     pub fn order(&self, other: &Value) -> Option<Ordering>
         ensures { result ≡ value_order self.now other.now }
     {

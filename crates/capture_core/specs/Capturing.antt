@@ -13,8 +13,8 @@ use Rattle.capture_core.specs.declared.progress.Progress.{Progress}
 use Rattle.capture_core.specs.declared.progress.Progress.TheVariants.{Idle, Left, Done}
 use Rattle.capture_core.specs.Image.{image, records}
 
--- an active capture: how many records are left, and the image to come, whose number and point are the
--- capture's
+-- an active capture: how many records are left, and the image to come, whose number and point are
+-- the capture's
 pub record ActiveCapture : Type 0 where
   pub left : ℕ
   pub coming : Image
@@ -26,11 +26,14 @@ pub record Capturing : Type 0 where
 
 -- why no checkpoint may be begun: one is active, or as many were begun as there may be
 abbrev pub begin_lack : Capturing → ℕ → Option Lack
-begin_lack c limit = if is_some c.active then Some Busy else (if nat_le limit c.begun then Some (Full Checkpoints) else None)
+begin_lack c limit =
+    if is_some c.active then Some Busy
+    else (if nat_le limit c.begun then Some (Full Checkpoints) else None)
 
 -- a capture of these tables and rights, with no record taken yet
 abbrev pub new_capture : ℕ → Moment → List (Name × Contents) → Content → ActiveCapture
-new_capture number point tables rights = record { left = records tables rights; coming = image number point tables rights }
+new_capture number point tables rights =
+    record { left = records tables rights; coming = image number point tables rights }
 
 -- one more is begun
 abbrev pub after_begin : Moment → List (Name × Contents) → Content → Capturing → Capturing
@@ -41,6 +44,7 @@ after_begin point tables rights c =
 abbrev pub taken_off : ℕ → ActiveCapture → Option ActiveCapture
 taken_off k a = if nat_lt k a.left then Some (record a { left = a.left - k }) else None
 
+-- a step of k records, where a capture is active
 abbrev pub after_step : ℕ → Capturing → Capturing
 after_step k c = record c { active = option_and_then (taken_off k) c.active }
 
@@ -48,8 +52,8 @@ after_step k c = record c { active = option_and_then (taken_off k) c.active }
 abbrev pub after_abandon : Capturing → Capturing
 after_abandon c = record c { active = None }
 
--- what a step of k tells, by what was active: that nothing was; how many records are left now; or, with
--- none left, the image that was to come
+-- what a step of k tells, by what was active: that nothing was; how many records are left now; or,
+-- with none left, the image that was to come
 abbrev pub TellsProgress : ℕ → Option ActiveCapture → Progress → Type 0
 TellsProgress k None Idle = Unit {0}
 TellsProgress k None (Left n) = ⊥

@@ -16,19 +16,31 @@ use Rattle.capture_core.specs.declared.image.TableImage.{TableImage}
 
 -- a table as it is: its name, owner and columns, and its rows in order
 abbrev pub table_image : Name × Contents → TableImage
-table_image t = record { name = t.0; owner = t.1.owner; columns = t.1.columns; rows = map (λ numbered. numbered.1) t.1.rows }
+table_image t =
+    record {
+      name = t.0;
+      owner = t.1.owner;
+      columns = t.1.columns;
+      rows = map (λ numbered. numbered.1) t.1.rows;
+    }
 
 -- Cao et al. 2011: the state at the point of consistency. All tables in order of creation, and the
 -- grants in force.
 abbrev pub image : ℕ → Moment → List (Name × Contents) → Content → Image
 image number point tables rights =
-    record { number = number; point = point; tables = map table_image tables; grants = rights.in_force }
+    record {
+      number = number;
+      point = point;
+      tables = map table_image tables;
+      grants = rights.in_force;
+    }
 
 -- how many rows the tables have, all together
 abbrev pub row_total : List (Name × Contents) → ℕ
 row_total tables = sum_by (λ t. length t.1.rows) tables
 
--- how many records a checkpoint of them has: one for each row and each grant in force, and never none
+-- how many records a checkpoint of them has: one for each row and each grant in force, and never
+-- none
 abbrev pub records : List (Name × Contents) → Content → ℕ
 records tables rights = max (row_total tables + length rights.in_force) 1
 
@@ -38,8 +50,12 @@ has image name = list_any (λ t. same_name name t.name) image.tables
 
 -- whether the user owns the atom's table there
 unfoldable pub owns_in_image : Image → User → Atom → Bool
-owns_in_image image user atom = option_map_or (λ t. same_user t.owner user) (find (λ t. same_name atom.table t.name) image.tables) false
+owns_in_image image user atom =
+    option_map_or (λ t. same_user t.owner user)
+    (find (λ t. same_name atom.table t.name) image.tables)
+    false
 
 -- whether he holds the atom there: he owns its table, or a grant of the image gives it to him
 abbrev pub holds_in_image : Image → User → Atom → Bool
-holds_in_image image user atom = owns_in_image image user atom || list_any (gives user atom) image.grants
+holds_in_image image user atom =
+    owns_in_image image user atom || list_any (gives user atom) image.grants

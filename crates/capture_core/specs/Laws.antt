@@ -13,12 +13,16 @@ use Rattle.capture_core.specs.Image.{image, has, holds_in_image}
 
 -- an image has a table exactly where the tables have one of that name
 abbrev pub HasAsTables : Type 0
-HasAsTables = (number : ℕ) (point : Moment) (tables : List (Name × Contents)) (rights : Content) (name : Name)
+HasAsTables =
+    (number : ℕ) (point : Moment) (tables : List (Name × Contents)) (rights : Content) (name : Name)
     → has (image number point tables rights) name ≡ is_some (table_of tables name)
 
--- a user holds an atom in an image exactly where he owns the atom's table, or a grant in force gives it
--- to him
+-- a user holds an atom in an image exactly where he owns the atom's table, or a grant in force
+-- gives it to him
 abbrev pub HoldsAsRights : Type 0
-HoldsAsRights = (number : ℕ) (point : Moment) (tables : List (Name × Contents)) (rights : Content) (user : User) (atom : Atom)
+HoldsAsRights =
+    (number : ℕ) (point : Moment) (tables : List (Name × Contents)) (rights : Content)
+    (user : User) (atom : Atom)
     → holds_in_image (image number point tables rights) user atom
-    ≡ (option_map_or (λ t. same_user t.owner user) (table_of tables atom.table) false || list_any (gives user atom) rights.in_force)
+    ≡ (option_map_or (λ t. same_user t.owner user) (table_of tables atom.table) false
+    || list_any (gives user atom) rights.in_force)

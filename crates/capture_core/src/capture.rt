@@ -21,8 +21,8 @@ struct Active {
     image: Arc<Image>,
 }
 
-/// How many checkpoints were begun, and the capture that is active, if one is. Contracts see the number
-/// begun and, of an active capture, how many records are left and the image to come.
+/// How many checkpoints were begun, and the capture that is active, if one is. Contracts see the
+/// number begun and, of an active capture, how many records are left and the image to come.
 #[derive(Drop)]
 pub struct Capture {
     alloc: Global,
@@ -37,7 +37,11 @@ impl Model for Capture {
 
     ghost Value = { Capturing };
 
-    ghost view = { λ c. record { begun = c.begun; active = option_map (λ a. record { left = a.left; coming = arc_value a.image }) c.active } };
+    ghost view = { λ c. record {
+      begun = c.begun;
+      active =
+          option_map (λ a. record { left = a.left; coming = arc_value a.image }) c.active;
+    } };
 }
 
 fn start<A: Authority>(
@@ -48,7 +52,9 @@ fn start<A: Authority>(
     rights: &A,
 ) -> Result<Active, NoMemory>
     requires { row_total tables.now + length (A.content rights.now).in_force < 2 ^ 63 }
-    ensures { IfOk result (λ made. (made.left ≡ records tables.now (A.content rights.now)) × (arc_value made.image ≡ image number point tables.now (A.content rights.now))) }
+    ensures { IfOk result
+        (λ made. (made.left ≡ records tables.now (A.content rights.now))
+        × (arc_value made.image ≡ image number point tables.now (A.content rights.now))) }
 {
     let (image, left) = snapshot(alloc, number, point, tables, rights)?;
     let image = Arc::new(alloc, image)?;
@@ -67,10 +73,11 @@ impl Capture {
         }
     }
 
-    /// The number and the point of the active capture, and how many records are left. None where none
-    /// is active. It takes no memory.
+    /// The number and the point of the active capture, and how many records are left. None where
+    /// none is active. It takes no memory.
     pub fn active(&self) -> Option<(u64, Moment, u64)>
-        ensures { result ≡ option_map (λ a. (a.coming.number, a.coming.point, a.left)) self.now.active }
+        ensures { result ≡ option_map
+            (λ a. (a.coming.number, a.coming.point, a.left)) self.now.active }
     {
         let active = self.active.as_ref()?;
         Some((active.image.number, active.image.point, active.left))
@@ -88,12 +95,12 @@ impl Capture {
         }
     }
 
-    /// Begins a checkpoint of these tables and rights and answers its number, which is one more than
-    /// those begun before. `point` is the number of changes accepted so far, and `limit` how many
-    /// checkpoints may be begun. There must be fewer than 2^63 rows and grants in all.
+    /// Begins a checkpoint of these tables and rights and answers its number, which is one more
+    /// than those begun before. `point` is the number of changes accepted so far, and `limit` how
+    /// many checkpoints may be begun. There must be fewer than 2^63 rows and grants in all.
     ///
-    /// The whole state is copied at once: that is Naive-Snapshot (Cao et al. 2011). So the image to come
-    /// is the state at this call, whatever is changed later.
+    /// The whole state is copied at once: that is Naive-Snapshot (Cao et al. 2011). So the image to
+    /// come is the state at this call, whatever is changed later.
     ///
     /// - `Busy` where a capture is active.
     /// - Else `Full`, of checkpoints, where as many were begun as there may be.
@@ -109,9 +116,12 @@ impl Capture {
     ) -> Result<u64, Lack>
         requires { row_total tables.now + length (A.content rights.now).in_force < 2 ^ 63 }
         ensures lack { IfSome (begin_lack self.old limit) (λ lack. result ≡ Err lack) }
-        ensures ok { IfOk result (λ number. (number ≡ self.old.begun + 1) × (self.new ≡ after_begin point tables.now (A.content rights.now) self.old)) }
+        ensures ok { IfOk result
+            (λ number. (number ≡ self.old.begun + 1)
+            × (self.new ≡ after_begin point tables.now (A.content rights.now) self.old)) }
         ensures unchanged { OnErr result (self.new ≡ self.old) }
-        ensures memory { IsNone (begin_lack self.old limit) → IfErr result (λ lack. lack ≡ lacks.NoMemory) }
+        ensures memory { IsNone (begin_lack self.old limit)
+            → IfErr result (λ lack. lack ≡ lacks.NoMemory) }
     {
         if let Some(lack) = self.lack(limit) {
             return Err(lack);
@@ -126,14 +136,14 @@ impl Capture {
         }
     }
 
-    /// Takes `k` records off those that are left, or all where they are no more, and tells how many are
-    /// left then. With none left the capture has ended, and the image is handed out. `Idle` where none is
-    /// active: then nothing has changed.
+    /// Takes `k` records off those that are left, or all where they are no more, and tells how many
+    /// are left then. With none left the capture has ended, and the image is handed out. `Idle`
+    /// where none is active: then nothing has changed.
     ///
-    /// Since all is copied when a capture begins, a step counts alone: it looks at neither tables nor
-    /// rights, takes no memory, and so never answers `NoMemory`. The contract leaves that answer open to a
-    /// capture that copies step by step: after it the number left and the image to come would be as they
-    /// were, and the step could be tried again.
+    /// Since all is copied when a capture begins, a step counts alone: it looks at neither tables
+    /// nor rights, takes no memory, and so never answers `NoMemory`. The contract leaves that
+    /// answer open to a capture that copies step by step: after it the number left and the image to
+    /// come would be as they were, and the step could be tried again.
     pub fn step<A: Authority>(
         &mut self,
         _tables: &Tables,
@@ -157,8 +167,8 @@ impl Capture {
         }
     }
 
-    /// Gives the active capture up and answers its number, which no later one gets. None where none is
-    /// active: then nothing has changed. It takes no memory.
+    /// Gives the active capture up and answers its number, which no later one gets. None where none
+    /// is active: then nothing has changed. It takes no memory.
     pub fn abandon<A: Authority>(&mut self, _tables: &Tables, _rights: &A) -> Option<u64>
         ensures number { result ≡ option_map (λ a. a.coming.number) self.old.active }
         ensures after { self.new ≡ after_abandon self.old }

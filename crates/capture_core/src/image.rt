@@ -68,8 +68,8 @@ impl Image {
         }
     }
 
-    /// Whether the user held the atom at the point: he owned its table, or a grant that was in force
-    /// gave it to him (Griffiths and Wade 1976). It takes no memory.
+    /// Whether the user held the atom at the point: he owned its table, or a grant that was in
+    /// force gave it to him (Griffiths and Wade 1976). It takes no memory.
     pub fn holds(&self, user: User, atom: &Atom) -> bool
         ensures { result ≡ images.holds_in_image self.now user atom.now }
     {

@@ -19,7 +19,17 @@ fn rows_of(alloc: Global, numbered: &[NumberedRow]) -> Result<Vec<Row>, NoMemory
 }
 
 fn table_image(alloc: Global, table: &TableView<'_>) -> Result<TableImage, NoMemory>
-    ensures { IfOk result (λ image. image ≡ table_image (table.now.name, record { owner = table.now.owner; columns = table.now.columns.now; inserted = table.now.inserted; rows = table.now.rows.now })) }
+    ensures { IfOk result
+        (λ image. image
+        ≡ table_image (
+          table.now.name,
+          record {
+            owner = table.now.owner;
+            columns = table.now.columns.now;
+            inserted = table.now.inserted;
+            rows = table.now.rows.now;
+          },
+        )) }
 {
     let columns = table.columns.to_vec(alloc)?;
     let rows = rows_of(alloc, table.rows)?;
@@ -54,7 +64,8 @@ fn row_total(images: &[TableImage]) -> u64
     total
 }
 
-/// All of the state at once (Naive-Snapshot, Cao et al. 2011): the image, and how many records it has.
+/// All of the state at once (Naive-Snapshot, Cao et al. 2011): the image, and how many records it
+/// has.
 pub fn snapshot<A: Authority>(
     alloc: Global,
     number: u64,
@@ -63,10 +74,12 @@ pub fn snapshot<A: Authority>(
     rights: &A,
 ) -> Result<(Image, u64), NoMemory>
     requires { row_total tables.now + length (A.content rights.now).in_force < 2 ^ 63 }
-    ensures { IfOk result (λ made. (made.0 ≡ image number point tables.now (A.content rights.now)) × (made.1 ≡ records tables.now (A.content rights.now))) }
+    ensures { IfOk result
+        (λ made. (made.0 ≡ image number point tables.now (A.content rights.now))
+        × (made.1 ≡ records tables.now (A.content rights.now))) }
 {
     let tables = table_images(alloc, tables)?;
-    let grants = rights.live()?;
+    let grants = rights.in_force()?;
     let records = row_total(&tables) + grants.len() as u64;
     let image = Image {
         number,

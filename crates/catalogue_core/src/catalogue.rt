@@ -41,7 +41,8 @@ fn bears(image: &Arc<Image>, number: u64) -> bool
 }
 
 fn newest(images: &HeapCircularBuffer<Arc<Image>>, number: u64) -> Option<&Arc<Image>>
-    ensures { option_copied result ≡ find (λ arc. bears number (arc_value arc)) (reverse images.now.items) }
+    ensures { option_copied result
+        ≡ find (λ arc. bears number (arc_value arc)) (reverse images.now.items) }
 {
     images.iter().rev().find(|image| bears(*image, number))
 }
@@ -56,7 +57,8 @@ fn entries(
     alloc: Global,
     images: &HeapCircularBuffer<Arc<Image>>,
 ) -> Result<Vec<(u64, Moment)>, NoMemory>
-    ensures { IfOk result (λ listed. listed.items ≡ map (λ arc. number_and_point (arc_value arc)) images.now.items) }
+    ensures { IfOk result
+        (λ listed. listed.items ≡ map (λ arc. number_and_point (arc_value arc)) images.now.items) }
 {
     let listed = images.iter().map(entry).collect(alloc)?;
     Ok(listed)
@@ -71,8 +73,8 @@ impl Catalogue {
         Ok(Catalogue { alloc, images })
     }
 
-    /// Adds an image, as the newest. Where there are eight, the oldest is pushed out and handed back;
-    /// else the answer is None. It takes no memory.
+    /// Adds an image, as the newest. Where there are eight, the oldest is pushed out and handed
+    /// back; else the answer is None. It takes no memory.
     pub fn add(&mut self, image: Arc<Image>) -> Option<Arc<Image>>
         ensures kept { self.new ≡ last_eight (self.old ++ arc_value image ∷ []) }
         ensures pushed_out { option_map arc_value result ≡ pushed_out self.old }
@@ -80,16 +82,16 @@ impl Catalogue {
         self.images.push_back(image)
     }
 
-    /// The newest image of this checkpoint number among those kept. None where none of them has it. It
-    /// takes no memory.
+    /// The newest image of this checkpoint number among those kept. None where none of them has it.
+    /// It takes no memory.
     pub fn find(&self, number: u64) -> Option<&Arc<Image>>
         ensures { option_map arc_value (option_copied result) ≡ newest self.now number }
     {
         newest(&self.images, number)
     }
 
-    /// The checkpoint number and the point of each image, the oldest first. `NoMemory` where a request
-    /// for memory was refused.
+    /// The checkpoint number and the point of each image, the oldest first. `NoMemory` where a
+    /// request for memory was refused.
     pub fn list(&self) -> Result<Vec<(u64, Moment)>, NoMemory>
         ensures { IfOk result (λ listed. listed.items ≡ map number_and_point self.now) }
     {

@@ -10,7 +10,7 @@ use Rattle.base_core.specs.Privileges.{same_atom}
 use Rattle.grants_core.specs.Owners.{owns, with_granted, was_granted}
 use Rattle.grants_core.specs.Valid.{is_supported, kept_with, valid, AreSupported}
 use Rattle.grants_core.specs.Content.{gives, may_grant, singles}
-use Rattle.grants_core.specs.Made.{AreMarked}
+use Rattle.grants_core.specs.Log.{AreMarked}
 use Rattle.base_core.proofs.SameLemmas.{same_atom-true, same_name-refl}
 use Rattle.grants_core.specs.declared.grant.Grant.{Grant}
 use Rattle.grants_core.specs.declared.grant.Ownership.{Ownership}

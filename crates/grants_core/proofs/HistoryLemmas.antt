@@ -19,11 +19,11 @@ use Rattle.grants_core.specs.Owners.{owns, with_owner, with_granted, was_granted
 use Rattle.grants_core.specs.Valid.{valid, AreSupported}
 use Rattle.grants_core.specs.Content.{Content, may_grant, names, without, singles, after_create, after_grant, after_revoke}
 use Rattle.grants_core.specs.History.{made_by, made_by_all, grants_of, is_struck_by, owners_with, granted_from, granted, is_granted, is_struck_from, is_struck, owners_after, unstruck_after, in_force_after, content_after}
-use Rattle.grants_core.specs.Made.{AreMarked, unstruck, newly}
+use Rattle.grants_core.specs.Log.{AreMarked, unstruck, logged}
 use Rattle.grants_core.proofs.ValidLemmas.{valid-filter_valid, valid-append}
 use Rattle.grants_core.proofs.OwnersLemmas.{valid-owners, owns-with_owner, alike-with_owner, alike-with_granted, singles-all, AllByRecursion-append}
-use Rattle.grants_core.specs.declared.made.Made.{Made}
-use Rattle.grants_core.proofs.MadeLemmas.{unstruck-added, same_content}
+use Rattle.grants_core.specs.declared.log.LoggedGrant.{LoggedGrant}
+use Rattle.grants_core.proofs.LogLemmas.{unstruck-added, same_content}
 use Rattle.grants_core.proofs.GrantLemmas.{All-implied, All-filtered, All-valid, singles-supported}
 
 pub made_by_all-more : (cs : List Change) (c : Change) → made_by_all (cs ++ c ∷ []) ≡ made_by_all cs + made_by c
@@ -221,7 +221,7 @@ kept-idle gs = sym (append-nil (filter (λ g. true) gs) ∙ filter_all (λ g. tr
     all_true [] = tt
     all_true (g ∷ more) = (refl, all_true more)
 
-pub kept-grant : (made : List Made) (gs : List Grant) → unstruck (made ++ map newly gs) ≡ filter (λ g. true) (unstruck made) ++ gs
+pub kept-grant : (made : List LoggedGrant) (gs : List Grant) → unstruck (made ++ map logged gs) ≡ filter (λ g. true) (unstruck made) ++ gs
 kept-grant made gs =
     unstruck-added made gs ∙ ap (λ k. k ++ gs) (kept-idle (unstruck made) ∙ append-nil (filter (λ g. true) (unstruck made)))
 

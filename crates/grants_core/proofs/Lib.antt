@@ -4,7 +4,7 @@ pub mod OwnersLemmas
 pub mod SinglesLemmas
 pub mod NumberLemmas
 pub mod GrantLemmas
-pub mod MadeLemmas
+pub mod LogLemmas
 pub mod HistoryLemmas
 pub mod MarkLemmas
 pub mod SameGrant

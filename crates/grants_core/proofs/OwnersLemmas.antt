@@ -17,7 +17,7 @@ use Rattle.base_core.specs.Privileges.{same_atom}
 use Rattle.grants_core.specs.Owners.{owner_of, owns, was_granted, with_owner, marked, with_granted}
 use Rattle.grants_core.specs.Valid.{is_supported, supports, kept_with, valid, AreSupported}
 use Rattle.grants_core.specs.Content.{gives, may_grant, to_each, singles}
-use Rattle.grants_core.specs.Made.{AreMarked}
+use Rattle.grants_core.specs.Log.{AreMarked}
 use Rattle.base_core.proofs.SameLemmas.{same_name-true}
 use Rattle.grants_core.specs.declared.grant.Grant.{Grant}
 use Rattle.grants_core.specs.declared.grant.Ownership.{Ownership}

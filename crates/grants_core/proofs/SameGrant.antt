@@ -2,7 +2,7 @@
 use Rattle.std.proofs.Common.{◌≡◌, ℕ, Bool, true, false, ap, refl, subst}
 use Rattle.std.specs.Bool.{Decides, beq}
 use Rattle.std.proofs.lemmas.Bool.{and_parts, and_from, eqb-true, eq-eqb}
-use Rattle.grants_core.specs.Made.{same_grant}
+use Rattle.grants_core.specs.Log.{same_grant}
 use Rattle.grants_core.specs.declared.grant.Grant.{Grant}
 use Rattle.base_core.specs.declared.privilege.Atom.{Atom}
 use Rattle.base_core.specs.declared.name.User.{User}

@@ -120,8 +120,8 @@ supported-filter o p xs g h =
     (λ (by : list_any (λ k. supports k g) (filter p xs) ≡ true). or_right _ _ (list_any-filter _ p xs by))
     (or_cases _ _ h)
 
-refold_one : (o : List Ownership) (p : Grant → Bool) (kept : List Grant) (g : Grant) → valid o (filter p (kept_with o kept g)) ≡ cond (p g) (kept_with o (valid o (filter p kept)) g) (valid o (filter p kept))
-refold_one o p kept g =
+replay_one : (o : List Ownership) (p : Grant → Bool) (kept : List Grant) (g : Grant) → valid o (filter p (kept_with o kept g)) ≡ cond (p g) (kept_with o (valid o (filter p kept)) g) (valid o (filter p kept))
+replay_one o p kept g =
     let v : List Grant = valid o (filter p kept) in
     ⊎_elim
     (λ (yes : is_supported o kept g ≡ true).
@@ -143,17 +143,17 @@ refold_one o p kept g =
     ap (λ k. valid o (filter p k)) kept_is ∙ last)
     (cases_Bool (is_supported o kept g))
 
-refold : (o : List Ownership) (p : Grant → Bool) (kept grants : List Grant) → valid o (filter p (fold (kept_with o) kept grants)) ≡ fold (kept_with o) (valid o (filter p kept)) (filter p grants)
-refold o p kept [] = refl
-refold o p kept (g ∷ gs) =
+replay : (o : List Ownership) (p : Grant → Bool) (kept grants : List Grant) → valid o (filter p (fold (kept_with o) kept grants)) ≡ fold (kept_with o) (valid o (filter p kept)) (filter p grants)
+replay o p kept [] = refl
+replay o p kept (g ∷ gs) =
     let v : List Grant = valid o (filter p kept) in
     let last : fold (kept_with o) (cond (p g) (kept_with o v g) v) (filter p gs) ≡ fold (kept_with o) v (filter p (g ∷ gs)) =
     elim (p g) as (λ b. fold (kept_with o) (cond b (kept_with o v g) v) (filter p gs) ≡ fold (kept_with o) v (cond b (g ∷ filter p gs) (filter p gs))) [ true ↦ refl | false ↦ refl ] in
-    refold o p (kept_with o kept g) gs ∙ ap (λ k. fold (kept_with o) k (filter p gs)) (refold_one o p kept g) ∙ last
+    replay o p (kept_with o kept g) gs ∙ ap (λ k. fold (kept_with o) k (filter p gs)) (replay_one o p kept g) ∙ last
 
 -- **grants may be taken from the valid ones or from all: the valid of the rest are the same**
 pub valid-filter_valid : (o : List Ownership) (p : Grant → Bool) (grants : List Grant) → valid o (filter p (valid o grants)) ≡ valid o (filter p grants)
-valid-filter_valid o p grants = refold o p [] grants
+valid-filter_valid o p grants = replay o p [] grants
 
 -- what is found in a part of a list is found in the list
 list_any-part : (q : Grant → Bool) (xs ys : List Grant) → IsPart xs ys → list_any q xs ≡ true → list_any q ys ≡ true

@@ -12,8 +12,8 @@ use Rattle.grants_core.specs.Valid.{valid}
 use Rattle.grants_core.specs.declared.grant.Grant.{Grant}
 use Rattle.grants_core.specs.declared.grant.Ownership.{Ownership}
 
--- the owners, each with whether a grant on the table was ever made; the grants in force; and how many
--- single grants were ever made
+-- the owners, each with whether a grant on the table was ever made; the grants in force; and how
+-- many single grants were ever made
 pub record Content : Type 0 where
   pub owners : List Ownership
   pub in_force : List Grant
@@ -29,7 +29,8 @@ holds owners grants user atom = owns owners user atom || list_any (gives user at
 
 -- u may grant an atom if he owns the table or a grant in force gives it to him with the option
 abbrev pub may_grant : List Ownership → List Grant → User → Atom → Bool
-may_grant owners grants user atom = owns owners user atom || list_any (λ g. g.option && gives user atom g) grants
+may_grant owners grants user atom =
+    owns owners user atom || list_any (λ g. g.option && gives user atom g) grants
 
 -- u made an atom to v if a grant in force by u gives it to v
 abbrev pub has_made : List Grant → User → User → Atom → Bool
@@ -43,7 +44,8 @@ count_of grants atom = count_by (λ g. same_atom g.atom atom) grants
 abbrev pub to_each : ℕ → Moment → User → Atom → List User → Bool → List Grant
 to_each n at by atom [] option = []
 to_each n at by atom (user ∷ users) option =
-    record { number = n; moment = at; atom = atom; grantor = by; grantee = user; option = option } ∷ to_each (n + 1) at by atom users option
+    record { number = n; moment = at; atom = atom; grantor = by; grantee = user; option = option }
+    ∷ to_each (n + 1) at by atom users option
 
 -- the single grants of atoms to users: atoms outer, users inner. Fagin 1978: each is kept, with its
 -- time, also where the same user granted the same before.
@@ -56,15 +58,19 @@ singles n at by (atom ∷ atoms) users option =
 -- doesn't matter
 unfoldable pub names : User → List Atom → List User → Grant → Bool
 names by atoms whom g =
-    same_user by g.grantor && list_any (λ a. same_atom a g.atom) atoms && list_any (λ u. same_user u g.grantee) whom
+    same_user by g.grantor
+    && list_any (λ a. same_atom a g.atom) atoms
+    && list_any (λ u. same_user u g.grantee) whom
 
 -- the grants that it doesn't name
 abbrev pub without : User → List Atom → List User → List Grant → List Grant
 without by atoms whom grants = filter (λ g. not (names by atoms whom g)) grants
 
+-- the table has this owner
 abbrev pub after_create : Content → Name → User → Content
 after_create c table user = record c { owners = with_owner table user c.owners }
 
+-- the single grants are in force, and the tables are marked
 abbrev pub after_grant : Content → User → List Atom → List User → Bool → Moment → Content
 after_grant c by atoms whom option at = record {
   owners = with_granted atoms c.owners;
@@ -72,7 +78,8 @@ after_grant c by atoms whom option at = record {
   made = c.made + length atoms * length whom;
 }
 
--- Griffiths and Wade 1976: those authorizations stand that would stand if the revoked grants had never
--- been made
+-- Griffiths and Wade 1976: those authorizations are in force that would be if the revoked grants
+-- had never been made
 abbrev pub after_revoke : Content → User → List Atom → List User → Content
-after_revoke c by atoms whom = record c { in_force = valid c.owners (without by atoms whom c.in_force) }
+after_revoke c by atoms whom =
+    record c { in_force = valid c.owners (without by atoms whom c.in_force) }

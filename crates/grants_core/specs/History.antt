@@ -1,4 +1,5 @@
--- What a list of changes leaves in force. The m-th change of a list, from 1 on, is that of moment m.
+-- What a list of changes leaves in force. The m-th change of a list, from 1 on, is that of moment
+-- m.
 use Rattle.std.specs.Prelude.{ℕ, ◌+◌, ◌*◌, Bool, false, not, ◌&&◌, ◌||◌, nat_lt, List, [], ◌∷◌, ◌++◌, length, filter, fold}
 use Rattle.std.specs.List.{list_any}
 use Rattle.base_core.specs.Words.{same_name}
@@ -26,7 +27,8 @@ made_by_all (c ∷ cs) = made_by c + made_by_all cs
 -- which a change of moment m makes, numbered from n
 abbrev pub grants_of : ℕ → ℕ → Change → List Grant
 grants_of n m (change.Create table owner) = []
-grants_of n m (change.Grant by atoms whom option) = singles n (record { 0 = m }) by atoms whom option
+grants_of n m (change.Grant by atoms whom option) =
+    singles n (record { 0 = m }) by atoms whom option
 grants_of n m (change.Revoke by atoms whom) = []
 grants_of n m change.Other = []
 
@@ -70,7 +72,7 @@ owners_with owners change.Other = owners
 abbrev pub owners_after : List Change → List Ownership
 owners_after changes = fold owners_with [] changes
 
--- Griffiths and Wade 1976: the authorizations that stand are those that would stand if the revoked
+-- Griffiths and Wade 1976: the authorizations in force are those that would be if the revoked
 -- grants had never been made
 abbrev pub in_force_after : List Change → List Grant
 in_force_after changes = valid (owners_after changes) (unstruck_after changes)

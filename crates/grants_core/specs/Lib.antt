@@ -4,4 +4,4 @@ pub mod Numbers
 pub mod Content
 pub mod History
 pub mod Marks
-pub mod Made
+pub mod Log

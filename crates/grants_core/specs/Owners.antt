@@ -16,7 +16,8 @@ owner_of owners table = option_map (λ o. o.owner) (find (λ o. same_name o.tabl
 -- Griffiths and Wade 1976: a table's creator is authorized on it for every operation, and to grant
 -- each. Here he is so for good.
 unfoldable pub owns : List Ownership → User → Atom → Bool
-owns owners user atom = elim (owner_of owners atom.table) [ Some owner ↦ same_user owner user | None ↦ false ]
+owns owners user atom =
+    elim (owner_of owners atom.table) [ Some owner ↦ same_user owner user | None ↦ false ]
 
 -- the owners, with this one for the table
 abbrev pub with_owner : Name → User → List Ownership → List Ownership

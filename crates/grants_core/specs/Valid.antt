@@ -7,10 +7,15 @@ use Rattle.grants_core.specs.Owners.{owns}
 use Rattle.grants_core.specs.declared.grant.Grant.{Grant}
 use Rattle.grants_core.specs.declared.grant.Ownership.{Ownership}
 
--- Griffiths and Wade 1976: whoever was granted a privilege with the option may from then on grant it.
--- Whether h is such a grant for g: of the same atom, to g's grantor, with the option, at an earlier moment.
+-- Griffiths and Wade 1976: whoever was granted a privilege with the option may from then on grant
+-- it. Whether h is such a grant for g: of the same atom, to g's grantor, with the option, at an
+-- earlier moment.
 unfoldable pub supports : Grant → Grant → Bool
-supports h g = h.option && same_atom h.atom g.atom && same_user h.grantee g.grantor && nat_lt h.moment.0 g.moment.0
+supports h g =
+    h.option
+    && same_atom h.atom g.atom
+    && same_user h.grantee g.grantor
+    && nat_lt h.moment.0 g.moment.0
 
 -- whether g's grantor owns the table, or one of the grants supports g
 abbrev pub is_supported : List Ownership → List Grant → Grant → Bool
@@ -20,9 +25,9 @@ is_supported owners grants g = owns owners g.grantor g.atom || list_any (λ h. s
 abbrev pub kept_with : List Ownership → List Grant → Grant → List Grant
 kept_with owners kept g = if is_supported owners kept g then kept ++ g ∷ [] else kept
 
--- Griffiths and Wade 1976: a grant stands where its grantor could make it; Fagin 1978: each of several
--- grants from one user to another is judged, by its own time. The last grant of a list is valid where
--- the valid ones before it support it.
+-- Griffiths and Wade 1976: a grant is valid where its grantor could make it; Fagin 1978: each of
+-- several grants from one user to another is judged, by its own time. The last grant of a list is
+-- valid where the valid ones before it support it.
 abbrev pub valid : List Ownership → List Grant → List Grant
 valid owners grants = fold (kept_with owners) [] grants
 

@@ -20,8 +20,8 @@ pub trait Authority {
         ensures err { OnErr result (content self.new ≡ content self.old) };
 
     /// Grants each of the atoms to each of the users, with or without the option, at a moment after
-    /// that of every grant in force. The user has to be allowed to grant each atom, and at most 2^63
-    /// single grants are ever made. On `NoMemory` nothing has changed.
+    /// that of every grant in force. The user has to be allowed to grant each atom, and at most
+    /// 2^63 single grants are ever made. On `NoMemory` nothing has changed.
     fn grant(
         &mut self,
         by: User,
@@ -30,10 +30,13 @@ pub trait Authority {
         option: bool,
         at: Moment,
     ) -> Result<(), NoMemory>
-        requires may { All (λ atom. may_grant (content self.old).owners (content self.old).in_force by atom ≡ true) atoms.now }
+        requires may { All
+            (λ atom. may_grant (content self.old).owners (content self.old).in_force by atom ≡ true)
+            atoms.now }
         requires later { All (λ g. g.moment.0 < at.0) (content self.old).in_force }
         requires room { (content self.old).made + length atoms.now * length whom.now ≤ 2 ^ 63 }
-        ensures ok { OnOk result (content self.new ≡ after_grant (content self.old) by atoms.now whom.now option at) }
+        ensures ok { OnOk result
+            (content self.new ≡ after_grant (content self.old) by atoms.now whom.now option at) }
         ensures err { OnErr result (content self.new ≡ content self.old) };
 
     /// Strikes each grant of the atoms by the one user to the others, with and without the option.
@@ -44,11 +47,13 @@ pub trait Authority {
 
     /// Whether the user owns the table or a grant in force gives him the atom.
     fn holds(&self, user: User, atom: &Atom) -> bool
-        ensures { result ≡ holds (content self.now).owners (content self.now).in_force user atom.now };
+        ensures { result
+            ≡ holds (content self.now).owners (content self.now).in_force user atom.now };
 
     /// Whether the user owns the table or a grant in force gives him the atom with the option.
     fn may_grant(&self, user: User, atom: &Atom) -> bool
-        ensures { result ≡ may_grant (content self.now).owners (content self.now).in_force user atom.now };
+        ensures { result
+            ≡ may_grant (content self.now).owners (content self.now).in_force user atom.now };
 
     /// Whether a grant of the atom by the one user to the other is in force.
     fn has_made(&self, by: User, user: User, atom: &Atom) -> bool
@@ -59,7 +64,7 @@ pub trait Authority {
         ensures { IsTrue result ↔ (count_of (content self.now).in_force atom.now + more ≤ limit) };
 
     /// The grants in force, in the order of their numbers, each of which is below `made`.
-    fn live(&self) -> Result<Vec<Grant>, NoMemory>
+    fn in_force(&self) -> Result<Vec<Grant>, NoMemory>
         ensures in_force { IfOk result (λ grants. grants.items ≡ (content self.now).in_force) }
         ensures numbered { IsNumbered (content self.now).made (content self.now).in_force };
 

@@ -1,11 +1,11 @@
 //! What a list of changes leaves in force.
 ghost use Rattle.std.specs.Prelude.{◌≡◌, ◌+◌, ◌++◌, ◌<◌, ◌↔◌, not, filter, length, All, IsTrue, OnOk, IfOk};
 ghost use Rattle.std.specs.Cmp.Lexicographic.{pointwise};
-ghost use Rattle.grants_core.specs.Made.{unstruck, same_grant};
+ghost use Rattle.grants_core.specs.Log.{unstruck, same_grant};
 ghost use Rattle.grants_core.specs.History.{owners_with, is_struck_by, grants_of, made_by, in_force_after};
 
 use crate::grant::{Change, Grant};
-use crate::made::{Made, append, live, refold, strike};
+use crate::log::{LoggedGrant, append, in_force, replay, strike};
 use crate::owners::Owners;
 use base_core::{Moment, NoMemory};
 use std::alloc::Global;
@@ -14,14 +14,18 @@ use std::alloc::Global;
 fn apply(
     alloc: Global,
     owners: &mut Owners,
-    made: &mut Vec<Made>,
+    made: &mut Vec<LoggedGrant>,
     moment: Moment,
     change: &Change,
 ) -> Result<(), NoMemory>
     requires { All (λ g. g.moment.0 < moment.0) (unstruck made.old.items) }
     ensures owners { OnOk result (owners.new ≡ owners_with owners.old change.now) }
-    ensures unstruck { OnOk result (unstruck made.new.items ≡ filter (λ g. not (is_struck_by moment.0 change.now g)) (unstruck made.old.items) ++ grants_of (length made.old.items) moment.0 change.now) }
-    ensures made { OnOk result (length made.new.items ≡ length made.old.items + made_by change.now) }
+    ensures unstruck { OnOk result
+        (unstruck made.new.items
+        ≡ filter (λ g. not (is_struck_by moment.0 change.now g)) (unstruck made.old.items)
+        ++ grants_of (length made.old.items) moment.0 change.now) }
+    ensures made { OnOk result
+        (length made.new.items ≡ length made.old.items + made_by change.now) }
 {
     match change {
         Change::Create { table, owner } => owners.set(*table, *owner)?,
@@ -54,8 +58,8 @@ fn in_force_after(alloc: Global, changes: &[Change]) -> Result<Vec<Grant>, NoMem
         moment += 1;
         apply(alloc, &mut owners, &mut made, Moment(moment), change)?;
     }
-    refold(&owners, &mut made);
-    live(alloc, &made)
+    replay(&owners, &mut made);
+    in_force(alloc, &made)
 }
 
 // Whether two grants are the same.
@@ -86,11 +90,11 @@ fn are_same(grants: &[Grant], others: &[Grant]) -> bool
 }
 
 /// Whether the list is exactly the grants in force after the changes, in order: the m-th change is
-/// that of moment m, and the single grants are numbered from 0. A table belongs to whom it was created
-/// for last. `NoMemory` where a request for memory was refused.
+/// that of moment m, and the single grants are numbered from 0. A table belongs to whom it was
+/// created for last. `NoMemory` where a request for memory was refused.
 pub fn audit(alloc: Global, changes: &[Change], grants: &[Grant]) -> Result<bool, NoMemory>
     ensures { IfOk result (λ same. IsTrue same ↔ (grants.now ≡ in_force_after changes.now)) }
 {
-    let live = in_force_after(alloc, changes)?;
-    Ok(are_same(grants, &live))
+    let in_force = in_force_after(alloc, changes)?;
+    Ok(are_same(grants, &in_force))
 }

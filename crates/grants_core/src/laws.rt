@@ -13,51 +13,74 @@ ghost use Rattle.grants_core.specs.Numbers.{IsNumbered};
 ghost use Rattle.grants_core.specs.History.{granted, made_by_all, is_granted, owners_after, in_force_after, content_after};
 ghost use Rattle.grants_core.specs.Marks.{is_marked, is_granted_once_created, is_granted_uncreated, AreToSomebody, AreGrantable};
 
-/// Whatever is valid in a part of a list of grants is valid in the list: more grants make none fall.
+/// Whatever is valid in a part of a list of grants is valid in the list: more grants make none
+/// fall.
 pub fn valid_of_a_part()
-    ensures { (owners : List Ownership) (part grants : List Grant) → IsPart part grants → IsPart (valid owners part) (valid owners grants) }
+    ensures { (owners : List Ownership) (part grants : List Grant)
+        → IsPart part grants
+        → IsPart (valid owners part) (valid owners grants) }
 {}
 
 /// Grants may be taken from the valid ones or from all: the same ones of the rest are valid.
 pub fn valid_of_the_valid()
-    ensures { (owners : List Ownership) (p : Grant → Bool) (grants : List Grant) → valid owners (filter p (valid owners grants)) ≡ valid owners (filter p grants) }
+    ensures { (owners : List Ownership) (p : Grant → Bool) (grants : List Grant)
+        → valid owners (filter p (valid owners grants)) ≡ valid owners (filter p grants) }
 {}
 
 /// Of each valid grant, and so of each grant in force, the grantor owns the table, or another such
 /// grant gave him the atom with the option at an earlier moment.
 pub fn valid_is_supported()
-    ensures valid { (owners : List Ownership) (grants : List Grant) → AreSupported owners (valid owners grants) (valid owners grants) }
-    ensures in_force { (changes : List Change) → AreSupported (owners_after changes) (in_force_after changes) (in_force_after changes) }
+    ensures valid { (owners : List Ownership) (grants : List Grant)
+        → AreSupported owners (valid owners grants) (valid owners grants) }
+    ensures in_force { (changes : List Change)
+        → AreSupported (owners_after changes) (in_force_after changes) (in_force_after changes) }
 {}
 
 /// In a list in the order of moments that supports each of its grants, each is valid.
 pub fn supported_is_valid()
-    ensures { (owners : List Ownership) (grants : List Grant) → IsInOrder grants → AreSupported owners grants grants → valid owners grants ≡ grants }
+    ensures { (owners : List Ownership) (grants : List Grant)
+        → IsInOrder grants
+        → AreSupported owners grants grants
+        → valid owners grants ≡ grants }
 {}
 
 /// A grant that the list doesn't support may be taken out of it: the same ones are valid.
 pub fn unsupported_is_needless()
-    ensures { (owners : List Ownership) (before : List Grant) (g : Grant) (after : List Grant) → is_supported owners (before ++ g ∷ after) g ≡ false → valid owners (before ++ after) ≡ valid owners (before ++ g ∷ after) }
+    ensures { (owners : List Ownership) (before : List Grant) (g : Grant) (after : List Grant)
+        → is_supported owners (before ++ g ∷ after) g ≡ false
+        → valid owners (before ++ after) ≡ valid owners (before ++ g ∷ after) }
 {}
 
 /// A creation of a table on which no grant was ever made sets its owner and changes nothing else.
 pub fn after_a_creation()
-    ensures { (changes : List Change) (table : Name) (owner : User) → is_granted changes table ≡ false → content_after (changes ++ Change.Create table owner ∷ []) ≡ after_create (content_after changes) table owner }
+    ensures { (changes : List Change) (table : Name) (owner : User)
+        → is_granted changes table ≡ false
+        → content_after (changes ++ Change.Create table owner ∷ [])
+        ≡ after_create (content_after changes) table owner }
 {}
 
 /// A grant by a user who may grant each of the atoms adds its single grants, at its moment.
 pub fn after_a_grant()
-    ensures { (changes : List Change) (by : User) (atoms : List Atom) (whom : List User) (option : Bool) → All (λ atom. may_grant (owners_after changes) (in_force_after changes) by atom ≡ true) atoms → content_after (changes ++ Change.Grant by atoms whom option ∷ []) ≡ after_grant (content_after changes) by atoms whom option (record { 0 = 1 + length changes }) }
+    ensures { (changes : List Change)
+        (by : User) (atoms : List Atom) (whom : List User) (option : Bool)
+        → All (λ atom. may_grant (owners_after changes) (in_force_after changes) by atom ≡ true)
+        atoms
+        → content_after (changes ++ Change.Grant by atoms whom option ∷ [])
+        ≡ after_grant (content_after changes) by atoms whom option
+        (record { 0 = 1 + length changes }) }
 {}
 
 /// A revocation leaves in force exactly the valid ones of the grants in force that it doesn't name.
 pub fn after_a_revocation()
-    ensures { (changes : List Change) (by : User) (atoms : List Atom) (whom : List User) → content_after (changes ++ Change.Revoke by atoms whom ∷ []) ≡ after_revoke (content_after changes) by atoms whom }
+    ensures { (changes : List Change) (by : User) (atoms : List Atom) (whom : List User)
+        → content_after (changes ++ Change.Revoke by atoms whom ∷ [])
+        ≡ after_revoke (content_after changes) by atoms whom }
 {}
 
 /// Another change leaves everything as it was.
 pub fn after_another_change()
-    ensures { (changes : List Change) → content_after (changes ++ Change.Other ∷ []) ≡ content_after changes }
+    ensures { (changes : List Change)
+        → content_after (changes ++ Change.Other ∷ []) ≡ content_after changes }
 {}
 
 /// The grants that were made are numbered from 0, in order. So the numbers of those in force rise,
@@ -72,8 +95,8 @@ pub fn numbers_rise()
 /// A table is marked exactly where a grant of an atom of it, even to nobody, came after its first
 /// creation. So where each such grant is to somebody, single grants were made on each marked table;
 /// and each table on which one was made is marked, where no grant came before its creation. None
-/// does where each is by a user who may grant it at that point: then a table is marked exactly where
-/// a grant on it was ever made.
+/// does where each is by a user who may grant it at that point: then a table is marked exactly
+/// where a grant on it was ever made.
 pub fn marked_where_granted()
     ensures marked { (changes : List Change) (table : Name)
         → is_marked changes table ≡ is_granted_once_created changes table }

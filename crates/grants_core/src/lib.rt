@@ -3,15 +3,15 @@
 //!
 //! A [`Grant`] is one privilege on one table, given by one user to another at one moment, with or
 //! without the option to grant it on. Every grant that was made is kept, repeated ones too. A grant
-//! stands where its grantor could make it: he owns the table, or another grant that stands gave him the
-//! privilege with the option at an earlier moment. So after a revocation exactly those grants are in
-//! force that would be if the revoked ones had never been made.
+//! is in force where its grantor could make it: he owns the table, or another grant in force gave
+//! him the privilege with the option at an earlier moment. So after a revocation exactly those
+//! grants are in force that would be if the revoked ones had never been made.
 //!
-//! An [`Authority`] keeps this. Contracts see it as its `content`: the owners, the list of grants in
-//! force, and how many were ever made. Each of its changes says what it makes of that content, and each
-//! of its tests what it answers by it. [`Replay`] is the plain authority. [`audit`] compares a list of
-//! grants with what a list of [`Change`]s leaves in force, by definitions that know no authority; the
-//! [`laws`] say that the two tell the same, change by change.
+//! An [`Authority`] keeps this. Contracts see it as its `content`: the owners, the list of grants
+//! in force, and how many were ever made. Each of its changes says what it makes of that content,
+//! and each of its tests what it answers by it. [`Replay`] is the plain authority. [`audit`]
+//! compares a list of grants with what a list of [`Change`]s leaves in force, by definitions that
+//! know no authority; the [`laws`] say that the two tell the same, change by change.
 //!
 //! ```text
 //! let mut rights = Replay::new(alloc);
@@ -24,9 +24,10 @@
 //!
 //! How cost grows, with n the single grants ever made (struck ones are kept too) and t the tables:
 //!
-//! - `holds`, `may_grant` and `has_made` go over n and t at most, `room` and `live` over n. No index
-//!   is kept.
-//! - `create` goes over t, and `grant` over t for each atom; it makes a grant for each atom and user.
+//! - `holds`, `may_grant` and `has_made` go over n and t at most, `room` and `in_force` over n. No
+//!   index is kept.
+//! - `create` goes over t, and `grant` over t for each atom; it makes a grant for each atom and
+//!   user.
 //! - `revoke` compares each of n with the atoms and users that it names. Then it replays: each of n
 //!   looks for its owner among t and for its support among those before it. So it grows with the
 //!   square of n at worst, however few it strikes, and takes no memory.
@@ -37,7 +38,7 @@ mod authority;
 mod grant;
 mod history;
 pub mod laws;
-mod made;
+mod log;
 mod owners;
 mod replay;
 mod singles;

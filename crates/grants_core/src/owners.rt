@@ -25,8 +25,8 @@ impl Model for Owners {
     ghost view = { λ o. o.entries.items };
 }
 
-// Where the table's entry is.
-fn place_of(entries: &[Ownership], table: Name) -> Option<usize>
+// The index of the table's entry.
+fn index_of(entries: &[Ownership], table: Name) -> Option<usize>
     ensures { result ≡ position (λ o. same_name o.table table) entries.now }
 {
     entries.iter().position(|entry| entry.table == table)
@@ -62,7 +62,7 @@ impl Owners {
         ensures ok { OnOk result (self.new ≡ with_owner table owner self.old) }
         ensures err { OnErr result (self.new ≡ self.old) }
     {
-        match place_of(&self.entries, table) {
+        match index_of(&self.entries, table) {
             Some(at) => self.entries[at].owner = owner,
             None => self.entries.push(Ownership {
                 table,

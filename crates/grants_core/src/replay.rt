@@ -3,8 +3,8 @@ ghost use Rattle.std.specs.Prelude.{◌≡◌, []};
 
 use crate::authority::Authority;
 use crate::grant::Grant;
-use crate::made::{
-    Made, any_gives, any_gives_option, any_made, append, count_of, live, refold, strike,
+use crate::log::{
+    LoggedGrant, any_gives, any_gives_option, any_made, append, count_of, in_force, replay, strike,
 };
 use crate::owners::Owners;
 use base_core::{Atom, Moment, Name, NoMemory, User};
@@ -17,17 +17,21 @@ use std::marker::Model;
 pub struct Replay {
     alloc: Global,
     owners: Owners,
-    made: Vec<Made>,
+    made: Vec<LoggedGrant>,
 }
 
 impl Model for Replay {
     ghost use Rattle.std.specs.Prelude.{length};
     ghost use Rattle.grants_core.specs.Content.{Content};
-    ghost use Rattle.grants_core.specs.Made.{standing, IsReplayed};
+    ghost use Rattle.grants_core.specs.Log.{in_force_of, IsReplayed};
 
     ghost Value = { Content };
 
-    ghost view = { λ r. record { owners = r.owners; in_force = standing r.made.items; made = length r.made.items } };
+    ghost view = { λ r. record {
+      owners = r.owners;
+      in_force = in_force_of r.made.items;
+      made = length r.made.items;
+    } };
 
     ghost invariant = { λ r. IsReplayed r.owners r.made.items };
 }
@@ -69,7 +73,7 @@ impl Authority for Replay {
     fn revoke(&mut self, by: User, atoms: &[Atom], whom: &[User]) {
         let made = self.made.as_mut_slice();
         strike(made, &by, atoms, whom);
-        refold(&self.owners, made);
+        replay(&self.owners, made);
     }
 
     fn holds(&self, user: User, atom: &Atom) -> bool {
@@ -88,8 +92,8 @@ impl Authority for Replay {
         more <= limit && count_of(&self.made, atom) as u64 <= limit - more
     }
 
-    fn live(&self) -> Result<Vec<Grant>, NoMemory> {
-        live(self.alloc, &self.made)
+    fn in_force(&self) -> Result<Vec<Grant>, NoMemory> {
+        in_force(self.alloc, &self.made)
     }
 
     fn made(&self) -> u64 {

@@ -17,7 +17,10 @@ fn push_each(
     option: bool,
 ) -> Result<(), NoMemory>
     requires { first ≤ 2 ^ 63 }
-    ensures { OnOk result (grants.new.items ≡ grants.old.items ++ to_each (first + length grants.old.items) at by.now atom.now whom.now option) }
+    ensures { OnOk result
+        (grants.new.items
+        ≡ grants.old.items
+        ++ to_each (first + length grants.old.items) at by.now atom.now whom.now option) }
 {
     for user in whom {
         let Atom { table, kind } = *atom;
@@ -33,8 +36,8 @@ fn push_each(
     Ok(())
 }
 
-/// The single grants of these atoms to these users, numbered from `first` (at most 2^63): atoms outer,
-/// users inner. `NoMemory` where a request for memory was refused.
+/// The single grants of these atoms to these users, numbered from `first` (at most 2^63): atoms
+/// outer, users inner. `NoMemory` where a request for memory was refused.
 pub fn single_grants(
     alloc: Global,
     first: u64,
@@ -45,7 +48,8 @@ pub fn single_grants(
     option: bool,
 ) -> Result<Vec<Grant>, NoMemory>
     requires { first ≤ 2 ^ 63 }
-    ensures { IfOk result (λ grants. grants.items ≡ singles first at by.now atoms.now whom.now option) }
+    ensures { IfOk result
+        (λ grants. grants.items ≡ singles first at by.now atoms.now whom.now option) }
 {
     let mut grants = Vec::new(alloc);
     for atom in atoms {

@@ -107,8 +107,8 @@ impl State {
     /// o grants it to u at 3.
     fn grant(&mut self, rt: &impl Abort, atom: Atom) -> Result<(), Fail> {
         let (o, u) = (user(b'o')?, user(b'u')?);
-        let live = self.rights.live()?;
-        assert!(rt; live.iter().all(|grant| grant.moment.0 < 3));
+        let in_force = self.rights.in_force()?;
+        assert!(rt; in_force.iter().all(|grant| grant.moment.0 < 3));
         assert!(rt; self.rights.may_grant(o, &atom));
         assert!(rt; self.rights.made() < 100);
         self.rights.grant(o, &[atom], &[u], false, Moment(3))?;
@@ -123,9 +123,9 @@ impl State {
 
     /// Begins a checkpoint, of which there may be three.
     fn begin(&mut self, rt: &impl Abort, point: u64) -> Result<Result<u64, Lack>, Fail> {
-        let live = self.rights.live()?;
+        let in_force = self.rights.in_force()?;
         let rows = rows_in(rt, &self.tables);
-        assert!(rt; rows < 100 && live.len() < 100);
+        assert!(rt; rows < 100 && in_force.len() < 100);
         let begun = self
             .capture
             .begin(&self.tables, &self.rights, Moment(point), 3);

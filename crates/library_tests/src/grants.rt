@@ -1,5 +1,5 @@
-//! Worked examples, told to a `Replay` and audited from their list of changes. They are about SELECT
-//! on the table t, whose owner is o. Users are named by one letter.
+//! Worked examples, told to a `Replay` and audited from their list of changes. They are about
+//! SELECT on the table t, whose owner is o. Users are named by one letter.
 use base_core::{Atom, Kind, Moment, Name, Sequence, User};
 use grants_core::{Authority, Change, Replay, audit};
 use std::alloc::Global;
@@ -44,8 +44,8 @@ fn grant(
     at: u64,
 ) -> Result<(), Fail> {
     let atom = select()?;
-    let live = replay.live()?;
-    assert!(rt; live.iter().all(|grant| grant.moment.0 < at));
+    let in_force = replay.in_force()?;
+    assert!(rt; in_force.iter().all(|grant| grant.moment.0 < at));
     assert!(rt; replay.may_grant(by, &atom));
     assert!(rt; replay.made() < 100 && whom.len() < 100);
     replay.grant(by, &[atom], whom, option, Moment(at))?;
@@ -83,8 +83,8 @@ fn take(
     }
 }
 
-// What the steps leave, after the table's creation: the grants of these moments are in force, and the
-// audit agrees.
+// What the steps leave, after the table's creation: the grants of these moments are in force, and
+// the audit agrees.
 fn told(rt: &impl Abort, alloc: Global, steps: &[Step], moments: &[u64]) -> Result<Replay, Fail> {
     let mut replay = Replay::new(alloc);
     replay.create(name(b't')?, user(b'o')?)?;
@@ -97,13 +97,13 @@ fn told(rt: &impl Abort, alloc: Global, steps: &[Step], moments: &[u64]) -> Resu
         let at = changes.len() as u64 + 1;
         changes.push(take(rt, alloc, &mut replay, step, at)?)?;
     }
-    let live = replay.live()?;
-    let times = live
+    let in_force = replay.in_force()?;
+    let times = in_force
         .iter()
         .map(|grant| grant.moment.0)
         .collect::<Vec<u64>>(alloc)?;
     assert_eq!(rt; times.as_slice(), moments);
-    assert!(rt; audit(alloc, &changes, &live)?);
+    assert!(rt; audit(alloc, &changes, &in_force)?);
     assert_eq!(rt; audit(alloc, &changes, &[])?, moments.is_empty());
     Ok(replay)
 }

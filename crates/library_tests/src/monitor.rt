@@ -126,8 +126,8 @@ fn grant(
     at: u64,
 ) -> Result<(), Fail> {
     let (by, to, atom) = (user(b'o')?, user(to)?, atom(right)?);
-    let live = rights.live()?;
-    assert!(rt; live.iter().all(|grant| grant.moment.0 < at));
+    let in_force = rights.in_force()?;
+    assert!(rt; in_force.iter().all(|grant| grant.moment.0 < at));
     assert!(rt; rights.may_grant(by, &atom));
     assert!(rt; rights.made() < 100);
     rights.grant(by, &[atom], &[to], option, Moment(at))?;

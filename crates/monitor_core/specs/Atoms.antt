@@ -9,6 +9,7 @@ use Rattle.base_core.specs.declared.privilege.Atom.{Atom}
 use Rattle.reader_core.specs.declared.privilege.Privilege.{Privilege}
 use Rattle.reader_core.specs.declared.privilege.Privilege.TheVariants as privileges
 
+-- the privilege of this kind on the table
 abbrev pub of_table : Name → Kind → Atom
 of_table table kind = record { table = table; kind = kind }
 
@@ -16,8 +17,8 @@ of_table table kind = record { table = table; kind = kind }
 abbrev pub to_update : Name → Name → Atom
 to_update table column = of_table table (kinds.Update column)
 
--- the atoms of a privilege on a table with these columns, as written; UPDATE alone is of every column,
--- in table order
+-- the atoms of a privilege on a table with these columns, as written; UPDATE alone is of every
+-- column, in table order
 abbrev pub atoms_of_one : Name → List Column → Privilege → List Atom
 atoms_of_one table columns privileges.Select = of_table table kinds.Select ∷ []
 atoms_of_one table columns privileges.Insert = of_table table kinds.Insert ∷ []

@@ -1,4 +1,5 @@
--- Which statements may be carried out: for each a list of checks, of which the first that fails is the lack.
+-- Which statements may be carried out: for each a list of checks, of which the first that fails is
+-- the lack.
 use Rattle.std.specs.Prelude.{ℕ, ◌+◌, Bool, true, false, not, nat_lt, nat_le, ◌==◌, if◌then◌else◌, List, [], ◌∷◌, length, map, is_some, Option, Some, None, Result, Ok, Err}
 use Rattle.std.specs.Option.{option_map_or, unwrap_or}
 use Rattle.std.specs.List.{zip}
@@ -42,16 +43,19 @@ first_lack (Err lack ∷ more) = Err lack
 abbrev pub each : {A : Type 0} → List A → (A → Check) → Check
 each xs check = first_lack (map check xs)
 
--- what is judged by: the tables, the rights (owners and grants in force), the limits, and the moment
+-- what is judged by: the tables, the rights (owners and grants in force), the limits, and the
+-- moment
 pub record State : Type 0 where
   pub tables : List (Name × Contents)
   pub rights : Content
   pub limits : Limits
   pub moment : ℕ
 
+-- whether there is a table of this name
 abbrev pub is_table : List (Name × Contents) → Name → Bool
 is_table tables name = is_some (table_of tables name)
 
+-- the columns of the table of this name, and none where there is no such table
 abbrev pub columns_of : List (Name × Contents) → Name → List Column
 columns_of tables name = option_map_or (λ t. t.columns) (table_of tables name) []
 
@@ -64,24 +68,34 @@ abbrev pub atoms_at : List (Name × Contents) → Name → List Privilege → Li
 atoms_at tables table privileges = atoms_of table (columns_of tables table) privileges
 
 -- ---- the single checks
+-- there is a table of this name
 abbrev pub table_stands : State → Name → Check
 table_stands s table = require (is_table s.tables table) (NoTable table)
 
+-- there is none
 abbrev pub table_is_new : State → Name → Check
 table_is_new s table = require (not (is_table s.tables table)) (TableExists table)
 
+-- the user holds the atom
 abbrev pub holds_privilege : State → User → Atom → Check
-holds_privilege s user atom = require (rights.holds s.rights.owners s.rights.in_force user atom) (NoPrivilege user atom)
+holds_privilege s user atom =
+    require (rights.holds s.rights.owners s.rights.in_force user atom) (NoPrivilege user atom)
 
+-- the user may grant the atom
 abbrev pub holds_grant_option : State → User → Atom → Check
-holds_grant_option s user atom = require (rights.may_grant s.rights.owners s.rights.in_force user atom) (NoGrantOption user atom)
+holds_grant_option s user atom =
+    require (rights.may_grant s.rights.owners s.rights.in_force user atom) (NoGrantOption user atom)
 
 -- a grant of the atom by the one to the other is in force
 abbrev pub made_grant : State → User → Atom → User → Check
-made_grant s by atom to = require (rights.has_made s.rights.in_force by to atom) (NoGrant by to atom)
+made_grant s by atom to =
+    require (rights.has_made s.rights.in_force by to atom) (NoGrant by to atom)
 
+-- there are as many values as the table has columns
 abbrev pub count_is_right : State → Name → List Value → Check
-count_is_right s table values = require (length values == length (columns_of s.tables table)) (WrongCount (length values) (length (columns_of s.tables table)))
+count_is_right s table values =
+    require (length values == length (columns_of s.tables table))
+    (WrongCount (length values) (length (columns_of s.tables table)))
 
 -- the table has a column of this name
 abbrev pub column_stands : State → Name → Name → Check
@@ -97,46 +111,86 @@ takes column value = require (has_type value column.ty) (WrongType column.name c
 
 -- each of the table's columns takes the value at its place
 abbrev pub types_are_right : State → Name → List Value → Check
-types_are_right s table values = each (zip (columns_of s.tables table) values) (λ pair. takes pair.0 pair.1)
+types_are_right s table values =
+    each (zip (columns_of s.tables table) values) (λ pair. takes pair.0 pair.1)
 
 -- the table's column of this name, if there is one, takes the value
 abbrev pub column_takes : State → Name → Name → Value → Check
-column_takes s table name value = option_map_or (λ column. takes column value) (column_of s.tables table name) (Ok tt)
+column_takes s table name value =
+    option_map_or (λ column. takes column value) (column_of s.tables table name) (Ok tt)
 
 -- this check, where there is a filter: who chooses rows by what they hold reads them
 unfoldable pub with_filter : List Condition → Check → Check
 with_filter [] check = Ok tt
 with_filter (_ ∷ _) check = check
 
+-- fewer changes were accepted than there may be
 abbrev pub room_for_change : State → Check
 room_for_change s = require (nat_lt s.moment s.limits.changes) (Full Changes)
 
+-- there are fewer tables than there may be
 abbrev pub room_for_table : State → Check
 room_for_table s = require (nat_lt (length s.tables) s.limits.tables) (Full Tables)
 
+-- a grant of the atom to each user is within the limit
 abbrev pub room_for_grants : State → List User → Atom → Check
-room_for_grants s users atom = require (has_room s.rights.in_force atom (length users) s.limits.grants) (Full Grants)
+room_for_grants s users atom =
+    require (has_room s.rights.in_force atom (length users) s.limits.grants) (Full Grants)
 
 -- the columns that privileges list are the table's
 abbrev pub listed_columns_stand : State → Name → List Privilege → Check
-listed_columns_stand s table privileges = each privileges (λ p. each (columns_listed p) (column_stands s table))
+listed_columns_stand s table privileges =
+    each privileges (λ p. each (columns_listed p) (column_stands s table))
 
 -- ---- the checks of each statement, in their order
 abbrev pub checks : State → User → Statement → List Check
 checks s user (statements.CreateTable table columns) =
     table_is_new s table ∷ room_for_change s ∷ room_for_table s ∷ []
 checks s user (statements.Insert table values) =
-    table_stands s table ∷ holds_privilege s user (of_table table kinds.Insert) ∷ count_is_right s table values ∷ types_are_right s table values ∷ room_for_change s ∷ []
+    table_stands s table
+    ∷ holds_privilege s user (of_table table kinds.Insert)
+    ∷ count_is_right s table values
+    ∷ types_are_right s table values
+    ∷ room_for_change s
+    ∷ []
 checks s user (statements.Select list table filter) =
-    table_stands s table ∷ list_stands s table list ∷ each filter (λ c. column_stands s table c.column) ∷ holds_privilege s user (of_table table kinds.Select) ∷ each filter (λ c. column_takes s table c.column c.literal) ∷ []
+    table_stands s table
+    ∷ list_stands s table list
+    ∷ each filter (λ c. column_stands s table c.column)
+    ∷ holds_privilege s user (of_table table kinds.Select)
+    ∷ each filter (λ c. column_takes s table c.column c.literal)
+    ∷ []
 checks s user (statements.Delete table filter) =
-    table_stands s table ∷ each filter (λ c. column_stands s table c.column) ∷ holds_privilege s user (of_table table kinds.Delete) ∷ with_filter filter (holds_privilege s user (of_table table kinds.Select)) ∷ each filter (λ c. column_takes s table c.column c.literal) ∷ room_for_change s ∷ []
+    table_stands s table
+    ∷ each filter (λ c. column_stands s table c.column)
+    ∷ holds_privilege s user (of_table table kinds.Delete)
+    ∷ with_filter filter (holds_privilege s user (of_table table kinds.Select))
+    ∷ each filter (λ c. column_takes s table c.column c.literal)
+    ∷ room_for_change s
+    ∷ []
 checks s user (statements.Update table sets filter) =
-    table_stands s table ∷ each sets (λ a. column_stands s table a.column) ∷ each filter (λ c. column_stands s table c.column) ∷ each sets (λ a. holds_privilege s user (to_update table a.column)) ∷ with_filter filter (holds_privilege s user (of_table table kinds.Select)) ∷ each sets (λ a. column_takes s table a.column a.value) ∷ each filter (λ c. column_takes s table c.column c.literal) ∷ room_for_change s ∷ []
+    table_stands s table
+    ∷ each sets (λ a. column_stands s table a.column)
+    ∷ each filter (λ c. column_stands s table c.column)
+    ∷ each sets (λ a. holds_privilege s user (to_update table a.column))
+    ∷ with_filter filter (holds_privilege s user (of_table table kinds.Select))
+    ∷ each sets (λ a. column_takes s table a.column a.value)
+    ∷ each filter (λ c. column_takes s table c.column c.literal)
+    ∷ room_for_change s
+    ∷ []
 checks s user (statements.Grant privileges table users option) =
-    table_stands s table ∷ listed_columns_stand s table privileges ∷ each (atoms_at s.tables table privileges) (holds_grant_option s user) ∷ room_for_change s ∷ each (atoms_at s.tables table privileges) (room_for_grants s users) ∷ []
+    table_stands s table
+    ∷ listed_columns_stand s table privileges
+    ∷ each (atoms_at s.tables table privileges) (holds_grant_option s user)
+    ∷ room_for_change s
+    ∷ each (atoms_at s.tables table privileges) (room_for_grants s users)
+    ∷ []
 checks s user (statements.Revoke privileges table users) =
-    table_stands s table ∷ listed_columns_stand s table privileges ∷ each (atoms_at s.tables table privileges) (λ atom. each users (made_grant s user atom)) ∷ room_for_change s ∷ []
+    table_stands s table
+    ∷ listed_columns_stand s table privileges
+    ∷ each (atoms_at s.tables table privileges) (λ atom. each users (made_grant s user atom))
+    ∷ room_for_change s
+    ∷ []
 checks s user statements.Checkpoint = []
 checks s user statements.Checkpoints = []
 checks s user (statements.Export number None) = []

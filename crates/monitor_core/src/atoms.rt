@@ -98,7 +98,8 @@ impl<'a, A: Authority> AtomCheck for MadeGrants<'a, A> {
 
 /// Passed where the privilege to update each of the columns passes.
 pub fn each_update<C: AtomCheck, T: Named>(check: &C, table: Name, items: &[T]) -> Result<(), Lack>
-    ensures { result ≡ each items.now (λ item. C.check_of check.now (to_update table (T.name_of item))) }
+    ensures { result ≡ each items.now
+        (λ item. C.check_of check.now (to_update table (T.name_of item))) }
 {
     for item in items {
         let kind = Kind::Update(item.name());
@@ -137,7 +138,8 @@ fn each_privilege<C: AtomCheck>(
     columns: &[Column],
     privileges: &[Privilege],
 ) -> Result<(), Lack>
-    ensures { result ≡ each privileges.now (λ p. each (atoms_of_one table columns.now p) (C.check_of check.now)) }
+    ensures { result ≡ each privileges.now
+        (λ p. each (atoms_of_one table columns.now p) (C.check_of check.now)) }
 {
     for privilege in privileges {
         each_of_one(check, table, columns, privilege)?;

@@ -37,7 +37,12 @@ impl<'a, A: Authority> Model for Judge<'a, A> {
 
     ghost Value = { State };
 
-    ghost view = { λ j. record { tables = j.tables.now; rights = A.content j.rights.now; limits = j.limits.now; moment = j.moment.0 } };
+    ghost view = { λ j. record {
+      tables = j.tables.now;
+      rights = A.content j.rights.now;
+      limits = j.limits.now;
+      moment = j.moment.0;
+    } };
 }
 
 impl<A: Authority> Judge<'_, A> {
@@ -66,7 +71,8 @@ impl<A: Authority> Judge<'_, A> {
     }
 
     fn may_update(&self, user: &User, table: Name, sets: &[Assignment]) -> Result<(), Lack>
-        ensures { result ≡ each sets.now (λ a. holds_privilege self.now user.now (to_update table a.column)) }
+        ensures { result ≡ each sets.now
+            (λ a. holds_privilege self.now user.now (to_update table a.column)) }
     {
         let holds = HoldsPrivilege {
             judge: self,
@@ -168,7 +174,8 @@ impl<A: Authority> Judge<'_, A> {
         table: Name,
         privileges: &[Privilege],
     ) -> Result<(), Lack>
-        ensures { result ≡ each (atoms_at self.now.tables table privileges.now) (C.check_of check.now) }
+        ensures { result ≡ each (atoms_at self.now.tables table privileges.now)
+            (C.check_of check.now) }
     {
         each_atom(check, table, columns_of(self.tables, table), privileges)
     }
@@ -184,7 +191,8 @@ impl<A: Authority> Judge<'_, A> {
 
     /// Each column named takes its literal.
     fn columns_take<T: Literal>(&self, table: Name, items: &[T]) -> Result<(), Lack>
-        ensures { result ≡ each items.now (λ item. column_takes self.now table (T.name_of item) (T.literal_of item)) }
+        ensures { result ≡ each items.now
+            (λ item. column_takes self.now table (T.name_of item) (T.literal_of item)) }
     {
         for item in items {
             if let Err(lack) = self.column_takes(table, item.name(), item.literal()) {
@@ -207,7 +215,11 @@ impl<A: Authority> Judge<'_, A> {
     }
 
     fn create(&self, table: Name) -> Result<(), Lack>
-        ensures { result ≡ first_lack (table_is_new self.now table ∷ room_for_change self.now ∷ room_for_table self.now ∷ []) }
+        ensures { result ≡ first_lack
+            (table_is_new self.now table
+            ∷ room_for_change self.now
+            ∷ room_for_table self.now
+            ∷ []) }
     {
         if is_table(self.tables, table) {
             return Err(Lack::TableExists(table));
@@ -299,7 +311,8 @@ impl<A: Authority> Judge<'_, A> {
         users: &[User],
         option: bool,
     ) -> Result<(), Lack>
-        ensures { result ≡ verdict self.now user.now (statements.Grant privileges.now table users.now option) }
+        ensures { result ≡ verdict self.now user.now
+            (statements.Grant privileges.now table users.now option) }
     {
         let user = *user;
         let may_grant = HoldsGrantOption { judge: self, user };
@@ -326,7 +339,8 @@ impl<A: Authority> Judge<'_, A> {
         table: Name,
         users: &[User],
     ) -> Result<(), Lack>
-        ensures { result ≡ verdict self.now user.now (statements.Revoke privileges.now table users.now) }
+        ensures { result ≡ verdict self.now user.now
+            (statements.Revoke privileges.now table users.now) }
     {
         let by = *user;
         let made = MadeGrants {
@@ -348,7 +362,8 @@ impl<A: Authority> Judge<'_, A> {
 
     /// The table that an export is limited to stands.
     fn export(&self, only: &Option<Name>) -> Result<(), Lack>
-        ensures { (user : User) (number : ℕ) → result ≡ verdict self.now user (statements.Export number only.now) }
+        ensures { (user : User) (number : ℕ)
+            → result ≡ verdict self.now user (statements.Export number only.now) }
     {
         match only {
             None => Ok(()),

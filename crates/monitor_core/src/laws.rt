@@ -7,5 +7,7 @@ ghost use Rattle.monitor_core.specs.Verdict.{State, verdict};
 
 /// No verdict is that memory was refused.
 pub fn never_no_memory()
-    ensures { (at : State) (user : User) (asked : Statement) → verdict at user asked ≡ Err Lack.NoMemory → ⊥ }
+    ensures { (at : State) (user : User) (asked : Statement)
+        → verdict at user asked ≡ Err Lack.NoMemory
+        → ⊥ }
 {}

@@ -62,7 +62,17 @@ pub fn judge<A: Authority>(
     statement: &Statement,
     moment: Moment,
 ) -> Result<Allowed, Lack>
-    ensures verdict { result ≡ allowed_by (verdict (record { tables = tables.now; rights = A.content rights.now; limits = limits.now; moment = moment.0 }) user statement.now) statement.now }
+    ensures verdict { result
+        ≡ allowed_by
+        (verdict
+        (record {
+          tables = tables.now;
+          rights = A.content rights.now;
+          limits = limits.now;
+          moment = moment.0;
+        })
+        user statement.now)
+        statement.now }
     ensures memory { result ≡ Err Lack.NoMemory → ⊥ }
 {
     let judge = Judge {

@@ -4,7 +4,7 @@ use Rattle.std.specs.List.{filter_map, fold}
 use Rattle.std.specs.Map.{lookup, set_value}
 use Rattle.std.specs.Option.{option_map_or}
 use Rattle.base_core.specs.Words.{same_name}
-use Rattle.base_core.specs.Filter.{place, cell, with_value, is_chosen}
+use Rattle.base_core.specs.Filter.{column_index, cell, with_value, is_chosen}
 use Rattle.base_core.specs.declared.name.Name.{Name}
 use Rattle.base_core.specs.declared.name.User.{User}
 use Rattle.base_core.specs.declared.value.Value.{Value}
@@ -13,8 +13,8 @@ use Rattle.base_core.specs.declared.value.Column.{Column}
 use Rattle.base_core.specs.declared.condition.Condition.{Condition}
 use Rattle.base_core.specs.declared.condition.Assignment.{Assignment}
 
--- one table: its owner, its columns, how many rows were ever inserted, and the rows that it has now,
--- each with its number, which is how many rows were inserted before it
+-- one table: its owner, its columns, how many rows were ever inserted, and the rows that it has
+-- now, each with its number, which is how many rows were inserted before it
 pub record Contents : Type 0 where
   pub owner : User
   pub columns : List Column
@@ -31,15 +31,18 @@ projected_values columns names values = filter_map (cell columns values) names
 
 -- the values after each assignment in turn
 abbrev pub assigned_values : List Column → List Assignment → List Value → List Value
-assigned_values columns sets values = fold (λ made set. with_value made (place columns set.column) set.value) values sets
+assigned_values columns sets values =
+    fold (λ made set. with_value made (column_index columns set.column) set.value) values sets
 
 -- a numbered row after the assignments, under the number that it had
 abbrev pub assigned_row : List Column → List Assignment → ℕ × Row → ℕ × Row
-assigned_row columns sets numbered = (numbered.0, record { values = assigned_values columns sets numbered.1.values })
+assigned_row columns sets numbered =
+    (numbered.0, record { values = assigned_values columns sets numbered.1.values })
 
 -- the same where the row satisfies the filter; any other row is left as it is
 abbrev pub updated_row : List Column → List Assignment → List Condition → ℕ × Row → ℕ × Row
-updated_row columns sets conditions numbered = if satisfies columns conditions numbered then assigned_row columns sets numbered else numbered
+updated_row columns sets conditions numbered =
+    if satisfies columns conditions numbered then assigned_row columns sets numbered else numbered
 
 -- a new table: no row is or was in it
 abbrev pub empty_table : User → List Column → Contents
@@ -51,15 +54,19 @@ with_row row t = record t { inserted = t.inserted + 1; rows = t.rows ++ (t.inser
 
 -- the table without the chosen rows
 abbrev pub without_chosen_rows : List Condition → Contents → Contents
-without_chosen_rows conditions t = record t { rows = filter (λ numbered. not (satisfies t.columns conditions numbered)) t.rows }
+without_chosen_rows conditions t =
+    record t { rows = filter (λ numbered. not (satisfies t.columns conditions numbered)) t.rows }
 
 -- the table with the assignments made in each chosen row, in place
 abbrev pub with_updated_rows : List Assignment → List Condition → Contents → Contents
-with_updated_rows sets conditions t = record t { rows = map (updated_row t.columns sets conditions) t.rows }
+with_updated_rows sets conditions t =
+    record t { rows = map (updated_row t.columns sets conditions) t.rows }
 
 -- the chosen rows, cut to the named columns
 abbrev pub selected_rows : List Name → List Condition → Contents → List Row
-selected_rows names conditions t = map (λ numbered. record { values = projected_values t.columns names numbered.1.values }) (filter (satisfies t.columns conditions) t.rows)
+selected_rows names conditions t =
+    map (λ numbered. record { values = projected_values t.columns names numbered.1.values })
+    (filter (satisfies t.columns conditions) t.rows)
 
 -- the table of this name
 abbrev pub table_of : List (Name × Contents) → Name → Option Contents
@@ -67,8 +74,13 @@ table_of tables name = lookup (same_name name) tables
 
 -- the column of this name in the table of that name
 abbrev pub column_of : List (Name × Contents) → Name → Name → Option Column
-column_of tables name column = option_and_then (λ t. option_and_then (slice_get t.columns) (place t.columns column)) (table_of tables name)
+column_of tables name column =
+    option_and_then (λ t. option_and_then (slice_get t.columns) (column_index t.columns column))
+    (table_of tables name)
 
--- the tables with a change made to the one of this name; where there is none, the tables as they are
-abbrev pub with_change : Name → (Contents → Contents) → List (Name × Contents) → List (Name × Contents)
-with_change name change tables = option_map_or (λ t. set_value (same_name name) tables (change t)) (table_of tables name) tables
+-- the tables with a change made to the one of this name; where there is none, the tables as they
+-- are
+abbrev pub with_change : Name → (Contents → Contents)
+    → List (Name × Contents) → List (Name × Contents)
+with_change name change tables =
+    option_map_or (λ t. set_value (same_name name) tables (change t)) (table_of tables name) tables

@@ -5,15 +5,22 @@ use Rattle.base_core.specs.Words.{same_name}
 use Rattle.base_core.specs.declared.name.Name.{Name}
 use Rattle.tables_core.specs.Contents.{Contents, table_of, with_change}
 
--- after a change to one table, a look-up gives the changed table under its name, and under each other name what it gave
+-- after a change to one table, a look-up gives the changed table under its name, and under each
+-- other name what it gave
 abbrev pub LookUpAfterChange : Type 0
-LookUpAfterChange = (tables : List (Name × Contents)) (name other : Name) (change : Contents → Contents)
-    → table_of (with_change name change tables) other ≡ (if same_name name other then option_map change (table_of tables other) else table_of tables other)
+LookUpAfterChange =
+    (tables : List (Name × Contents)) (name other : Name) (change : Contents → Contents)
+    → table_of (with_change name change tables) other
+    ≡ (if same_name name other then option_map change (table_of tables other)
+    else table_of tables other)
 
 -- after a new table, a look-up gives it under its name, and under each other name what it gave
 abbrev pub LookUpAfterNew : Type 0
-LookUpAfterNew = (tables : List (Name × Contents)) (name other : Name) (t : Contents) → table_of tables name ≡ None
-    → table_of (tables ++ (name, t) ∷ []) other ≡ (if same_name name other then Some t else table_of tables other)
+LookUpAfterNew =
+    (tables : List (Name × Contents)) (name other : Name) (t : Contents)
+    → table_of tables name ≡ None
+    → table_of (tables ++ (name, t) ∷ []) other
+    ≡ (if same_name name other then Some t else table_of tables other)
 
 -- a change to one table leaves the names and their order
 abbrev pub NamesAfterChange : Type 0

@@ -19,8 +19,11 @@ pub fn look_ups_after_changes()
 /// The numbers of a table's rows rise, and its next number is above them all: at first, and after
 /// each change. So no two rows of a table have one number.
 pub fn numbers_rise()
-    ensures opened { (owner : User) (columns : List Column) → IsNumbered (empty_table owner columns) }
+    ensures opened { (owner : User) (columns : List Column)
+        → IsNumbered (empty_table owner columns) }
     ensures inserted { (row : Row) → KeepsNumbered (with_row row) }
-    ensures deleted { (conditions : List Condition) → KeepsNumbered (without_chosen_rows conditions) }
-    ensures updated { (sets : List Assignment) (conditions : List Condition) → KeepsNumbered (with_updated_rows sets conditions) }
+    ensures deleted { (conditions : List Condition)
+        → KeepsNumbered (without_chosen_rows conditions) }
+    ensures updated { (sets : List Assignment) (conditions : List Condition)
+        → KeepsNumbered (with_updated_rows sets conditions) }
 {}

@@ -3,8 +3,8 @@ ghost use Rattle.std.specs.Prelude.{◌≡◌, IfOk, OnOk, OnErr, replicate, cou
 ghost use Rattle.tables_core.specs.Contents.{satisfies, projected_values, assigned_values, updated_row};
 
 use base_core::{
-    Assignment, Column, Condition, Name, NoMemory, Row, Sequence, Twin, Value, cell, is_chosen,
-    place_of, twins_of,
+    Assignment, Column, Condition, Name, NoMemory, Row, Sequence, Twin, Value, cell, column_index,
+    is_chosen, twins_of,
 };
 use std::alloc::Global;
 
@@ -67,7 +67,7 @@ fn assign(columns: &[Column], sets: Vec<Assignment>, values: &mut Sequence<Value
     ensures { values.new ≡ assigned_values columns.now sets.items values.old }
 {
     for set in sets {
-        if let Some(place) = place_of(columns, set.column) {
+        if let Some(place) = column_index(columns, set.column) {
             if place < values.len() {
                 values.set(place, set.value);
             }
@@ -84,7 +84,8 @@ pub fn update_chosen(
     sets: &[Assignment],
     filter: &[Condition],
 ) -> Result<(), NoMemory>
-    ensures ok { OnOk result (rows.new ≡ map (updated_row columns.now sets.now filter.now) rows.old) }
+    ensures ok { OnOk result
+        (rows.new ≡ map (updated_row columns.now sets.now filter.now) rows.old) }
     ensures no_memory { OnErr result (rows.new ≡ rows.old) }
 {
     let count = count_chosen(columns, filter, rows);
@@ -101,7 +102,8 @@ pub fn update_chosen(
 
 /// Drops the rows that the filter chooses.
 pub fn drop_chosen(columns: &[Column], rows: &mut Vec<NumberedRow>, conditions: &[Condition])
-    ensures { rows.new.items ≡ filter (λ r. not (satisfies columns.now conditions.now r)) rows.old.items }
+    ensures { rows.new.items
+        ≡ filter (λ r. not (satisfies columns.now conditions.now r)) rows.old.items }
 {
     rows.retain(|numbered| !chooses(columns, conditions, numbered));
 }

@@ -20,7 +20,12 @@ impl Model for Table {
 
     ghost Value = { Contents };
 
-    ghost view = { λ t. record { owner = t.owner; columns = t.columns; inserted = t.inserted; rows = t.rows.items } };
+    ghost view = { λ t. record {
+      owner = t.owner;
+      columns = t.columns;
+      inserted = t.inserted;
+      rows = t.rows.items;
+    } };
 }
 
 impl Table {

@@ -5,7 +5,7 @@ ghost use Rattle.tables_core.specs.Contents.{empty_table, with_row, without_chos
 
 use crate::rows::NumberedRow;
 use crate::table::Table;
-use base_core::{Assignment, Column, Condition, Name, NoMemory, Row, Sequence, User, place_of};
+use base_core::{Assignment, Column, Condition, Name, NoMemory, Row, Sequence, User, column_index};
 use indexmap::IndexMap;
 use std::alloc::Global;
 use std::marker::Model;
@@ -76,7 +76,18 @@ impl Tables {
     /// The table at this place in the order of creation, counted from 0. None from the number of
     /// tables on. With it all tables can be gone through, row by row.
     pub fn at(&self, index: usize) -> Option<TableView<'_>>
-        ensures { option_map (λ v. (v.name, record { owner = v.owner; columns = v.columns.now; inserted = v.inserted; rows = v.rows.now })) result ≡ slice_get self.now index }
+        ensures { option_map
+            (λ v. (
+              v.name,
+              record {
+                owner = v.owner;
+                columns = v.columns.now;
+                inserted = v.inserted;
+                rows = v.rows.now;
+              },
+            ))
+            result
+            ≡ slice_get self.now index }
     {
         let (name, table) = self.tables.get_index(index)?;
         Some(TableView {
@@ -108,7 +119,7 @@ impl Tables {
         ensures { result ≡ column_of self.now name column }
     {
         let columns = self.columns(name)?;
-        columns.get(place_of(columns, column)?).copied()
+        columns.get(column_index(columns, column)?).copied()
     }
 
     /// How many rows the table of this name has now. 0 where there is no such table.
@@ -173,7 +184,9 @@ impl Tables {
         filter: &[Condition],
     ) -> Result<Vec<Row>, NoMemory>
         requires { IsSome (table_of self.now name) }
-        ensures { IfOk result (λ rows. option_map (selected_rows columns.now filter.now) (table_of self.now name) ≡ Some rows.items) }
+        ensures { IfOk result
+            (λ rows. option_map (selected_rows columns.now filter.now) (table_of self.now name)
+            ≡ Some rows.items) }
     {
         match self.tables.get(&name) {
             Some(table) => table.select(self.alloc, columns, filter),
@@ -191,7 +204,8 @@ impl Tables {
         filter: &[Condition],
     ) -> Result<(), NoMemory>
         requires { IsSome (table_of self.old name) }
-        ensures ok { OnOk result (self.new ≡ with_change name (with_updated_rows sets.now filter.now) self.old) }
+        ensures ok { OnOk result
+            (self.new ≡ with_change name (with_updated_rows sets.now filter.now) self.old) }
         ensures no_memory { OnErr result (self.new ≡ self.old) }
     {
         match self.tables.get_mut(&name) {

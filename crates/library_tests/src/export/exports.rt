@@ -37,8 +37,8 @@ fn rights(alloc: Global) -> Result<Replay, Fail> {
 /// o grants SELECT on t to u.
 fn grant(rt: &impl Abort, rights: &mut Replay, at: u64) -> Result<(), Fail> {
     let (o, select) = (user(b'o')?, select()?);
-    let live = rights.live()?;
-    assert!(rt; live.iter().all(|grant| grant.moment.0 < at));
+    let in_force = rights.in_force()?;
+    assert!(rt; in_force.iter().all(|grant| grant.moment.0 < at));
     assert!(rt; rights.may_grant(o, &select));
     assert!(rt; rights.made() < 100);
     rights.grant(o, &[select], &[user(b'u')?], false, Moment(at))?;
@@ -70,7 +70,7 @@ fn image(alloc: Global, point: u64, rights: &Replay, numbers: &[i64]) -> Result<
         number: 1,
         point: Moment(point),
         tables: Sequence::from_vec(vec![in alloc; table(alloc, numbers)?]?),
-        grants: Sequence::from_vec(rights.live()?),
+        grants: Sequence::from_vec(rights.in_force()?),
     };
     Ok(Arc::new(alloc, image)?)
 }

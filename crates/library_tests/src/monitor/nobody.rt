@@ -50,7 +50,7 @@ impl Authority for Nobody {
         more <= limit
     }
 
-    fn live(&self) -> Result<Vec<Grant>, NoMemory> {
+    fn in_force(&self) -> Result<Vec<Grant>, NoMemory> {
         Err(NoMemory)
     }
 

@@ -141,9 +141,9 @@ impl Ledger {
         ensures { IfOk result (λ found. found ≡ Some (length (in_force_after (changes self.now.journal)))) }
     {
         let changes = self.changes()?;
-        let live = self.rights.live()?;
-        let same = audit(self.alloc, &changes, &live)?;
-        Ok(if same { Some(live.len()) } else { None })
+        let in_force = self.rights.in_force()?;
+        let same = audit(self.alloc, &changes, &in_force)?;
+        Ok(if same { Some(in_force.len()) } else { None })
     }
 
     /// The verdict of the monitor at the journal.

@@ -1,8 +1,8 @@
 use Rattle.std.proofs.Common.{◌∙◌, ap, arith}
 use Rattle.std.proofs.lemmas.List.{with_items_is}
-use Rattle.grants_core.specs.Made.{unstruck}
+use Rattle.grants_core.specs.Log.{unstruck}
 use Rattle.grants_core.proofs.HistoryLemmas.{kept-idle, kept-grant, kept-revoke}
-use Rattle.grants_core.proofs.MadeLemmas.{length-added}
+use Rattle.grants_core.proofs.LogLemmas.{length-added}
 use Rattle.grants_core.proofs.history.apply.Goals as goal
 
 pub returns-in_ok-set-in-Create-clause-unstruck : goal.returns-in_ok-set-in-Create-clause-unstruck

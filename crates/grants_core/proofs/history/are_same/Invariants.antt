@@ -1,6 +1,6 @@
 use Rattle.std.proofs.Common.{◌≡◌, drop, length}
 use Rattle.std.specs.Cmp.Lexicographic.{pointwise}
-use Rattle.grants_core.specs.Made.{same_grant}
+use Rattle.grants_core.specs.Log.{same_grant}
 use Rattle.grants_core.proofs.history.are_same.Given as goal
 
 -- what is left decides

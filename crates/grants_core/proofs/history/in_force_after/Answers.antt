@@ -3,7 +3,7 @@ use Rattle.std.specs.List.{All, filter}
 use Rattle.std.proofs.lemmas.List.{take_more, take_all, length-take, with_items_is}
 use Rattle.std.proofs.lemmas.List.Elements.{All-from_recursion}
 use Rattle.grants_core.specs.Valid.{valid}
-use Rattle.grants_core.specs.Made.{unstruck, standing}
+use Rattle.grants_core.specs.Log.{unstruck, in_force_of}
 use Rattle.grants_core.specs.declared.grant.Grant.{Grant}
 use Rattle.grants_core.specs.History.{in_force_after, owners_after, owners_with, is_struck_by, grants_of, unstruck_after, made_by_all, made_by}
 use Rattle.grants_core.specs.declared.grant.Change.{Change}
@@ -40,8 +40,8 @@ returns c =
     let all : take c.loop-change.change-index c.args.changes.now ≡ c.args.changes.now = take_all c.loop-change.change-index c.args.changes.now c.loop-change-test.false in
     let owned : c.loop-change.owners ≡ owners_after c.args.changes.now = c.loop-change.invariant.owned ∙ ap owners_after all in
     let left : unstruck c.deref_mut.result.now ≡ unstruck_after c.args.changes.now = ap unstruck c.deref_mut.ensures.value ∙ c.loop-change.invariant.left ∙ ap unstruck_after all in
-    let items : c.deref.result.now ≡ c.refold.new.made = c.deref.ensures.value ∙ with_items_is c.loop-change.made c.refold.new.made (omega arith) in
-    let in_force : standing c.deref.result.now ≡ in_force_after c.args.changes.now =
-    ap standing items ∙ c.refold.ensures.valid ∙ ap (valid c.loop-change.owners) left ∙ ap (λ o. valid o (unstruck_after c.args.changes.now)) owned in
-    let Answered : List Grant → Type 0 = λ v. IfOk c.live.result (λ grants. grants.items ≡ v) in
-    subst Answered in_force c.live.ensures
+    let items : c.deref.result.now ≡ c.replay.new.made = c.deref.ensures.value ∙ with_items_is c.loop-change.made c.replay.new.made (omega arith) in
+    let in_force : in_force_of c.deref.result.now ≡ in_force_after c.args.changes.now =
+    ap in_force_of items ∙ c.replay.ensures.valid ∙ ap (valid c.loop-change.owners) left ∙ ap (λ o. valid o (unstruck_after c.args.changes.now)) owned in
+    let Answered : List Grant → Type 0 = λ v. IfOk c.in_force.result (λ grants. grants.items ≡ v) in
+    subst Answered in_force c.in_force.ensures

@@ -1,5 +1,5 @@
 use Rattle.std.proofs.Common.{◌≡◌, take, length}
-use Rattle.grants_core.specs.Made.{unstruck}
+use Rattle.grants_core.specs.Log.{unstruck}
 use Rattle.grants_core.specs.History.{owners_after, unstruck_after, made_by_all}
 use Rattle.grants_core.proofs.history.in_force_after.Given as goal
 

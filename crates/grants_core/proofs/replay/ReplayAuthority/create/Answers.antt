@@ -1,7 +1,7 @@
 use Rattle.std.proofs.Common.{◌≡◌, false, sym, subst}
 use Rattle.grants_core.specs.Owners.{was_granted}
 use Rattle.grants_core.specs.Content.{Content}
-use Rattle.grants_core.proofs.MadeLemmas.{IsReplayed-with_owner}
+use Rattle.grants_core.proofs.LogLemmas.{IsReplayed-with_owner}
 use Rattle.grants_core.proofs.replay.ReplayAuthority.create.Goals as goal
 
 pub invariant_of-self-2 : goal.invariant_of-self-2

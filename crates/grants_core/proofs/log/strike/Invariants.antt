@@ -1,6 +1,6 @@
 use Rattle.std.proofs.Common.{◌≡◌, ◌++◌, drop, take, map}
-use Rattle.grants_core.proofs.MadeLemmas.{struck_by}
-use Rattle.grants_core.proofs.made.strike.Given as goal
+use Rattle.grants_core.proofs.LogLemmas.{struck_by}
+use Rattle.grants_core.proofs.log.strike.Given as goal
 
 -- what is named is struck so far, and the rest is as it was
 abbrev pub invariant-loop-one : goal.invariant-loop-one
