@@ -18,6 +18,8 @@ padded name = name ++ replicate (30 - length name) 0
 abbrev pub name_bytes : Inside → List ℕ
 name_bytes a = take a.len a.bytes
 
+-- Two lemmas: the fields come back from the bytes. They stand here since the block of a type imports
+-- from specs alone.
 pub length-name_bytes : (a : Inside) → IsPadded a → length (name_bytes a) ≡ a.len
 length-name_bytes a h = length-take-le a.len a.bytes (omega (arith, h.fits, h.size))
 

@@ -107,8 +107,8 @@ impl<T: Named, const LIMIT: usize> Model for Distinct<T, LIMIT> {
     ghost view = { λ s. s.items.items };
 
     ghost invariant = { λ s. (0 < length s.items.items)
-      × (length s.items.items ≤ LIMIT)
-      × (are_distinct (map T.name_of s.items.items) ≡ true) };
+        × (length s.items.items ≤ LIMIT)
+        × (are_distinct (map T.name_of s.items.items) ≡ true) };
 }
 
 impl<T: Named, const LIMIT: usize> Distinct<T, LIMIT> {

@@ -142,7 +142,8 @@ abbrev pub listed_columns_stand : State → Name → List Privilege → Check
 listed_columns_stand s table privileges =
     each privileges (λ p. each (columns_listed p) (column_stands s table))
 
--- ---- the checks of each statement, in their order
+-- ---- statements
+-- the checks of each, in their order
 abbrev pub checks : State → User → Statement → List Check
 checks s user (statements.CreateTable table columns) =
     table_is_new s table ∷ room_for_change s ∷ room_for_table s ∷ []
