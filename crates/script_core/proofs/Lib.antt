@@ -1,3 +1,4 @@
 pub mod Pushing
 pub mod Offsets
 pub mod Answering
+pub mod OneOutput

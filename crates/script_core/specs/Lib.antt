@@ -1,6 +1,7 @@
 pub mod Texts
 pub mod Script
 pub mod Saying
+pub mod InFull
 pub use Rattle.lines_core.specs.Lines
 pub use Rattle.lines_core.specs.Serving
 pub use Rattle.base_core.specs.Words

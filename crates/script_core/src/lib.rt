@@ -18,9 +18,12 @@
 //! of checkpoints and an export's records. So a fault, a lack and what was done are told whatever memory
 //! there is; rows and lists are made in new memory and may be lost, and an export may be cut.
 //!
+//! Without want of memory the output is one (a law of [`laws`]).
+//!
 //! A line costs its bytes once, what its statement costs in the core, and the bytes of its answer.
 #![tactic(auto)]
 
+pub mod laws;
 mod replies;
 mod scripts;
 

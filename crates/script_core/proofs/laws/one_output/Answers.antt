@@ -1,0 +1,5 @@
+use Rattle.script_core.proofs.OneOutput as outputs
+use Rattle.script_core.proofs.laws.one_output.Goals as goal
+
+pub returns : goal.returns
+returns c = record { one = outputs.one_output; answer = outputs.full_is_answer }
