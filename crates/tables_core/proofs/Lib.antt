@@ -1,3 +1,4 @@
 pub mod RowLemmas
 pub mod ContentsLemmas
 pub mod NumberLemmas
+pub mod FittingLemmas

@@ -1,4 +1,5 @@
 pub mod Contents
+pub mod Fitting
 pub mod Laws
 pub use Rattle.base_core.specs.Words
 pub use Rattle.base_core.specs.Values

@@ -1,11 +1,12 @@
 //! Laws of what tables hold, each a contract.
-ghost use Rattle.std.specs.Prelude.{List};
+ghost use Rattle.std.specs.Prelude.{◌≡◌, true, List};
 ghost use Rattle.base_core.specs.declared.name.User.{User};
 ghost use Rattle.base_core.specs.declared.value.Row.{Row};
 ghost use Rattle.base_core.specs.declared.value.Column.{Column};
 ghost use Rattle.base_core.specs.declared.condition.Condition.{Condition};
 ghost use Rattle.base_core.specs.declared.condition.Assignment.{Assignment};
-ghost use Rattle.tables_core.specs.Contents.{empty_table, with_row, without_chosen_rows, with_updated_rows};
+ghost use Rattle.tables_core.specs.Fitting.{fits, AssignmentsFit, RowsFit};
+ghost use Rattle.tables_core.specs.Contents.{Contents, empty_table, with_row, without_chosen_rows, with_updated_rows};
 ghost use Rattle.tables_core.specs.Laws.{LookUpAfterChange, LookUpAfterNew, NamesAfterChange, IsNumbered, KeepsNumbered};
 
 /// What look-ups find after a change to one table, and after a new one; and that a change to one
@@ -26,4 +27,21 @@ pub fn numbers_rise()
         → KeepsNumbered (without_chosen_rows conditions) }
     ensures updated { (sets : List Assignment) (conditions : List Condition)
         → KeepsNumbered (with_updated_rows sets conditions) }
+{}
+
+/// The rows of a table fit its columns, as many values as columns and each of its column's type: at
+/// first, after a row that fits, after assignments that fit, and after each deletion.
+pub fn rows_fit()
+    ensures opened { (owner : User) (columns : List Column) → RowsFit (empty_table owner columns) }
+    ensures inserted { (t : Contents) (row : Row)
+        → fits t.columns row.values ≡ true
+        → RowsFit t
+        → RowsFit (with_row row t) }
+    ensures deleted { (t : Contents) (conditions : List Condition)
+        → RowsFit t
+        → RowsFit (without_chosen_rows conditions t) }
+    ensures updated { (t : Contents) (sets : List Assignment) (conditions : List Condition)
+        → AssignmentsFit t.columns sets
+        → RowsFit t
+        → RowsFit (with_updated_rows sets conditions t) }
 {}

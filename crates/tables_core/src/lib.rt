@@ -37,7 +37,7 @@ mod rows;
 mod table;
 mod tables;
 
-pub use laws::{look_ups_after_changes, numbers_rise};
+pub use laws::{look_ups_after_changes, numbers_rise, rows_fit};
 pub use rows::NumberedRow;
 pub use tables::{TableView, Tables};
 
