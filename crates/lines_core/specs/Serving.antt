@@ -1,6 +1,7 @@
 -- What a server of lines has read, and what it has written.
--- `answers old line text new`: from the state old, text may be written for the line, and new is the next state.
--- A reader has `left` bytes at first and `left'` at last, a writer has `taken` and `taken'`, where they are known.
+-- `answers old line text new`: from the state old, text may be written for the line, and new is the
+-- next state. A reader has `left` bytes at first and `left'` at last, a writer has `taken` and `taken'`,
+-- where they are known.
 use Rattle.std.specs.Prelude.{◌≡◌, ◌⊎◌, Bool, true, ◌+◌, ◌^◌, ℕ, List, [], ◌∷◌, ◌++◌, length, map, take, Option, Result, Ok, Err}
 use Rattle.std.specs.Str.Lines.{lines, strip_carriage_return}
 use Rattle.std.specs.Io.KnownBytes.{Appends, Consumes, Keeps, IsAtEnd}
@@ -11,25 +12,31 @@ use Rattle.lines_core.specs.declared.serving.SessionFault.{SessionFault}
 use Rattle.lines_core.specs.declared.serving.SessionFault.TheVariants as faults
 
 -- The lines are answered one after another.
-abbrev pub AnswersAll : {X : Type 0} → (X → List ℕ → List ℕ → X → Type 0) → X → List (List ℕ) → List ℕ → X → Type 0
+abbrev pub AnswersAll : {X : Type 0} → (X → List ℕ → List ℕ → X → Type 0)
+    → X → List (List ℕ) → List ℕ → X → Type 0
 AnswersAll answers old [] text new = (text ≡ []) × (new ≡ old)
 AnswersAll {X} answers old (line ∷ lines) text new =
-    (first : List ℕ) × (mid : X) × (more : List ℕ) × answers old line first mid × AnswersAll answers mid lines more new × (text ≡ first ++ more)
+    (first : List ℕ) × (mid : X) × (more : List ℕ)
+    × answers old line first mid × AnswersAll answers mid lines more new × (text ≡ first ++ more)
 
 -- A line was answered.
-pub record WritesAnswer {X : Type 0} (answers : X → List ℕ → List ℕ → X → Type 0) (line : List ℕ) (old new : X) (taken taken' : Option (List ℕ)) : Type 0 where
+pub record WritesAnswer {X : Type 0} (answers : X → List ℕ → List ℕ → X → Type 0)
+    (line : List ℕ) (old new : X) (taken taken' : Option (List ℕ)) : Type 0 where
   pub text : List ℕ
   pub answered : answers old line text new
   pub wrote : Appends taken taken' text
 
 -- The writer failed at the answer to a line.
-pub record BreaksAnswer {X : Type 0} (answers : X → List ℕ → List ℕ → X → Type 0) (line : List ℕ) (old new : X) (taken taken' : Option (List ℕ)) : Type 0 where
+pub record BreaksAnswer {X : Type 0} (answers : X → List ℕ → List ℕ → X → Type 0)
+    (line : List ℕ) (old new : X) (taken taken' : Option (List ℕ)) : Type 0 where
   pub text : List ℕ
   pub answered : answers old line text new
   pub wrote : WritesFront taken taken' text
 
--- With rest before it, the piece was cut into lines, which were answered; of what comes after them the front is kept.
-pub record AnswersPiece {X : Type 0} (answers : X → List ℕ → List ℕ → X → Type 0) (rest piece kept : List ℕ) (old new : X) (taken taken' : Option (List ℕ)) : Type 0 where
+-- With rest before it, the piece was cut into lines, which were answered; of what comes after them the
+-- front is kept.
+pub record AnswersPiece {X : Type 0} (answers : X → List ℕ → List ℕ → X → Type 0)
+    (rest piece kept : List ℕ) (old new : X) (taken taken' : Option (List ℕ)) : Type 0 where
   pub parts : List (List ℕ)
   pub now : List ℕ
   pub text : List ℕ
@@ -39,7 +46,8 @@ pub record AnswersPiece {X : Type 0} (answers : X → List ℕ → List ℕ → 
   pub wrote : Appends taken taken' text
 
 -- The writer failed at the answer to a line that ends in the piece.
-pub record BreaksPiece {X : Type 0} (answers : X → List ℕ → List ℕ → X → Type 0) (rest piece : List ℕ) (old new : X) (taken taken' : Option (List ℕ)) : Type 0 where
+pub record BreaksPiece {X : Type 0} (answers : X → List ℕ → List ℕ → X → Type 0)
+    (rest piece : List ℕ) (old new : X) (taken taken' : Option (List ℕ)) : Type 0 where
   pub parts : List (List ℕ)
   pub done : List ℕ
   pub undone : List ℕ
@@ -50,14 +58,16 @@ pub record BreaksPiece {X : Type 0} (answers : X → List ℕ → List ℕ → X
   pub wrote : WritesFront taken taken' text
 
 -- These bytes were read, and their lines, as lines_of cuts them, were answered.
-pub record AnswersInput {X : Type 0} (answers : X → List ℕ → List ℕ → X → Type 0) (lines_of : List ℕ → List (List ℕ)) (old new : X) (left left' taken taken' : Option (List ℕ)) (bytes : List ℕ) : Type 0 where
+pub record AnswersInput {X : Type 0} (answers : X → List ℕ → List ℕ → X → Type 0)
+    (lines_of : List ℕ → List (List ℕ)) (old new : X)
+    (left left' taken taken' : Option (List ℕ)) (bytes : List ℕ) : Type 0 where
   pub text : List ℕ
   pub answered : AnswersAll answers old (lines_of bytes) text new
   pub read : Consumes left left' bytes
   pub wrote : Appends taken taken' text
 
--- The writer failed: what was written is a front of the answers to the lines of a front of what was read.
--- That ends with a line: each of its lines has its line feed, or it is the whole input.
+-- The writer failed: what was written is a front of the answers to the lines of a front of what was
+-- read. That ends with a line: each of its lines has its line feed, or it is the whole input.
 pub record BreaksInput {X : Type 0} (answers : X → List ℕ → List ℕ → X → Type 0)
     (old new : X) (left left' taken taken' : Option (List ℕ)) : Type 0 where
   pub done : List ℕ
@@ -69,18 +79,33 @@ pub record BreaksInput {X : Type 0} (answers : X → List ℕ → List ℕ → X
   pub wrote : WritesFront taken taken' text
 
 -- what holds at each end of a run
-abbrev pub Ends : {X : Type 0} → (X → List ℕ → List ℕ → X → Type 0) → (X → Bool) → Result (Unit {0}) SessionFault → X → X → Option (List ℕ) → Option (List ℕ) → Option (List ℕ) → Option (List ℕ) → Type 0
+abbrev pub Ends : {X : Type 0} → (X → List ℕ → List ℕ → X → Type 0) → (X → Bool)
+    → Result (Unit {0}) SessionFault → X → X
+    → Option (List ℕ) → Option (List ℕ) → Option (List ℕ) → Option (List ℕ) → Type 0
 -- all lines are answered at the end of the input, or the server was over before it
-Ends answers over (Ok x) old new left left' taken taken' = (bytes : List ℕ) × ((AnswersInput answers lines old new left left' taken taken' bytes × IsAtEnd left') ⊎ (AnswersInput answers whole_lines old new left left' taken taken' bytes × (over new ≡ true)))
+Ends answers over (Ok x) old new left left' taken taken' =
+    (bytes : List ℕ)
+    × ((AnswersInput answers lines old new left left' taken taken' bytes × IsAtEnd left')
+    ⊎ (AnswersInput answers whole_lines old new left left' taken taken' bytes × (over new ≡ true)))
 -- the whole lines of what was read are answered
-Ends answers over (Err faults.Read) old new left left' taken taken' = (bytes : List ℕ) × AnswersInput answers whole_lines old new left left' taken taken' bytes
-Ends answers over (Err faults.Bound) old new left left' taken taken' = (bytes : List ℕ) × AnswersInput answers whole_lines old new left left' taken taken' bytes × (length bytes ≡ 2 ^ 32)
-Ends answers over (Err faults.Write) old new left left' taken taken' = BreaksInput answers old new left left' taken taken'
+Ends answers over (Err faults.Read) old new left left' taken taken' =
+    (bytes : List ℕ) × AnswersInput answers whole_lines old new left left' taken taken' bytes
+-- and so they are where as much was read as may be
+Ends answers over (Err faults.Bound) old new left left' taken taken' =
+    (bytes : List ℕ) × AnswersInput answers whole_lines old new left left' taken taken' bytes
+    × (length bytes ≡ 2 ^ 32)
+-- the writer failed at a line
+Ends answers over (Err faults.Write) old new left left' taken taken' =
+    BreaksInput answers old new left left' taken taken'
 -- nothing was read or written
-Ends answers over (Err faults.NoMemory) old new left left' taken taken' = (new ≡ old) × Keeps left left' × Keeps taken taken'
+Ends answers over (Err faults.NoMemory) old new left left' taken taken' =
+    (new ≡ old) × Keeps left left' × Keeps taken taken'
 
--- How far a server has come: the bytes read so far were cut into lines, which were answered; of the rest the front is kept.
-pub record HasServed {X : Type 0} (answers : X → List ℕ → List ℕ → X → Type 0) (kept : List ℕ) (old new : X) (unread : ℕ) (left left' taken taken' : Option (List ℕ)) : Type 0 where
+-- How far a server has come: the bytes read so far were cut into lines, which were answered; of the
+-- rest the front is kept.
+pub record HasServed {X : Type 0} (answers : X → List ℕ → List ℕ → X → Type 0)
+    (kept : List ℕ) (old new : X) (unread : ℕ) (left left' taken taken' : Option (List ℕ))
+    : Type 0 where
   pub bytes : List ℕ
   pub count : length bytes + unread ≡ 2 ^ 32
   pub read : Consumes left left' bytes

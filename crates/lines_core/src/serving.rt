@@ -48,19 +48,24 @@ pub trait LineServer {
     /// and a front of an answer was written.
     fn answer<W: Sink>(&mut self, writer: &mut W, line: &[u8]) -> Result<(), Broken>
         requires { W.failed writer.old ≡ false }
-        ensures failed { MatchResult result (λ _. W.failed writer.new ≡ false) (λ _. W.failed writer.new ≡ true) }
-        ensures ok { OnOk result (WritesAnswer answers line.now self.old self.new (W.taken writer.old) (W.taken writer.new)) }
-        ensures err { OnErr result (BreaksAnswer answers line.now self.old self.new (W.taken writer.old) (W.taken writer.new)) };
+        ensures failed { MatchResult result (λ _. W.failed writer.new ≡ false)
+            (λ _. W.failed writer.new ≡ true) }
+        ensures ok { OnOk result (WritesAnswer answers line.now self.old self.new
+            (W.taken writer.old) (W.taken writer.new)) }
+        ensures err { OnErr result (BreaksAnswer answers line.now self.old self.new
+            (W.taken writer.old) (W.taken writer.new)) };
 
     // Lines that are too long are answered alike.
-    ghost too_long: { (old new : Self) (line other text : List ℕ) → MAX_LINE < length line → MAX_LINE < length other →
-        answers old line text new → answers old other text new };
+    ghost too_long: { (old new : Self) (line other text : List ℕ)
+        → MAX_LINE < length line → MAX_LINE < length other
+        → answers old line text new → answers old other text new };
 }
 
 /// Hands on what was written, where nothing is kept of a line: so it is after a line has ended.
 fn flush_between_lines<W: Sink>(line: &Line, writer: &mut W) -> Result<(), Broken>
     requires { W.failed writer.old ≡ false }
-    ensures failed { MatchResult result (λ _. W.failed writer.new ≡ false) (λ _. W.failed writer.new ≡ true) }
+    ensures failed { MatchResult result (λ _. W.failed writer.new ≡ false)
+        (λ _. W.failed writer.new ≡ true) }
     ensures taken { Keeps (W.taken writer.old) (W.taken writer.new) }
     ensures flushed { OnOk result ((line.now ≡ []) ⊎ (W.flushed writer.old ≡ true)
         → W.flushed writer.new ≡ true) }
@@ -80,11 +85,14 @@ fn feed<D: LineServer, W: Sink>(
     piece: &[u8],
 ) -> Result<(), Broken>
     requires { W.failed writer.old ≡ false }
-    ensures failed { MatchResult result (λ _. W.failed writer.new ≡ false) (λ _. W.failed writer.new ≡ true) }
+    ensures failed { MatchResult result (λ _. W.failed writer.new ≡ false)
+        (λ _. W.failed writer.new ≡ true) }
     ensures ok { OnOk result ((rest : List ℕ) → NoFeed rest → line.old ≡ take KEPT_BYTES rest →
-        AnswersPiece D.answers rest piece.now line.new server.old server.new (W.taken writer.old) (W.taken writer.new)) }
+        AnswersPiece D.answers rest piece.now line.new server.old server.new
+        (W.taken writer.old) (W.taken writer.new)) }
     ensures err { OnErr result ((rest : List ℕ) → NoFeed rest → line.old ≡ take KEPT_BYTES rest →
-        BreaksPiece D.answers rest piece.now server.old server.new (W.taken writer.old) (W.taken writer.new)) }
+        BreaksPiece D.answers rest piece.now server.old server.new
+        (W.taken writer.old) (W.taken writer.new)) }
     ensures flushed { W.flushed writer.old ≡ true → OnOk result (W.flushed writer.new ≡ true) }
 {
     let mut left = piece;
@@ -104,9 +112,11 @@ fn feed<D: LineServer, W: Sink>(
 fn read_up_to<S: Source>(reader: &mut S, buffer: &mut [u8], most: usize) -> Result<usize, Broken>
     requires failed { S.failed reader.old ≡ false }
     requires room { (0 < most) × (most ≤ length buffer.old) }
-    ensures failed { MatchResult result (λ _. S.failed reader.new ≡ false) (λ _. S.failed reader.new ≡ true) }
+    ensures failed { MatchResult result (λ _. S.failed reader.new ≡ false)
+        (λ _. S.failed reader.new ≡ true) }
     ensures count { IfOk result (λ n. n ≤ most) }
-    ensures ok { IfOk result (λ n. Consumes (S.left reader.old) (S.left reader.new) (take n buffer.new)) }
+    ensures ok { IfOk result
+        (λ n. Consumes (S.left reader.old) (S.left reader.new) (take n buffer.new)) }
     ensures end { IfOk result (λ n. n ≡ 0 → IsAtEnd (S.left reader.new)) }
     ensures err { OnErr result (Keeps (S.left reader.old) (S.left reader.new)) }
 {
@@ -116,10 +126,17 @@ fn read_up_to<S: Source>(reader: &mut S, buffer: &mut [u8], most: usize) -> Resu
 /// Answers the last line, if it has a byte.
 fn finish<D: LineServer, W: Sink>(server: &mut D, line: &Line, writer: &mut W) -> Result<(), Broken>
     requires { W.failed writer.old ≡ false }
-    ensures failed { MatchResult result (λ _. W.failed writer.new ≡ false) (λ _. W.failed writer.new ≡ true) }
-    ensures empty { length line.now ≡ 0 → OnOk result ((server.new ≡ server.old) × Keeps (W.taken writer.old) (W.taken writer.new)) × IsOk result }
-    ensures ok { 0 < length line.now → OnOk result (WritesAnswer D.answers line.now server.old server.new (W.taken writer.old) (W.taken writer.new)) }
-    ensures err { OnErr result ((0 < length line.now) × BreaksAnswer D.answers line.now server.old server.new (W.taken writer.old) (W.taken writer.new)) }
+    ensures failed { MatchResult result (λ _. W.failed writer.new ≡ false)
+        (λ _. W.failed writer.new ≡ true) }
+    ensures empty { length line.now ≡ 0
+        → OnOk result ((server.new ≡ server.old) × Keeps (W.taken writer.old) (W.taken writer.new))
+        × IsOk result }
+    ensures ok { 0 < length line.now
+        → OnOk result (WritesAnswer D.answers line.now server.old server.new
+        (W.taken writer.old) (W.taken writer.new)) }
+    ensures err { OnErr result ((0 < length line.now)
+        × BreaksAnswer D.answers line.now server.old server.new
+        (W.taken writer.old) (W.taken writer.new)) }
     ensures flushed { W.flushed writer.old ≡ true → OnOk result (W.flushed writer.new ≡ true) }
 {
     let bytes = line.as_slice();
@@ -146,7 +163,8 @@ fn serve_lines<D: LineServer, S: Source, W: Sink>(
     ensures memory { IsErrOf result SessionFault.NoMemory → ⊥ }
     ensures flushed { W.flushed writer.old ≡ true → W.failed writer.new ≡ false
         → W.flushed writer.new ≡ true }
-    ensures ends { Ends D.answers D.over result server.old server.new (S.left reader.old) (S.left reader.new) (W.taken writer.old) (W.taken writer.new) }
+    ensures ends { Ends D.answers D.over result server.old server.new
+        (S.left reader.old) (S.left reader.new) (W.taken writer.old) (W.taken writer.new) }
 {
     let mut unread = MOST_BYTES;
     while unread > 0 {
@@ -180,11 +198,12 @@ fn new_buffer(alloc: Global) -> Result<Vec<u8>, AllocError>
 
 /// Answers the lines that the reader gives, one by one, until its end or until the server is over.
 ///
-/// It reads at most 65,536 bytes at a time. `Read` and `Write` are answered exactly where the reader
-/// or the writer has failed, `Bound` where 2^32 bytes were read and the end had not come, and
+/// It reads at most 65,536 bytes at a time. `Read` and `Write` are answered exactly where the
+/// reader or the writer has failed, `Bound` where 2^32 bytes were read and the end had not come, and
 /// `NoMemory` before the first read. On `Read` and `Bound` the lines whose line feed has come were
-/// answered. On `Write` what was written is a front of the answers to lines of which the last has its
-/// line feed or ends the input. What was written is handed on before each further read, and at the end.
+/// answered. On `Write` what was written is a front of the answers to lines of which the last has
+/// its line feed or ends the input. What was written is handed on before each further read, and at
+/// the end.
 pub fn serve<D: LineServer, S: Source, W: Sink>(
     alloc: Global,
     server: &mut D,
@@ -197,7 +216,8 @@ pub fn serve<D: LineServer, S: Source, W: Sink>(
     ensures write { IsErrOf result SessionFault.Write ↔ (W.failed writer.new ≡ true) }
     ensures flushed { W.flushed writer.old ≡ true → W.failed writer.new ≡ false
         → W.flushed writer.new ≡ true }
-    ensures ends { Ends D.answers D.over result server.old server.new (S.left reader.old) (S.left reader.new) (W.taken writer.old) (W.taken writer.new) }
+    ensures ends { Ends D.answers D.over result server.old server.new
+        (S.left reader.old) (S.left reader.new) (W.taken writer.old) (W.taken writer.new) }
 {
     let Ok(mut buffer) = new_buffer(alloc) else {
         return Err(SessionFault::NoMemory);
