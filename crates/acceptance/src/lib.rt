@@ -1,5 +1,6 @@
 //! The worked examples that cross crates: what a script must write, byte for byte, and what the core
-//! must answer. There is nothing here but tests.
+//! must answer; and tests of the libraries by their public calls. They stand in a crate above the
+//! libraries so that none of these is proved once more for its tests. There is nothing here but tests.
 #![tactic(auto)]
 
 #[cfg(test)]
@@ -10,5 +11,7 @@ mod checkpoints;
 mod examples;
 #[cfg(test)]
 mod grants;
+#[cfg(test)]
+mod libraries;
 #[cfg(test)]
 mod scripts;

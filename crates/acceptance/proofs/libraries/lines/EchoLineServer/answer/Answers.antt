@@ -1,7 +1,7 @@
 use Rattle.std.proofs.Common.{◌++◌, codes}
 use Rattle.std.proofs.KnownBytes.{Appends-trans}
 use Rattle.lines_core.proofs.FeedLemmas.{OnErr-from, WritesFront-after}
-use Rattle.library_tests.proofs.lines.EchoLineServer.answer.Goals as goal
+use Rattle.acceptance.proofs.libraries.lines.EchoLineServer.answer.Goals as goal
 
 pub returns-clause-ok : goal.returns-clause-ok
 returns-clause-ok g c = record {

@@ -4,8 +4,8 @@ use Rattle.std.proofs.lemmas.List.Sums.{sum_by_more}
 use Rattle.std.proofs.lemmas.Option.{get_or_from_slice_get, slice_get_within}
 use Rattle.capture_core.specs.Image.{row_total}
 use Rattle.capture_core.proofs.ImageLemmas.{item_within, shown}
-use Rattle.library_tests.proofs.capture.rows_in.Goals as goal
-use Rattle.library_tests.proofs.capture.rows_in.Goals.{in-Some+else-assert, in_default}
+use Rattle.acceptance.proofs.libraries.capture.rows_in.Goals as goal
+use Rattle.acceptance.proofs.libraries.capture.rows_in.Goals.{in-Some+else-assert, in_default}
 
 pub loop-index-preserved : goal.loop-index-preserved
 loop-index-preserved g c =

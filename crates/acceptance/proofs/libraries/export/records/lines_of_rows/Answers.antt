@@ -1,6 +1,6 @@
 use Rattle.std.proofs.Common.{refl, arith, codes}
 use Rattle.std.specs.Char.{encode_utf8}
-use Rattle.library_tests.proofs.export.records.lines_of_rows.Goals as goal
+use Rattle.acceptance.proofs.libraries.export.records.lines_of_rows.Goals as goal
 
 pub text_of-requires : goal.text_of-requires
 unfolding encode_utf8
