@@ -23,8 +23,8 @@ abbrev pub records_of : Reply → List ℕ
 records_of (replies.Export ticket) = concat ticket.to_come
 records_of reply = []
 
--- from old, the line itself is answered in full by the text, and new is the next world: its fault is told,
--- or the whole reply to what it asks
+-- from old, the line itself is answered in full by the text, and new is the next world: its fault is
+-- told, or the whole reply to what it asks
 pub data AnswersLineInFull (old : World) (line text : List ℕ) (new : World) : Type 0 where
   faulty : (code : Code) (offset : ℕ) → IsFaulty line code offset
       → text ≡ fault_text code offset → new ≡ old → AnswersLineInFull old line text new

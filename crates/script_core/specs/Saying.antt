@@ -14,8 +14,13 @@ use Rattle.script_core.specs.declared.scripts.answer.Said.TheVariants as says
 -- what a line comes to
 abbrev pub ComesTo : World → List ℕ → Said → World → Type 0
 ComesTo old line (says.Fault code offset) new = IsFaulty line code offset × (new ≡ old)
-ComesTo old line says.Unread new = (user : User) × (start : ℕ) × (addressed line ≡ Ok (user, start)) × (new ≡ old)
-ComesTo old line (says.Answer reply) new = (user : User) × (asked : Statement) × Asks line user asked × Step old (events.Say 0 user asked) reply new
+ComesTo old line says.Unread new =
+    (user : User) × (start : ℕ) × (addressed line ≡ Ok (user, start)) × (new ≡ old)
+ComesTo old line (says.Answer reply) new =
+    (user : User)
+    × (asked : Statement)
+    × Asks line user asked
+    × Step old (events.Say 0 user asked) reply new
 
 -- what may be written of it
 abbrev pub TellsSaid : Said → List ℕ → Type 0
@@ -25,8 +30,14 @@ TellsSaid (says.Answer reply) text = TellsReply reply text
 
 -- what a step of the checkpointer comes to: nothing to say, or that a checkpoint is given up
 abbrev pub Advanced : World → Option Reply → World → Type 0
-Advanced old None new = (reply : Reply) × Step old events.Step reply new × (is_refused reply ≡ false)
-Advanced old (Some reply) new = (refusal : Reply) × (mid : World) × Step old events.Step refusal mid × (is_refused refusal ≡ true) × Step mid events.Abandon reply new
+Advanced old None new =
+    (reply : Reply) × Step old events.Step reply new × (is_refused reply ≡ false)
+Advanced old (Some reply) new =
+    (refusal : Reply)
+    × (mid : World)
+    × Step old events.Step refusal mid
+    × (is_refused refusal ≡ true)
+    × Step mid events.Abandon reply new
 
 -- what may be written of it
 abbrev pub TellsAdvanced : Option Reply → List ℕ → Type 0
@@ -35,4 +46,9 @@ TellsAdvanced (Some reply) text = TellsReply reply text
 
 -- what may be written of both
 abbrev pub TellsBoth : Said → Option Reply → List ℕ → Type 0
-TellsBoth said advanced text = (first : List ℕ) × (second : List ℕ) × TellsSaid said first × TellsAdvanced advanced second × (text ≡ first ++ second)
+TellsBoth said advanced text =
+    (first : List ℕ)
+    × (second : List ℕ)
+    × TellsSaid said first
+    × TellsAdvanced advanced second
+    × (text ≡ first ++ second)

@@ -1,4 +1,5 @@
--- What a script's line says, and what may be written for it and for the step of the checkpointer after it.
+-- What a script's line says, and what may be written for it and for the step of the checkpointer
+-- after it.
 use Rattle.std.specs.Prelude.{◌≡◌, ◌⊎◌, ◌+◌, ◌++◌, ◌<◌, ℕ, [], Bool, true, false, not, ◌==◌, nat_lt, List, length, take, drop, slice_index, if◌then◌else◌, Option, None, Some, Result, Ok, Err}
 use Rattle.std.specs.List.{concat, list_all, prefix_len}
 use Rattle.std.specs.Char.{is_ascii_alphabetic}
@@ -60,13 +61,22 @@ pub record Asks (line : List ℕ) (user : User) (asked : Statement) : Type 0 whe
 
 -- the line's one fault, at this byte of it
 pub data IsFaulty (line : List ℕ) : Code → ℕ → Type 0 where
-  address : {code : Code} {offset : ℕ} → addressed line ≡ Err (code, offset) → IsFaulty line code offset
-  statement : {code : Code} (user : User) (start offset : ℕ) → addressed line ≡ Ok (user, start) → IsReadFault (drop start line) code offset → IsFaulty line code (start + offset)
+  address : {code : Code} {offset : ℕ}
+      → addressed line ≡ Err (code, offset)
+      → IsFaulty line code offset
+  statement : {code : Code} (user : User) (start offset : ℕ)
+      → addressed line ≡ Ok (user, start)
+      → IsReadFault (drop start line) code offset
+      → IsFaulty line code (start + offset)
 
 -- what may be written behind the text of a reply: of an export its records, or some of them and, for
 -- want of memory, that the rest is cut; of all else nothing
 abbrev pub TellsRecords : Reply → List ℕ → Type 0
-TellsRecords (replies.Export ticket) text = (text ≡ concat ticket.to_come) ⊎ ((n : ℕ) × (n < length ticket.to_come) × (text ≡ concat (take n ticket.to_come) ++ cut_text))
+TellsRecords (replies.Export ticket) text =
+    (text ≡ concat ticket.to_come)
+    ⊎ ((n : ℕ)
+    × (n < length ticket.to_come)
+    × (text ≡ concat (take n ticket.to_come) ++ cut_text))
 TellsRecords reply text = text ≡ []
 
 -- what may be written of a reply: its text and its records; or of a list, for want of memory, that it is
@@ -79,9 +89,17 @@ TellsReply reply text =
 -- From old, this text may be written for the line itself, and new is the next world. The last is for
 -- want of memory, where the line says who speaks, so that what he asks had to be read.
 pub data AnswersLine (old : World) (line : List ℕ) : List ℕ → World → Type 0 where
-  faulty : {code : Code} {offset : ℕ} → IsFaulty line code offset → AnswersLine old line (fault_text code offset) old
-  said : {text : List ℕ} {new : World} (user : User) (asked : Statement) (reply : Reply) → Asks line user asked → Step old (events.Say 0 user asked) reply new → TellsReply reply text → AnswersLine old line text new
-  unread : (user : User) (start : ℕ) → addressed line ≡ Ok (user, start) → AnswersLine old line unread_text old
+  faulty : {code : Code} {offset : ℕ}
+      → IsFaulty line code offset
+      → AnswersLine old line (fault_text code offset) old
+  said : {text : List ℕ} {new : World} (user : User) (asked : Statement) (reply : Reply)
+      → Asks line user asked
+      → Step old (events.Say 0 user asked) reply new
+      → TellsReply reply text
+      → AnswersLine old line text new
+  unread : (user : User) (start : ℕ)
+      → addressed line ≡ Ok (user, start)
+      → AnswersLine old line unread_text old
 
 abbrev pub is_refused : Reply → Bool
 is_refused (replies.Refused at lack) = true
@@ -90,8 +108,16 @@ is_refused reply = false
 -- From old, this text may be written for the step of the checkpointer after a line, and new is the next
 -- world: nothing; or, where the step found no memory, that the checkpoint is given up.
 pub data Follows (old : World) : List ℕ → World → Type 0 where
-  stepped : {new : World} (reply : Reply) → Step old events.Step reply new → is_refused reply ≡ false → Follows old [] new
-  gave_up : {text : List ℕ} {new : World} (mid : World) (refusal reply : Reply) → Step old events.Step refusal mid → is_refused refusal ≡ true → Step mid events.Abandon reply new → TellsReply reply text → Follows old text new
+  stepped : {new : World} (reply : Reply)
+      → Step old events.Step reply new
+      → is_refused reply ≡ false
+      → Follows old [] new
+  gave_up : {text : List ℕ} {new : World} (mid : World) (refusal reply : Reply)
+      → Step old events.Step refusal mid
+      → is_refused refusal ≡ true
+      → Step mid events.Abandon reply new
+      → TellsReply reply text
+      → Follows old text new
 
 -- From old, this text may be written for the line and the step after it, and new is the next world.
 pub record Answers (old : World) (line text : List ℕ) (new : World) : Type 0 where
@@ -102,17 +128,30 @@ pub record Answers (old : World) (line text : List ℕ) (new : World) : Type 0 w
   pub followed : Follows mid second new
   pub text_is : text ≡ first ++ second
 
-pub too_long : (line : List ℕ) → MAX_LINE < length line → addressed line ≡ Err (codes.TooLong, MAX_LINE)
+pub too_long : (line : List ℕ)
+    → MAX_LINE < length line
+    → addressed line ≡ Err (codes.TooLong, MAX_LINE)
 too_long line h = grind (arith, nat_tests)
 
-AnswersLine-too_long : (old new : World) (line other text : List ℕ) → MAX_LINE < length line → MAX_LINE < length other → AnswersLine old line text new → AnswersLine old other text new
-AnswersLine-too_long old _ line other _ h k (faulty (address e)) = faulty (address (too_long other k ∙ sym (too_long line h) ∙ e))
-AnswersLine-too_long old _ line other _ h k (faulty (statement user start offset e f)) = let l = too_long line h in cc
-AnswersLine-too_long old new line other _ h k (said user asked reply a step tells) = let l = too_long line h in let s = a.speaker in cc
+AnswersLine-too_long : (old new : World) (line other text : List ℕ)
+    → MAX_LINE < length line
+    → MAX_LINE < length other
+    → AnswersLine old line text new
+    → AnswersLine old other text new
+AnswersLine-too_long old _ line other _ h k (faulty (address e)) =
+    faulty (address (too_long other k ∙ sym (too_long line h) ∙ e))
+AnswersLine-too_long old _ line other _ h k (faulty (statement user start offset e f)) =
+    let l = too_long line h in cc
+AnswersLine-too_long old new line other _ h k (said user asked reply a step tells) =
+    let l = too_long line h in let s = a.speaker in cc
 AnswersLine-too_long old _ line other _ h k (unread user start e) = let l = too_long line h in cc
 
 -- lines that are too long are answered alike
-pub Answers-too_long : (old new : World) (line other text : List ℕ) → MAX_LINE < length line → MAX_LINE < length other → Answers old line text new → Answers old other text new
+pub Answers-too_long : (old new : World) (line other text : List ℕ)
+    → MAX_LINE < length line
+    → MAX_LINE < length other
+    → Answers old line text new
+    → Answers old other text new
 Answers-too_long old new line other text h k a = record {
   first = a.first;
   mid = a.mid;
@@ -126,6 +165,19 @@ abbrev pub never : World → Bool
 never w = false
 
 -- how a script ends, from the opening world with full limits
-abbrev pub EndsScript : ℕ → Result World SessionFault → Option (List ℕ) → Option (List ℕ) → Option (List ℕ) → Option (List ℕ) → Type 0
-EndsScript chunk (Ok new) left left' taken taken' = (limits : Limits) × IsFull limits × Ends Answers never (Ok tt) (opening chunk limits) new left left' taken taken'
-EndsScript chunk (Err fault) left left' taken taken' = (limits : Limits) × (new : World) × IsFull limits × Ends Answers never (Err fault) (opening chunk limits) new left left' taken taken'
+abbrev pub EndsScript : ℕ
+    → Result World SessionFault
+    → Option (List ℕ)
+    → Option (List ℕ)
+    → Option (List ℕ)
+    → Option (List ℕ)
+    → Type 0
+EndsScript chunk (Ok new) left left' taken taken' =
+    (limits : Limits)
+    × IsFull limits
+    × Ends Answers never (Ok tt) (opening chunk limits) new left left' taken taken'
+EndsScript chunk (Err fault) left left' taken taken' =
+    (limits : Limits)
+    × (new : World)
+    × IsFull limits
+    × Ends Answers never (Err fault) (opening chunk limits) new left left' taken taken'

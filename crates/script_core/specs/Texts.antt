@@ -42,22 +42,30 @@ what_text whats.Checkpoints = codes "checkpoints"
 
 -- a user, what is said of him, a privilege, and its table
 abbrev pub about_atom : User → List ℕ → Atom → List ℕ
-about_atom user said atom = joined (user.0 ∷ said ∷ kind_text atom.kind ∷ codes " on " ∷ atom.table ∷ [])
+about_atom user said atom =
+    joined (user.0 ∷ said ∷ kind_text atom.kind ∷ codes " on " ∷ atom.table ∷ [])
 
 -- what is missing, without the moment
 abbrev pub lack_text : Lack → List ℕ
 lack_text (lacks.NoTable table) = joined (codes "no table " ∷ table ∷ [])
 lack_text (lacks.TableExists table) = joined (codes "table " ∷ table ∷ codes " exists" ∷ [])
-lack_text (lacks.NoColumn table column) = joined (codes "no column " ∷ column ∷ codes " in " ∷ table ∷ [])
+lack_text (lacks.NoColumn table column) =
+    joined (codes "no column " ∷ column ∷ codes " in " ∷ table ∷ [])
 lack_text (lacks.NoPrivilege user atom) = about_atom user (codes " lacks ") atom
 lack_text (lacks.NoGrantOption user atom) = about_atom user (codes " may not grant ") atom
-lack_text (lacks.NoGrant by to atom) = joined (about_atom by (codes " granted no ") atom ∷ codes " to " ∷ to.0 ∷ [])
+lack_text (lacks.NoGrant by to atom) =
+    joined (about_atom by (codes " granted no ") atom ∷ codes " to " ∷ to.0 ∷ [])
 lack_text (lacks.NoCheckpoint number) = joined (codes "no checkpoint " ∷ decimal number ∷ [])
-lack_text (lacks.NoTableThen table number) = joined (codes "no table " ∷ table ∷ codes " at checkpoint " ∷ decimal number ∷ [])
-lack_text (lacks.NoSelectThen user table) = joined (user.0 ∷ codes " lacked" ∷ codes " SELECT on " ∷ table ∷ [])
-lack_text (lacks.NoSelectNow user table) = joined (user.0 ∷ codes " now lacks" ∷ codes " SELECT on " ∷ table ∷ [])
-lack_text (lacks.WrongCount given wanted) = joined (decimal given ∷ codes " values for " ∷ decimal wanted ∷ codes " columns" ∷ [])
-lack_text (lacks.WrongType column wanted) = joined (codes "column " ∷ column ∷ codes " takes " ∷ type_text wanted ∷ [])
+lack_text (lacks.NoTableThen table number) =
+    joined (codes "no table " ∷ table ∷ codes " at checkpoint " ∷ decimal number ∷ [])
+lack_text (lacks.NoSelectThen user table) =
+    joined (user.0 ∷ codes " lacked" ∷ codes " SELECT on " ∷ table ∷ [])
+lack_text (lacks.NoSelectNow user table) =
+    joined (user.0 ∷ codes " now lacks" ∷ codes " SELECT on " ∷ table ∷ [])
+lack_text (lacks.WrongCount given wanted) =
+    joined (decimal given ∷ codes " values for " ∷ decimal wanted ∷ codes " columns" ∷ [])
+lack_text (lacks.WrongType column wanted) =
+    joined (codes "column " ∷ column ∷ codes " takes " ∷ type_text wanted ∷ [])
 lack_text (lacks.Full what) = joined (codes "full: " ∷ what_text what ∷ [])
 lack_text lacks.Busy = codes "busy"
 lack_text lacks.NoMemory = codes "no memory"
@@ -74,26 +82,37 @@ refusal_text at lack = stamped (codes "refused @") at lack
 
 -- a checkpoint, as it is listed
 abbrev pub checkpoint_line : Checkpoint → List ℕ
-checkpoint_line (checkpoints.Kept number point) = record_line (codes "finished" ∷ decimal number ∷ decimal point.0 ∷ [])
-checkpoint_line (checkpoints.Active number point left) = record_line (codes "active" ∷ decimal number ∷ decimal point.0 ∷ decimal left ∷ [])
+checkpoint_line (checkpoints.Kept number point) =
+    record_line (codes "finished" ∷ decimal number ∷ decimal point.0 ∷ [])
+checkpoint_line (checkpoints.Active number point left) =
+    record_line (codes "active" ∷ decimal number ∷ decimal point.0 ∷ decimal left ∷ [])
 
 -- what is written of a reply, and of an export before its records
 abbrev pub reply_text : Reply → List ℕ
 reply_text (replies.Done at) = joined (codes "done @" ∷ decimal at.0 ∷ codes "\n" ∷ [])
-reply_text (replies.Rows at rows) = joined (codes "rows " ∷ decimal (length rows) ∷ codes " @" ∷ decimal at.0 ∷ codes "\n" ∷ row_lines rows ∷ [])
+reply_text (replies.Rows at rows) =
+    joined (codes "rows " ∷ decimal (length rows) ∷ codes " @" ∷ decimal at.0 ∷ codes "\n"
+    ∷ row_lines rows ∷ [])
 reply_text (replies.Denied at lack) = stamped (codes "denied @") at.0 lack
 reply_text (replies.Refused at lack) = refusal_text at.0 lack
-reply_text (replies.Listed at entries) = joined (codes "checkpoints " ∷ decimal (length entries) ∷ codes " @" ∷ decimal at.0 ∷ codes "\n" ∷ flat_map checkpoint_line entries ∷ [])
-reply_text (replies.Begun number at) = joined (codes "checkpoint " ∷ decimal number ∷ codes " begun @" ∷ decimal at.0 ∷ codes "\n" ∷ [])
+reply_text (replies.Listed at entries) =
+    joined (codes "checkpoints " ∷ decimal (length entries) ∷ codes " @" ∷ decimal at.0 ∷ codes "\n"
+    ∷ flat_map checkpoint_line entries ∷ [])
+reply_text (replies.Begun number at) =
+    joined (codes "checkpoint " ∷ decimal number ∷ codes " begun @" ∷ decimal at.0 ∷ codes "\n"
+    ∷ [])
 reply_text (replies.Export ticket) = header_line ticket
-reply_text (replies.Abandoned number) = joined (codes "checkpoint " ∷ decimal number ∷ codes " abandoned\n" ∷ [])
+reply_text (replies.Abandoned number) =
+    joined (codes "checkpoint " ∷ decimal number ∷ codes " abandoned\n" ∷ [])
 reply_text replies.Idle = []
 reply_text (replies.Stepped number left) = []
 reply_text (replies.Finished number) = []
 
 -- what is written of a line that is not read, with the byte of the line
 abbrev pub fault_text : Code → ℕ → List ℕ
-fault_text code offset = joined (codes "error " ∷ decimal (code_number code) ∷ codes " at " ∷ decimal offset ∷ codes ": " ∷ code_text code ∷ codes "\n" ∷ [])
+fault_text code offset =
+    joined (codes "error " ∷ decimal (code_number code) ∷ codes " at " ∷ decimal offset ∷ codes ": "
+    ∷ code_text code ∷ codes "\n" ∷ [])
 
 -- what is written of a line that was not read for want of memory
 abbrev pub unread_text : List ℕ

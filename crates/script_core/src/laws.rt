@@ -9,7 +9,8 @@ ghost use Rattle.script_core.specs.Script.{Answers};
 /// one world, their text and the last world are one. What is answered in full is answered.
 pub fn one_output()
     ensures one { (old new last : World) (lines : List (List ℕ)) (text other : List ℕ)
-        → AnswersAll AnswersInFull old lines text new → AnswersAll AnswersInFull old lines other last
+        → AnswersAll AnswersInFull old lines text new
+        → AnswersAll AnswersInFull old lines other last
         → (text ≡ other) × (new ≡ last) }
     ensures answer { (old new : World) (line text : List ℕ)
         → AnswersInFull old line text new → Answers old line text new }

@@ -15,7 +15,8 @@ use Rattle.monitor_core.specs.Verdict.{atoms_at, columns_of}
 -- the rights after a change, of which the moment before it is given
 abbrev pub rights_after : Content → ℕ → Change → Content
 rights_after rights moment (change.Create table owner) = after_create rights table owner
-rights_after rights moment (change.Grant by atoms whom option) = after_grant rights by atoms whom option (record { 0 = moment + 1 })
+rights_after rights moment (change.Grant by atoms whom option) =
+    after_grant rights by atoms whom option (record { 0 = moment + 1 })
 rights_after rights moment (change.Revoke by atoms whom) = after_revoke rights by atoms whom
 rights_after rights moment change.Other = rights
 
@@ -36,17 +37,24 @@ pub record CanGrant (rights : Content) (moment : ℕ) (user : User) (atoms : Lis
 
 -- what a change needs
 abbrev pub CanCarry : List (Name × Contents) → Content → ℕ → User → Statement → Type 0
-CanCarry tables rights moment user (statements.CreateTable table columns) = (table_of tables table ≡ None) × (was_granted rights.owners table ≡ false)
-CanCarry tables rights moment user (statements.Insert table values) = IsSomeAnd (table_of tables table) (λ t. t.inserted < 2 ^ 63)
+CanCarry tables rights moment user (statements.CreateTable table columns) =
+    (table_of tables table ≡ None) × (was_granted rights.owners table ≡ false)
+CanCarry tables rights moment user (statements.Insert table values) =
+    IsSomeAnd (table_of tables table) (λ t. t.inserted < 2 ^ 63)
 CanCarry tables rights moment user (statements.Delete table filter) = IsSome (table_of tables table)
-CanCarry tables rights moment user (statements.Update table sets filter) = IsSome (table_of tables table)
-CanCarry tables rights moment user (statements.Grant privileges table users option) = CanGrant rights moment user (atoms_at tables table privileges) × (length (columns_of tables table) ≤ most_columns)
-CanCarry tables rights moment user (statements.Revoke privileges table users) = length (columns_of tables table) ≤ most_columns
+CanCarry tables rights moment user (statements.Update table sets filter) =
+    IsSome (table_of tables table)
+CanCarry tables rights moment user (statements.Grant privileges table users option) =
+    CanGrant rights moment user (atoms_at tables table privileges)
+    × (length (columns_of tables table) ≤ most_columns)
+CanCarry tables rights moment user (statements.Revoke privileges table users) =
+    length (columns_of tables table) ≤ most_columns
 CanCarry tables rights moment user _ = ⊥
 
 -- what a change that found no memory may leave of the rights: a creation may leave an owner of the name
 abbrev pub MayLeave : Content → Change → Content → Type 0
-MayLeave rights (change.Create table owner) new = (new ≡ rights) ⊎ (new ≡ after_create rights table owner)
+MayLeave rights (change.Create table owner) new =
+    (new ≡ rights) ⊎ (new ≡ after_create rights table owner)
 MayLeave rights (change.Grant by atoms whom option) new = new ≡ rights
 MayLeave rights (change.Revoke by atoms whom) new = new ≡ rights
 MayLeave rights change.Other new = new ≡ rights

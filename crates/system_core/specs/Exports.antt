@@ -23,14 +23,16 @@ may_select journal user table = holds_now (rights_at journal) user table
 -- a table's name and columns, and its rows
 abbrev pub table_lines : Name × Contents → List (List ℕ)
 table_lines t =
-    record_line (codes "table" ∷ t.0 ∷ map (λ c. c.name) t.1.columns) ∷ map (λ numbered. row_line numbered.1.values) t.1.rows
+    record_line (codes "table" ∷ t.0 ∷ map (λ c. c.name) t.1.columns)
+    ∷ map (λ numbered. row_line numbered.1.values) t.1.rows
 
--- What is told of a table of the point: its lines, where the user may select from it by both journals, that
--- of the point (past) and that of the request (now). Else that it is withheld, and where SELECT is missing,
--- at the point where it is at both.
+-- What is told of a table of the point: its lines, where the user may select from it by both
+-- journals, that of the point (past) and that of the request (now). Else that it is withheld, and
+-- where SELECT is missing: at the point where it is at both.
 abbrev pub table_told : (past now : List Entry) → User → Name × Contents → List (List ℕ)
 table_told past now user t =
-    if may_select past user t.0 then (if may_select now user t.0 then table_lines t else withheld_line t.0 (codes "now") ∷ [])
+    if may_select past user t.0
+    then (if may_select now user t.0 then table_lines t else withheld_line t.0 (codes "now") ∷ [])
     else withheld_line t.0 (codes "point") ∷ []
 
 -- the tables of an export: all, in the order of their creation, or that of the name alone

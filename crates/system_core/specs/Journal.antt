@@ -16,10 +16,14 @@ use Rattle.monitor_core.specs.Verdict.{State, Check, verdict, atoms_at, is_chang
 
 -- the tables after a change
 abbrev pub tables_after : List (Name × Contents) → User → Statement → List (Name × Contents)
-tables_after tables user (statements.CreateTable table columns) = tables ++ (table, empty_table user columns) ∷ []
-tables_after tables user (statements.Insert table values) = with_change table (with_row (record { values = values })) tables
-tables_after tables user (statements.Delete table filter) = with_change table (without_chosen_rows filter) tables
-tables_after tables user (statements.Update table sets filter) = with_change table (with_updated_rows sets filter) tables
+tables_after tables user (statements.CreateTable table columns) =
+    tables ++ (table, empty_table user columns) ∷ []
+tables_after tables user (statements.Insert table values) =
+    with_change table (with_row (record { values = values })) tables
+tables_after tables user (statements.Delete table filter) =
+    with_change table (without_chosen_rows filter) tables
+tables_after tables user (statements.Update table sets filter) =
+    with_change table (with_updated_rows sets filter) tables
 tables_after tables user _ = tables
 
 abbrev pub tables_with : List (Name × Contents) → Entry → List (Name × Contents)
@@ -32,14 +36,17 @@ contents journal = fold tables_with [] journal
 -- what a user's statement changes of rights, at these tables
 abbrev pub change_of : List (Name × Contents) → User → Statement → Change
 change_of tables user (statements.CreateTable table columns) = change.Create table user
-change_of tables user (statements.Grant privileges table users option) = change.Grant user (atoms_at tables table privileges) users option
-change_of tables user (statements.Revoke privileges table users) = change.Revoke user (atoms_at tables table privileges) users
+change_of tables user (statements.Grant privileges table users option) =
+    change.Grant user (atoms_at tables table privileges) users option
+change_of tables user (statements.Revoke privileges table users) =
+    change.Revoke user (atoms_at tables table privileges) users
 change_of tables user _ = change.Other
 
 -- the changes of rights by entries, of which the first finds these tables
 abbrev pub changes_from : List (Name × Contents) → List Entry → List Change
 changes_from tables [] = []
-changes_from tables (e ∷ es) = change_of tables e.user e.statement ∷ changes_from (tables_with tables e) es
+changes_from tables (e ∷ es) =
+    change_of tables e.user e.statement ∷ changes_from (tables_with tables e) es
 
 -- the changes of rights by a journal: each entry as its change, at the tables of the journal before it
 abbrev pub changes : List Entry → List Change
@@ -51,7 +58,13 @@ rights_at journal = content_after (changes journal)
 
 -- what is judged by, at a journal
 abbrev pub state_of : Limits → List Entry → State
-state_of limits journal = record { tables = contents journal; rights = rights_at journal; limits = limits; moment = length journal }
+state_of limits journal =
+    record {
+      tables = contents journal;
+      rights = rights_at journal;
+      limits = limits;
+      moment = length journal;
+    }
 
 -- the verdict on what a user asks, at a journal
 abbrev pub verdict_at : Limits → List Entry → User → Statement → Check
@@ -61,7 +74,9 @@ verdict_at limits journal user asked = verdict (state_of limits journal) user as
 abbrev pub IsLawfulFrom : Limits → List Entry → List Entry → Type 0
 IsLawfulFrom limits before [] = Unit {0}
 IsLawfulFrom limits before (e ∷ es) =
-    (is_change e.statement ≡ true) × (verdict_at limits before e.user e.statement ≡ Ok tt) × IsLawfulFrom limits (before ++ e ∷ []) es
+    (is_change e.statement ≡ true)
+    × (verdict_at limits before e.user e.statement ≡ Ok tt)
+    × IsLawfulFrom limits (before ++ e ∷ []) es
 
 abbrev pub IsLawful : Limits → List Entry → Type 0
 IsLawful limits journal = IsLawfulFrom limits [] journal

@@ -1,4 +1,5 @@
--- How a statement is judged at a world: as the monitor judges it at the journal, and then by the checkpoints.
+-- How a statement is judged at a world: as the monitor judges it at the journal, and then by the
+-- checkpoints.
 use Rattle.std.specs.Prelude.{ℕ, not, nat_lt, ◌==◌, List, [], ◌∷◌, find, reverse, is_some, Option, Some, None, Ok, option_map}
 use Rattle.std.specs.Option.{option_map_or, unwrap_or}
 use Rattle.base_core.specs.declared.name.Name.{Name}
@@ -34,31 +35,39 @@ abbrev pub at_point : Option Moment → (Moment → Check) → Check
 at_point point check = option_map_or check point (Ok tt)
 
 abbrev pub stood_then : List Entry → Name → ℕ → Check
-stood_then past table number = require (is_table (contents past) table) (lacks.NoTableThen table number)
+stood_then past table number =
+    require (is_table (contents past) table) (lacks.NoTableThen table number)
 
 abbrev pub could_select_then : List Entry → User → Name → Check
-could_select_then past user table = require (may_select past user table) (lacks.NoSelectThen user table)
+could_select_then past user table =
+    require (may_select past user table) (lacks.NoSelectThen user table)
 
 abbrev pub may_select_now : List Entry → User → Name → Check
 may_select_now now user table = require (may_select now user table) (lacks.NoSelectNow user table)
 
--- of a checkpoint all may be exported, by the journals at its point and now; a table alone, where it stood
+-- of a checkpoint all may be exported, by the journals at its point and now; a table alone, where
+-- it stood
 -- at the point, the user could select from it then, and may now
 abbrev pub export_check : (past now : List Entry) → ℕ → User → Option Name → Check
 export_check past now number user None = Ok tt
 export_check past now number user (Some table) =
-    first_lack (stood_then past table number ∷ could_select_then past user table ∷ may_select_now now user table ∷ [])
+    first_lack (stood_then past table number ∷ could_select_then past user table
+    ∷ may_select_now now user table ∷ [])
 
 -- ---- the checks of checkpoints, in their order
 abbrev pub checkpoint_checks : World → User → Statement → List Check
 checkpoint_checks w user statements.Checkpoint = none_is_active w ∷ room_for_checkpoint w ∷ []
 checkpoint_checks w user (statements.Export number only) =
-    is_kept (point_of w number) number ∷ at_point (point_of w number) (λ point. export_check (journal_at w.journal point) w.journal number user only) ∷ []
+    is_kept (point_of w number) number
+    ∷ at_point (point_of w number)
+    (λ point. export_check (journal_at w.journal point) w.journal number user only)
+    ∷ []
 checkpoint_checks w user _ = []
 
 -- the verdict on what a user asks of a world
 abbrev pub verdict_of : World → User → Statement → Check
-verdict_of w user asked = first_lack (verdict_at w.limits w.journal user asked ∷ checkpoint_checks w user asked)
+verdict_of w user asked =
+    first_lack (verdict_at w.limits w.journal user asked ∷ checkpoint_checks w user asked)
 
 -- the moment that a lack bears: of what was missing at a checkpoint its point, and of all else now
 abbrev pub moment_for : Moment → Moment → Lack → Moment
@@ -68,5 +77,6 @@ moment_for point now lack = now
 
 -- the moment at which a statement is judged, where this is its lack
 abbrev pub judged_at : World → Statement → Lack → Moment
-judged_at w (statements.Export number only) lack = moment_for (unwrap_or (point_of w number) (moment_of w)) (moment_of w) lack
+judged_at w (statements.Export number only) lack =
+    moment_for (unwrap_or (point_of w number) (moment_of w)) (moment_of w) lack
 judged_at w asked lack = moment_of w

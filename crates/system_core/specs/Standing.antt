@@ -31,7 +31,9 @@ inserted_of tables name = option_map_or (λ t. t.inserted) (table_of tables name
 pub record AgreeOn (tables : List (Name × Contents)) (rights others : Content) : Type 0 where
   pub in_force : rights.in_force ≡ others.in_force
   pub made : rights.made ≡ others.made
-  pub owned : (name : Name) → is_table tables name ≡ true → owner_of rights.owners name ≡ owner_of others.owners name
+  pub owned : (name : Name)
+      → is_table tables name ≡ true
+      → owner_of rights.owners name ≡ owner_of others.owners name
   pub fresh : (name : Name) → is_table tables name ≡ false → was_granted rights.owners name ≡ false
 
 -- what holds of a lawful journal by itself
@@ -40,7 +42,8 @@ pub record IsSound (limits : Limits) (journal : List Entry) : Type 0 where
   pub few : length journal ≤ limits.changes
   pub inserted : (name : Name) → inserted_of (contents journal) name ≤ length journal
   pub narrow : (name : Name) → length (columns_of (contents journal) name) ≤ most_columns
-  pub on_tables : AllByRecursion (λ g. is_table (contents journal) g.atom.table ≡ true) (granted (changes journal))
+  pub on_tables : AllByRecursion
+      (λ g. is_table (contents journal) g.atom.table ≡ true) (granted (changes journal))
   pub made_few : (rights_at journal).made ≤ most_grants * length journal
   pub rows_few : row_total (contents journal) ≤ length journal
 
@@ -50,7 +53,8 @@ pub record Accepted : Type 0 where
   pub limits : Limits
 
 -- what a ledger keeps
-pub record KeepsJournal (limits : Limits) (journal : List Entry) (tables : List (Name × Contents)) (rights : Content) : Type 0 where
+pub record KeepsJournal (limits : Limits) (journal : List Entry) (tables : List (Name × Contents))
+    (rights : Content) : Type 0 where
   pub sound : IsSound limits journal
   pub tables_of : tables ≡ contents journal
   pub agree : AgreeOn (contents journal) rights (rights_at journal)
@@ -73,7 +77,8 @@ world_of chunk accepted capturing images = record {
 
 -- what a checkpoint of this number keeps of a journal, at its point
 abbrev pub image_at : List Entry → ℕ → Moment → Image
-image_at journal number point = image number point (contents (journal_at journal point)) (rights_at (journal_at journal point))
+image_at journal number point =
+    image number point (contents (journal_at journal point)) (rights_at (journal_at journal point))
 
 -- the image is what its checkpoint keeps of the journal, at a point of it
 pub record IsImageOf (journal : List Entry) (image : Image) : Type 0 where
@@ -85,7 +90,8 @@ IsComing journal None = Unit {0}
 IsComing journal (Some a) = IsImageOf journal a.coming
 
 -- what a system keeps
-pub record KeepsCheckpoints (chunk : ℕ) (accepted : Accepted) (capturing : Capturing) (images : List Image) : Type 0 where
+pub record KeepsCheckpoints (chunk : ℕ) (accepted : Accepted) (capturing : Capturing)
+    (images : List Image) : Type 0 where
   pub some : 0 < chunk
   pub small : chunk ≤ 64
   pub images_of : AllByRecursion (IsImageOf accepted.journal) images

@@ -40,7 +40,9 @@ columns_given columns list = unwrap_or list (map (λ c. c.name) columns)
 abbrev pub IsAnswer : List Entry → Statement → List Row → Type 0
 IsAnswer journal (statements.Select list table filter) rows =
     let tables = contents journal in
-    option_map (selected_rows (columns_given (columns_of tables table) list) filter) (table_of tables table) ≡ Some rows
+    option_map (selected_rows (columns_given (columns_of tables table) list) filter)
+    (table_of tables table)
+    ≡ Some rows
 IsAnswer journal _ rows = ⊥
 
 abbrev pub active_listed : Option ActiveCheckpoint → List Checkpoint
@@ -53,7 +55,8 @@ listed_checkpoints w = map (λ c. checkpoints.Kept c.0 c.1) w.finished ++ active
 
 -- the export of a kept checkpoint, by the journals at its point and now
 abbrev pub IsExport : World → User → Statement → Exporting → Type 0
-IsExport w user (statements.Export number only) ticket = IsSomeAnd (point_of w number) (λ point. ticket ≡ export_of w.journal number point user only)
+IsExport w user (statements.Export number only) ticket =
+    IsSomeAnd (point_of w number) (λ point. ticket ≡ export_of w.journal number point user only)
 IsExport w user _ ticket = ⊥
 
 -- ---- what becomes of checkpoints
@@ -61,7 +64,12 @@ IsExport w user _ ticket = ⊥
 abbrev pub with_begun : World → World
 with_begun w = record w {
   begun = w.begun + 1;
-  active = Some (record { number = w.begun + 1; point = moment_of w; left = records_at w.journal (moment_of w) });
+  active =
+      Some (record {
+        number = w.begun + 1;
+        point = moment_of w;
+        left = records_at w.journal (moment_of w);
+      });
 }
 
 -- so many records of the active one are left
@@ -70,7 +78,8 @@ with_left w a left = record w { active = Some (record a { left = left }) }
 
 -- the active one is finished, and of those that are kept the last eight stay
 abbrev pub with_finished : World → ActiveCheckpoint → World
-with_finished w a = record w { finished = last_eight (w.finished ++ (a.number, a.point) ∷ []); active = None }
+with_finished w a =
+    record w { finished = last_eight (w.finished ++ (a.number, a.point) ∷ []); active = None }
 
 -- the active one is given up; its number stays used
 abbrev pub with_none_active : World → World
@@ -79,12 +88,23 @@ with_none_active w = record w { active = None }
 -- ---- one event
 -- what may come of an allowed statement
 abbrev pub CarriesOut : World → Entry → Reply → World → Type 0
-CarriesOut old e (replies.Done at) new = (is_change e.statement ≡ true) × (at ≡ next_moment old) × (new ≡ with_entry old e)
-CarriesOut old e (replies.Rows at rows) new = IsAnswer old.journal e.statement rows × (at ≡ moment_of old) × (new ≡ old)
-CarriesOut old e (replies.Listed at entries) new = (e.statement ≡ statements.Checkpoints) × (entries ≡ listed_checkpoints old) × (at ≡ moment_of old) × (new ≡ old)
-CarriesOut old e (replies.Begun number at) new = (e.statement ≡ statements.Checkpoint) × (number ≡ old.begun + 1) × (at ≡ moment_of old) × (new ≡ with_begun old)
+CarriesOut old e (replies.Done at) new =
+    (is_change e.statement ≡ true) × (at ≡ next_moment old) × (new ≡ with_entry old e)
+CarriesOut old e (replies.Rows at rows) new =
+    IsAnswer old.journal e.statement rows × (at ≡ moment_of old) × (new ≡ old)
+CarriesOut old e (replies.Listed at entries) new =
+    (e.statement ≡ statements.Checkpoints)
+    × (entries ≡ listed_checkpoints old)
+    × (at ≡ moment_of old)
+    × (new ≡ old)
+CarriesOut old e (replies.Begun number at) new =
+    (e.statement ≡ statements.Checkpoint)
+    × (number ≡ old.begun + 1)
+    × (at ≡ moment_of old)
+    × (new ≡ with_begun old)
 CarriesOut old e (replies.Export ticket) new = IsExport old e.user e.statement ticket × (new ≡ old)
-CarriesOut old e (replies.Refused at lack) new = (lack ≡ lacks.NoMemory) × (at ≡ moment_of old) × (new ≡ old)
+CarriesOut old e (replies.Refused at lack) new =
+    (lack ≡ lacks.NoMemory) × (at ≡ moment_of old) × (new ≡ old)
 CarriesOut old e (replies.Denied at lack) new = ⊥
 CarriesOut old e replies.Idle new = ⊥
 CarriesOut old e (replies.Stepped number left) new = ⊥
@@ -93,15 +113,22 @@ CarriesOut old e (replies.Abandoned number) new = ⊥
 
 -- what may come of a statement, by its verdict
 abbrev pub Responds : World → Entry → Check → Reply → World → Type 0
-Responds old e (Err lack) reply new = (reply ≡ lack_reply (judged_at old e.statement lack) lack) × (new ≡ old)
+Responds old e (Err lack) reply new =
+    (reply ≡ lack_reply (judged_at old e.statement lack) lack) × (new ≡ old)
 Responds old e (Ok _) reply new = CarriesOut old e reply new
 
 -- what may come of a step of the checkpointer, by what is active
 abbrev pub Advances : World → Option ActiveCheckpoint → Reply → World → Type 0
 Advances old None reply new = (reply ≡ replies.Idle) × (new ≡ old)
-Advances old (Some a) (replies.Stepped number left) new = (old.chunk < a.left) × (number ≡ a.number) × (left ≡ a.left - old.chunk) × (new ≡ with_left old a left)
-Advances old (Some a) (replies.Finished number) new = (a.left ≤ old.chunk) × (number ≡ a.number) × (new ≡ with_finished old a)
-Advances old (Some a) (replies.Refused at lack) new = (lack ≡ lacks.NoMemory) × (at ≡ moment_of old) × (new ≡ old)
+Advances old (Some a) (replies.Stepped number left) new =
+    (old.chunk < a.left)
+    × (number ≡ a.number)
+    × (left ≡ a.left - old.chunk)
+    × (new ≡ with_left old a left)
+Advances old (Some a) (replies.Finished number) new =
+    (a.left ≤ old.chunk) × (number ≡ a.number) × (new ≡ with_finished old a)
+Advances old (Some a) (replies.Refused at lack) new =
+    (lack ≡ lacks.NoMemory) × (at ≡ moment_of old) × (new ≡ old)
 Advances old (Some a) _ new = ⊥
 
 -- what comes of giving up what is active
@@ -111,17 +138,23 @@ GivesUp old (Some a) reply new = (reply ≡ replies.Abandoned a.number) × (new 
 
 -- from old, an event may be answered by the reply and lead to new
 abbrev pub Step : World → Event → Reply → World → Type 0
-Step old (events.Say pass user asked) reply new = Responds old (entry pass user asked) (verdict_of old user asked) reply new
+Step old (events.Say pass user asked) reply new =
+    Responds old (entry pass user asked) (verdict_of old user asked) reply new
 Step old events.Step reply new = Advances old old.active reply new
 Step old events.Abandon reply new = GivesUp old old.active reply new
 
 -- ---- one event after another
 abbrev pub Run : World → List Event → List Reply → World → Type 0
 Run old [] [] new = new ≡ old
-Run old (e ∷ es) (reply ∷ replies) new = (mid : World) × Step old e reply mid × Run mid es replies new
+Run old (e ∷ es) (reply ∷ replies) new =
+    (mid : World) × Step old e reply mid × Run mid es replies new
 Run old [] (reply ∷ replies) new = ⊥
 Run old (e ∷ es) [] new = ⊥
 
 -- a run of the first events, which are all that were done
 abbrev pub IsRunOfSome : World → List Event → List Reply → World → Type 0
-IsRunOfSome old events replies new = (front : List Event) × (rest : List Event) × (events ≡ front ++ rest) × Run old front replies new
+IsRunOfSome old events replies new =
+    (front : List Event)
+    × (rest : List Event)
+    × (events ≡ front ++ rest)
+    × Run old front replies new

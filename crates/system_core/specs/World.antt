@@ -27,7 +27,8 @@ pub record World : Type 0 where
   pub limits : Limits
 
 abbrev pub opening : ℕ → Limits → World
-opening chunk limits = record { journal = []; begun = 0; finished = []; active = None; chunk = chunk; limits = limits }
+opening chunk limits =
+    record { journal = []; begun = 0; finished = []; active = None; chunk = chunk; limits = limits }
 
 abbrev pub entry : ℕ → User → Statement → Entry
 entry pass user asked = record { pass = pass; user = user; statement = asked }
@@ -45,7 +46,8 @@ with_entry w e = record w { journal = w.journal ++ e ∷ [] }
 
 -- how many records a checkpoint of this point has
 abbrev pub records_at : List Entry → Moment → ℕ
-records_at journal point = records (contents (journal_at journal point)) (rights_at (journal_at journal point))
+records_at journal point =
+    records (contents (journal_at journal point)) (rights_at (journal_at journal point))
 
 -- the checkpoints that are kept, and then the active one, each by its number and its point
 abbrev pub with_active : List (ℕ × Moment) → Option ActiveCheckpoint → List (ℕ × Moment)
@@ -60,7 +62,8 @@ IsRising number point (c ∷ cs) = (number < c.0) × (point ≤ c.1.0) × IsRisi
 -- an active checkpoint is the last that was begun, and has from one record to all of them left
 abbrev pub IsSoundActive : List Entry → ℕ → Option ActiveCheckpoint → Type 0
 IsSoundActive journal begun None = Unit {0}
-IsSoundActive journal begun (Some a) = (a.number ≡ begun) × (0 < a.left) × (a.left ≤ records_at journal a.point)
+IsSoundActive journal begun (Some a) =
+    (a.number ≡ begun) × (0 < a.left) × (a.left ≤ records_at journal a.point)
 
 -- checkpoints as a system may have them
 pub record AreSound (w : World) : Type 0 where

@@ -85,7 +85,8 @@ fn push_about_atom(text: &mut ReplyBuffer, user: &User, said: &[u8], atom: &Atom
 /// A user, what is said of him, and the table that he may not select.
 fn push_no_select(text: &mut ReplyBuffer, user: &User, said: &[u8], table: &Name)
     requires { length text.old + length said.now + 71 ≤ REPLY_BYTES }
-    ensures text { text.new ≡ text.old ++ joined (user.now.0 ∷ said.now ∷ codes " SELECT on " ∷ table.now ∷ []) }
+    ensures text { text.new ≡ text.old
+        ++ joined (user.now.0 ∷ said.now ∷ codes " SELECT on " ∷ table.now ∷ []) }
     ensures short { length text.new ≤ length text.old + length said.now + 71 }
 {
     text.push_name(&user.0);
@@ -250,7 +251,8 @@ pub fn push_fault(text: &mut ReplyBuffer, code: Code, offset: usize)
 /// The first line of a list: a word, how many records come, and the moment.
 fn list_head(alloc: Global, word: &[u8], count: usize, at: Moment) -> Result<Vec<u8>, NoMemory>
     requires { length word.now + 43 ≤ REPLY_BYTES }
-    ensures { IfOk result (λ text. text.items ≡ word.now ++ decimal count ++ codes " @" ++ decimal at.0 ++ codes "\n") }
+    ensures { IfOk result (λ text. text.items
+        ≡ word.now ++ decimal count ++ codes " @" ++ decimal at.0 ++ codes "\n") }
 {
     let mut text = ReplyBuffer::new(alloc)?;
     push_number_in(&mut text, word, count as u64, b" @");
@@ -281,7 +283,8 @@ fn write_checkpoint(text: Vec<u8>, checkpoint: &Checkpoint) -> Result<Vec<u8>, N
 }
 
 fn write_checkpoints(mut text: Vec<u8>, entries: &[Checkpoint]) -> Result<Vec<u8>, NoMemory>
-    ensures { IfOk result (λ longer. longer.items ≡ text.items ++ flat_map checkpoint_line entries.now) }
+    ensures { IfOk result
+        (λ longer. longer.items ≡ text.items ++ flat_map checkpoint_line entries.now) }
 {
     for checkpoint in entries {
         text = write_checkpoint(text, checkpoint)?;

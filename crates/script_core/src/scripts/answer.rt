@@ -165,7 +165,8 @@ fn write_fault<W: Sink>(
     ensures ok { OnOk result
         (Writes (TellsSaid (Said.Fault code offset)) (W.taken writer.old) (W.taken writer.new)) }
     ensures err { OnErr result
-        (WritesFrontOf (TellsSaid (Said.Fault code offset)) (W.taken writer.old) (W.taken writer.new)) }
+        (WritesFrontOf (TellsSaid (Said.Fault code offset))
+        (W.taken writer.old) (W.taken writer.new)) }
 {
     buffer.clear();
     push_fault(buffer, code, offset);

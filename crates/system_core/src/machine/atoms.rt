@@ -9,7 +9,8 @@ use std::alloc::Global;
 
 // Appends the privilege to update each of the columns.
 fn push_updates<T: Named>(atoms: &mut Vec<Atom>, table: Name, items: &[T]) -> Result<(), NoMemory>
-    ensures { OnOk result (atoms.new.items ≡ atoms.old.items ++ map (λ item. to_update table (T.name_of item)) items.now) }
+    ensures { OnOk result (atoms.new.items
+        ≡ atoms.old.items ++ map (λ item. to_update table (T.name_of item)) items.now) }
 {
     for item in items {
         let kind = Kind::Update(item.name());
@@ -33,7 +34,8 @@ fn push_atoms(
     privilege: &Privilege,
 ) -> Result<(), NoMemory>
     requires { length columns.now ≤ most_columns }
-    ensures atoms { OnOk result (atoms.new.items ≡ atoms.old.items ++ atoms_of_one table columns.now privilege.now) }
+    ensures atoms { OnOk result (atoms.new.items
+        ≡ atoms.old.items ++ atoms_of_one table columns.now privilege.now) }
     ensures few { OnOk result (length atoms.new.items ≤ length atoms.old.items + most_columns) }
 {
     match privilege {

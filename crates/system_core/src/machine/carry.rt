@@ -27,11 +27,13 @@ fn create(
 ) -> Result<(), NoMemory>
     requires new { table_of tables.old table.now ≡ None }
     requires fresh { was_granted rights.old.owners table.now ≡ false }
-    ensures tables { OnOk result (tables.new ≡ tables_after tables.old user.now (statements.CreateTable table.now columns.now)) }
+    ensures tables { OnOk result (tables.new
+        ≡ tables_after tables.old user.now (statements.CreateTable table.now columns.now)) }
     ensures rights { OnOk result (rights.new ≡ after_create rights.old table.now user.now) }
     ensures narrow { OnOk result (length columns.now ≤ most_columns) }
     ensures same { OnErr result (tables.new ≡ tables.old) }
-    ensures leaves { OnErr result ((rights.new ≡ rights.old) ⊎ (rights.new ≡ after_create rights.old table.now user.now)) }
+    ensures leaves { OnErr result ((rights.new ≡ rights.old)
+        ⊎ (rights.new ≡ after_create rights.old table.now user.now)) }
 {
     let columns = Vec::from_slice(alloc, columns.as_slice())?;
     rights.create(*table, *user)?;
@@ -52,7 +54,9 @@ fn grant(
     requires can { CanGrant rights.old moment.0 user (atoms_at tables.now table privileges.now) }
     requires narrow { length (columns_of tables.now table) ≤ most_columns }
     requires early { moment.0 < 2 ^ 63 }
-    ensures ok { OnOk result (rights.new ≡ after_grant rights.old user (atoms_at tables.now table privileges.now) users.now option (record { 0 = moment.0 + 1 })) }
+    ensures ok { OnOk result (rights.new
+        ≡ after_grant rights.old user (atoms_at tables.now table privileges.now) users.now option
+        (record { 0 = moment.0 + 1 })) }
     ensures few { OnOk result (rights.new.made ≤ rights.old.made + most_grants) }
     ensures err { OnErr result (rights.new ≡ rights.old) }
 {
@@ -71,7 +75,8 @@ fn revoke(
     users: &[User],
 ) -> Result<(), NoMemory>
     requires { length (columns_of tables.now table) ≤ most_columns }
-    ensures ok { OnOk result (rights.new ≡ after_revoke rights.old user (atoms_at tables.now table privileges.now) users.now) }
+    ensures ok { OnOk result (rights.new
+        ≡ after_revoke rights.old user (atoms_at tables.now table privileges.now) users.now) }
     ensures err { OnErr result (rights.new ≡ rights.old) }
 {
     let atoms = atoms_of(alloc, table, columns_of(tables, table), privileges)?;
@@ -92,11 +97,13 @@ pub fn carry_out(
     requires can { CanCarry tables.old rights.old moment.0 user statement.now }
     requires early { moment.0 < 2 ^ 63 }
     ensures tables { OnOk result (tables.new ≡ tables_after tables.old user statement.now) }
-    ensures rights { OnOk result (rights.new ≡ rights_after rights.old moment.0 (change_of tables.old user statement.now)) }
+    ensures rights { OnOk result (rights.new
+        ≡ rights_after rights.old moment.0 (change_of tables.old user statement.now)) }
     ensures narrow { OnOk result (HasFewColumns statement.now) }
     ensures few { OnOk result (rights.new.made ≤ rights.old.made + most_grants) }
     ensures same { OnErr result (tables.new ≡ tables.old) }
-    ensures leaves { OnErr result (MayLeave rights.old (change_of tables.old user statement.now) rights.new) }
+    ensures leaves { OnErr result
+        (MayLeave rights.old (change_of tables.old user statement.now) rights.new) }
 {
     match statement {
         Statement::CreateTable { table, columns } => {

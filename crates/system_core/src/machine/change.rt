@@ -37,7 +37,8 @@ fn copied(alloc: Global, users: &[User]) -> Result<Sequence<User>, NoMemory>
 /// What an entry changes of rights, at these tables.
 fn change_of(alloc: Global, tables: &Tables, entry: &Entry) -> Result<Change, NoMemory>
     requires { (name : Name) → length (columns_of tables.now name) ≤ most_columns }
-    ensures { IfOk result (λ change. change ≡ change_of tables.now entry.now.user entry.now.statement) }
+    ensures { IfOk result
+        (λ change. change ≡ change_of tables.now entry.now.user entry.now.statement) }
 {
     match &entry.statement {
         Statement::CreateTable { table, columns: _ } => Ok(Change::Create {
@@ -76,7 +77,8 @@ pub fn changes_of(
     journal: &[Entry],
 ) -> Result<Vec<Change>, NoMemory>
     requires { (name : Name) → length (columns_of tables.now name) ≤ most_columns }
-    ensures { IfOk result (λ changes. changes.items ≡ map (λ e. change_of tables.now e.user e.statement) journal.now) }
+    ensures { IfOk result (λ changes. changes.items
+        ≡ map (λ e. change_of tables.now e.user e.statement) journal.now) }
 {
     let mut changes = Vec::new(alloc);
     for entry in journal {

@@ -23,7 +23,8 @@ fn kept_entry(kept: &(u64, Moment)) -> Checkpoint
 }
 
 fn kept_entries(alloc: Global, kept: &[(u64, Moment)]) -> Result<Vec<Checkpoint>, NoMemory>
-    ensures { IfOk result (λ entries. entries.items ≡ map (λ c. checkpoints.Kept c.0 c.1) kept.now) }
+    ensures { IfOk result
+        (λ entries. entries.items ≡ map (λ c. checkpoints.Kept c.0 c.1) kept.now) }
 {
     let entries = kept.iter().map(kept_entry).collect(alloc)?;
     Ok(entries)
@@ -33,7 +34,12 @@ fn push_active(
     entries: &mut Vec<Checkpoint>,
     active: Option<(u64, Moment, u64)>,
 ) -> Result<(), NoMemory>
-    ensures { OnOk result (entries.new.items ≡ entries.old.items ++ active_listed (option_map (λ a. record { number = a.0; point = a.1; left = a.2 }) active)) }
+    ensures { OnOk result (entries.new.items ≡ entries.old.items
+        ++ active_listed (option_map (λ a. record {
+          number = a.0;
+          point = a.1;
+          left = a.2;
+        }) active)) }
 {
     if let Some((number, point, left)) = active {
         entries.push(Checkpoint::Active {
@@ -52,7 +58,11 @@ pub fn listed(
     catalogue: &Catalogue,
     capture: &Capture,
 ) -> Result<Sequence<Checkpoint>, NoMemory>
-    ensures { IfOk result (λ entries. entries ≡ map (λ image. checkpoints.Kept image.number image.point) catalogue.now ++ active_listed (option_map (λ a. record { number = a.coming.number; point = a.coming.point; left = a.left }) capture.now.active)) }
+    ensures { IfOk result (λ entries. entries
+        ≡ map (λ image. checkpoints.Kept image.number image.point) catalogue.now
+        ++ active_listed (option_map
+        (λ a. record { number = a.coming.number; point = a.coming.point; left = a.left })
+        capture.now.active)) }
 {
     let kept = catalogue.list()?;
     let mut entries = kept_entries(alloc, &kept)?;

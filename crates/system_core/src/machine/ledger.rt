@@ -54,7 +54,9 @@ fn rows_of(
     filter: &[Condition],
 ) -> Result<Vec<Row>, NoMemory>
     requires { IsSome (table_of tables.now table) }
-    ensures { IfOk result (λ rows. option_map (selected_rows (columns_given (columns_of tables.now table) list.now) filter.now) (table_of tables.now table) ≡ Some rows.items) }
+    ensures { let columns = columns_given (columns_of tables.now table) list.now in
+        IfOk result (λ rows.
+        option_map (selected_rows columns filter.now) (table_of tables.now table) ≡ Some rows.items) }
 {
     match list {
         Some(names) => tables.select(table, names.as_slice(), filter),
@@ -120,7 +122,8 @@ impl Ledger {
 
     /// The rights that the journal makes, but for owners of names that are no tables.
     pub fn rights(&self) -> &Replay
-        ensures rights { AgreeOn (contents self.now.journal) result.now (rights_at self.now.journal) }
+        ensures rights { AgreeOn (contents self.now.journal) result.now
+            (rights_at self.now.journal) }
         ensures lawful { IsLawful self.now.limits self.now.journal }
         ensures few { length (rights_at self.now.journal).in_force < 2 ^ 62 }
     {
@@ -138,7 +141,8 @@ impl Ledger {
     /// How many grants are in force, if they are exactly those that a replay of the journal leaves in
     /// force, and else None. They always are. `NoMemory` where a request for memory was refused.
     pub fn audit(&self) -> Result<Option<usize>, NoMemory>
-        ensures { IfOk result (λ found. found ≡ Some (length (in_force_after (changes self.now.journal)))) }
+        ensures { IfOk result
+            (λ found. found ≡ Some (length (in_force_after (changes self.now.journal)))) }
     {
         let changes = self.changes()?;
         let in_force = self.rights.in_force()?;
@@ -148,7 +152,9 @@ impl Ledger {
 
     /// The verdict of the monitor at the journal.
     pub fn judged(&self, user: User, statement: &Statement) -> Result<Allowed, Lack>
-        ensures { result ≡ allowed_by (verdict_at self.now.limits self.now.journal user statement.now) statement.now }
+        ensures { result
+            ≡ allowed_by
+            (verdict_at self.now.limits self.now.journal user statement.now) statement.now }
     {
         let moment = Moment(count(&self.journal));
         let (tables, rights) = (&self.tables, &self.rights);
@@ -158,9 +164,11 @@ impl Ledger {
     /// Carries out an allowed change, and enters it. `NoMemory` where a request for memory was refused:
     /// then nothing has changed.
     pub fn change(&mut self, entry: Entry) -> Result<(), NoMemory>
-        requires allowed { verdict_at self.old.limits self.old.journal entry.user entry.statement ≡ Ok tt }
+        requires allowed { verdict_at self.old.limits self.old.journal entry.user entry.statement
+            ≡ Ok tt }
         requires change { is_change entry.statement ≡ true }
-        ensures ok { OnOk result (self.new ≡ record self.old { journal = self.old.journal ++ entry ∷ [] }) }
+        ensures ok { OnOk result (self.new
+            ≡ record self.old { journal = self.old.journal ++ entry ∷ [] }) }
         ensures err { OnErr result (self.new ≡ self.old) }
     {
         self.journal.reserve(1)?;
@@ -186,7 +194,10 @@ impl Ledger {
         filter: &[Condition],
     ) -> Result<Vec<Row>, NoMemory>
         requires { IsSome (table_of (contents self.now.journal) table) }
-        ensures { IfOk result (λ rows. option_map (selected_rows (columns_given (columns_of (contents self.now.journal) table) list.now) filter.now) (table_of (contents self.now.journal) table) ≡ Some rows.items) }
+        ensures { let tables = contents self.now.journal in
+            let columns = columns_given (columns_of tables table) list.now in
+            IfOk result (λ rows.
+            option_map (selected_rows columns filter.now) (table_of tables table) ≡ Some rows.items) }
     {
         rows_of(self.alloc, &self.tables, list, table, filter)
     }

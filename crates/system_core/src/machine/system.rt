@@ -118,14 +118,16 @@ impl System {
     /// How many grants are in force, if they are exactly those that a replay of the journal leaves in
     /// force, and else None. They always are. `NoMemory` where a request for memory was refused.
     pub fn audit(&self) -> Result<Option<usize>, NoMemory>
-        ensures { IfOk result (λ found. found ≡ Some (length (in_force_after (changes self.now.journal)))) }
+        ensures { IfOk result
+            (λ found. found ≡ Some (length (in_force_after (changes self.now.journal)))) }
     {
         self.ledger.audit()
     }
 
     /// Carries out an allowed change.
     fn change(&mut self, entry: Entry) -> Reply
-        requires allowed { verdict_at self.old.limits self.old.journal entry.user entry.statement ≡ Ok tt }
+        requires allowed { verdict_at self.old.limits self.old.journal entry.user entry.statement
+            ≡ Ok tt }
         requires change { is_change entry.statement ≡ true }
         ensures { CarriesOut self.old entry result self.new }
     {
@@ -146,7 +148,9 @@ impl System {
         filter: &[Condition],
     ) -> Reply
         requires { IsSome (table_of (contents self.now.journal) table) }
-        ensures { (pass : ℕ) (user : User) → CarriesOut self.now (entry pass user (statements.Select list.now table filter.now)) result self.now }
+        ensures { (pass : ℕ) (user : User)
+            → CarriesOut self.now
+            (entry pass user (statements.Select list.now table filter.now)) result self.now }
     {
         let at = self.ledger.moment();
         match self.ledger.select(list, table, filter) {
@@ -160,7 +164,8 @@ impl System {
 
     /// Lists the checkpoints.
     fn list(&self) -> Reply
-        ensures { (pass : ℕ) (user : User) → CarriesOut self.now (entry pass user statements.Checkpoints) result self.now }
+        ensures { (pass : ℕ) (user : User)
+            → CarriesOut self.now (entry pass user statements.Checkpoints) result self.now }
     {
         let at = self.ledger.moment();
         match listed(self.alloc, &self.catalogue, &self.capture) {
@@ -171,7 +176,10 @@ impl System {
 
     /// Begins a checkpoint, where none is active and there is room for one more.
     fn begin(&mut self) -> Reply
-        ensures { (pass : ℕ) (user : User) → Responds self.old (entry pass user statements.Checkpoint) (first_lack (checkpoint_checks self.old user statements.Checkpoint)) result self.new }
+        ensures { (pass : ℕ) (user : User)
+            → Responds self.old (entry pass user statements.Checkpoint)
+            (first_lack
+            (checkpoint_checks self.old user statements.Checkpoint)) result self.new }
     {
         let at = self.ledger.moment();
         let limit = self.ledger.limits().checkpoints;
@@ -186,8 +194,13 @@ impl System {
     /// Issues an export, where its checkpoint is kept and, of one table alone, that may be exported. A
     /// table of which it is to be has to stand now.
     fn export(&self, user: User, number: u64, only: Option<Name>) -> Reply
-        requires { verdict_at self.now.limits self.now.journal user (statements.Export number only) ≡ Ok tt }
-        ensures { (pass : ℕ) → Responds self.now (entry pass user (statements.Export number only)) (first_lack (checkpoint_checks self.now user (statements.Export number only))) result self.now }
+        requires { verdict_at self.now.limits self.now.journal user (statements.Export number only)
+            ≡ Ok tt }
+        ensures { (pass : ℕ)
+            → Responds self.now (entry pass user (statements.Export number only))
+            (first_lack
+            (checkpoint_checks self.now user
+            (statements.Export number only))) result self.now }
     {
         let at = self.ledger.moment();
         let rights = self.ledger.rights();
@@ -205,9 +218,12 @@ impl System {
 
     /// Answers what is no change, as the monitor allowed it.
     fn look(&mut self, entry: &Entry) -> Reply
-        requires allowed { verdict_at self.old.limits self.old.journal entry.now.user entry.now.statement ≡ Ok tt }
+        requires allowed { verdict_at self.old.limits self.old.journal entry.now.user entry.now.statement
+            ≡ Ok tt }
         requires look { is_change entry.now.statement ≡ false }
-        ensures { Responds self.old entry.now (first_lack (checkpoint_checks self.old entry.now.user entry.now.statement)) result self.new }
+        ensures { Responds self.old entry.now
+            (first_lack
+            (checkpoint_checks self.old entry.now.user entry.now.statement)) result self.new }
     {
         match &entry.statement {
             Statement::Select {
@@ -223,7 +239,8 @@ impl System {
     }
 
     fn say(&mut self, entry: Entry) -> Reply
-        ensures { Responds self.old entry (verdict_of self.old entry.user entry.statement) result self.new }
+        ensures { Responds self.old entry
+            (verdict_of self.old entry.user entry.statement) result self.new }
     {
         match self.ledger.judged(entry.user, &entry.statement) {
             Err(lack) => turn_away(self.ledger.moment(), lack),
@@ -291,7 +308,9 @@ impl System {
     /// One step after another. Where there is no memory to note a reply, the events before it were
     /// done, with these replies, and no later one.
     pub fn run(&mut self, events: Vec<Event>) -> Result<Vec<Reply>, (NoMemory, Vec<Reply>)>
-        ensures { MatchResult result (λ replies. Run self.old events.items replies.items self.new) (λ e. IsRunOfSome self.old events.items e.1.items self.new) }
+        ensures { MatchResult result
+            (λ replies. Run self.old events.items replies.items self.new)
+            (λ e. IsRunOfSome self.old events.items e.1.items self.new) }
     {
         let mut replies = Vec::new(self.alloc);
         for event in events {
