@@ -52,4 +52,3 @@ pub use stream::{Broken, Sink, Source, StdSink, StdSource, write_all};
 pub use text::Text;
 pub use value::{ColType, Column, Moment, Row, Value};
 pub use word::{MAX_NAME, Word, is_word_byte};
-

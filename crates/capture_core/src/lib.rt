@@ -47,4 +47,3 @@ pub use capture::Capture;
 pub use image::{Image, TableImage};
 pub use laws::images_tell_the_same;
 pub use progress::Progress;
-

@@ -25,4 +25,3 @@
 mod catalogue;
 
 pub use catalogue::Catalogue;
-

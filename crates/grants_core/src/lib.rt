@@ -50,4 +50,3 @@ pub use history::audit;
 pub use owners::Owners;
 pub use replay::Replay;
 pub use singles::single_grants;
-

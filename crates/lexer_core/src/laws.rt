@@ -24,7 +24,8 @@ pub fn said_or_faulty()
 
 /// A line has at most one lexical fault: one code, at one byte.
 pub fn one_fault()
-    ensures { (line : List ℕ) (code other : Code) (offset place : ℕ) → IsLineFault line code offset
+    ensures { (line : List ℕ) (code other : Code) (offset place : ℕ)
+        → IsLineFault line code offset
         → IsLineFault line other place → (code ≡ other) × (offset ≡ place) }
 {}
 

@@ -32,4 +32,3 @@ mod line;
 mod serving;
 
 pub use serving::{LineServer, MOST_BYTES, SessionFault, serve};
-

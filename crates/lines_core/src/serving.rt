@@ -87,11 +87,13 @@ fn feed<D: LineServer, W: Sink>(
     requires { W.failed writer.old ≡ false }
     ensures failed { MatchResult result (λ _. W.failed writer.new ≡ false)
         (λ _. W.failed writer.new ≡ true) }
-    ensures ok { OnOk result ((rest : List ℕ) → NoFeed rest → line.old ≡ take KEPT_BYTES rest →
-        AnswersPiece D.answers rest piece.now line.new server.old server.new
+    ensures ok { OnOk result ((rest : List ℕ) → NoFeed rest
+        → line.old ≡ take KEPT_BYTES rest
+        → AnswersPiece D.answers rest piece.now line.new server.old server.new
         (W.taken writer.old) (W.taken writer.new)) }
-    ensures err { OnErr result ((rest : List ℕ) → NoFeed rest → line.old ≡ take KEPT_BYTES rest →
-        BreaksPiece D.answers rest piece.now server.old server.new
+    ensures err { OnErr result ((rest : List ℕ) → NoFeed rest
+        → line.old ≡ take KEPT_BYTES rest
+        → BreaksPiece D.answers rest piece.now server.old server.new
         (W.taken writer.old) (W.taken writer.new)) }
     ensures flushed { W.flushed writer.old ≡ true → OnOk result (W.flushed writer.new ≡ true) }
 {

@@ -51,4 +51,3 @@ mod monitor;
 pub use allowed::Allowed;
 pub use checks::columns_of;
 pub use monitor::judge;
-

@@ -14,7 +14,8 @@ pub fn one_statement()
 
 /// A line has at most one fault: one code, at one byte.
 pub fn one_fault()
-    ensures { (line : List ℕ) (code other : Code) (offset place : ℕ) → IsReadFault line code offset
+    ensures { (line : List ℕ) (code other : Code) (offset place : ℕ)
+        → IsReadFault line code offset
         → IsReadFault line other place → (code ≡ other) × (offset ≡ place) }
 {}
 

@@ -40,4 +40,3 @@ mod tables;
 pub use laws::{look_ups_after_changes, numbers_rise, rows_fit};
 pub use rows::NumberedRow;
 pub use tables::{TableView, Tables};
-

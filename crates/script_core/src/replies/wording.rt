@@ -61,7 +61,8 @@ fn push_name_in(text: &mut ReplyBuffer, before: &[u8], name: &Name, behind: &[u8
 /// A number between two texts.
 fn push_number_in(text: &mut ReplyBuffer, before: &[u8], number: u64, behind: &[u8])
     requires { length text.old + length before.now + 20 + length behind.now ≤ REPLY_BYTES }
-    ensures text { text.new ≡ text.old ++ joined (before.now ∷ decimal number ∷ behind.now ∷ []) }
+    ensures text { text.new
+        ≡ text.old ++ joined (before.now ∷ decimal number ∷ behind.now ∷ []) }
     ensures short { length text.new ≤ length text.old + length before.now + 20 + length behind.now }
 {
     text.push(before);

@@ -218,12 +218,11 @@ impl System {
 
     /// Answers what is no change, as the monitor allowed it.
     fn look(&mut self, entry: &Entry) -> Reply
-        requires allowed { verdict_at self.old.limits self.old.journal entry.now.user entry.now.statement
-            ≡ Ok tt }
+        requires allowed { let asked = entry.now.statement in
+            verdict_at self.old.limits self.old.journal entry.now.user asked ≡ Ok tt }
         requires look { is_change entry.now.statement ≡ false }
-        ensures { Responds self.old entry.now
-            (first_lack
-            (checkpoint_checks self.old entry.now.user entry.now.statement)) result self.new }
+        ensures { let checks = checkpoint_checks self.old entry.now.user entry.now.statement in
+            Responds self.old entry.now (first_lack checks) result self.new }
     {
         match &entry.statement {
             Statement::Select {
