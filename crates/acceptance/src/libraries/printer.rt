@@ -1,5 +1,6 @@
 //! Statements printed, and read back.
-use base_core::{Name, Several, Text, Twin, Value};
+use super::reader::repeated;
+use base_core::{Name, Several, Twin, Value};
 use printer_core::{PrintFault, print};
 use reader_core::{Statement, read};
 use std::alloc::Global;
@@ -64,19 +65,19 @@ fn printed(rt: HostRuntime) -> Result<(), Fail> {
     Ok(())
 }
 
-/// A text of 1,024 bytes.
-fn longest_text(alloc: Global) -> Result<Value, Fail> {
-    let mut text = String::new(alloc);
-    for _ in 0..1024 {
-        text.push('a')?;
+/// The one value of an INSERT.
+fn only_value(statement: &Statement) -> Result<Value, Fail> {
+    match statement {
+        Statement::Insert { values, .. } => Ok(values.as_slice()[0].try_twin()?),
+        _ => Err(Fail::from("no INSERT")),
     }
-    Ok(Value::Text(Text::from_string(text)))
 }
 
 #[test]
 fn too_long_to_print(rt: HostRuntime) -> Result<(), Fail> {
     let alloc = rt.alloc();
-    let text = longest_text(alloc)?;
+    let line = repeated(alloc, "INSERT INTO t VALUES ('", "a", 1024, "')")?;
+    let text = only_value(&read(alloc, line.as_bytes())?)?;
     let mut values = vec![in alloc; text.try_twin()?, text.try_twin()?, text.try_twin()?]?;
     values.push(text.try_twin()?)?;
     values.push(text)?;

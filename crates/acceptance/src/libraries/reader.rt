@@ -6,7 +6,7 @@ use std::test::Fail;
 mod faults;
 
 /// The front, the part so often, and the back.
-fn repeated(
+pub fn repeated(
     alloc: Global,
     front: &str,
     part: &str,

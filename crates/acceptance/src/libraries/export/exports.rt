@@ -88,18 +88,18 @@ fn alone(
     rt: &impl Abort,
     alloc: Global,
     image: &Arc<Image>,
-    user: User,
+    user: &User,
     rights: &Replay,
-    table: Name,
+    table: &Name,
 ) -> Result<Ticket, Fail> {
     let select = Atom {
-        table,
+        table: *table,
         kind: Kind::Select,
     };
-    assert!(rt; image.has(table));
-    assert!(rt; image.holds(user, &select));
-    assert!(rt; rights.holds(user, &select));
-    let ticket = Ticket::issue(alloc, image, user, rights, Some(table), Moment(5))?;
+    assert!(rt; image.has(*table));
+    assert!(rt; image.holds(*user, &select));
+    assert!(rt; rights.holds(*user, &select));
+    let ticket = Ticket::issue(alloc, image, *user, rights, Some(*table), Moment(5))?;
     Ok(ticket)
 }
 
@@ -147,7 +147,7 @@ fn captured_grants_in_force_again(rt: HostRuntime) -> Result<(), Fail> {
     let mut ticket = Ticket::issue(alloc, &image, user(b'u')?, &rights, None, Moment(5))?;
     let want = b"table,t,v\nrow,7\nend 1\n";
     assert_eq!(rt; written(alloc, &mut ticket)?.as_slice(), want.as_slice());
-    let mut alone = alone(&rt, alloc, &image, user(b'u')?, &rights, name(b't')?)?;
+    let mut alone = alone(&rt, alloc, &image, &user(b'u')?, &rights, &name(b't')?)?;
     assert_eq!(rt; written(alloc, &mut alone)?.as_slice(), want.as_slice());
     Ok(())
 }
