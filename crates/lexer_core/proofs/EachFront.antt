@@ -16,8 +16,8 @@ use Rattle.base_core.specs.Words.{is_word_byte, is_word, keyword_of, name_of, fo
 use Rattle.base_core.specs.declared.keyword.Keyword.{Keyword}
 use Rattle.lexer_core.specs.declared.fault.Code.{Code}
 use Rattle.lexer_core.specs.declared.fault.Code.TheVariants.{BadByte, TooLong, OpenText, LongName, BadNumber}
-use Rattle.lexer_core.specs.declared.token.Kind.{Kind}
-use Rattle.lexer_core.specs.declared.token.Kind.TheVariants as kinds
+use Rattle.lexer_core.specs.declared.token.TokenKind.{TokenKind}
+use Rattle.lexer_core.specs.declared.token.TokenKind.TheVariants as kinds
 use Rattle.lexer_core.specs.Lexing.{BeginsKind, Fails, is_blank, is_mark_byte, starts_number, number_len, sign_len, long_name, stray}
 use Rattle.lexer_core.proofs.Words.{keyword_first, name_first, front_is_word}
 use Rattle.lexer_core.proofs.Numbers.{number_first, too_great, joined, unsigned, numeral, sign_cases, equal}
@@ -27,7 +27,7 @@ use Rattle.lexer_core.proofs.EachChar.{plain_or_not}
 use Rattle.lexer_core.proofs.EachMark.{mark_stands}
 
 abbrev pub TokenOrFault : List ℕ → Type 0
-TokenOrFault bytes = ((kind : Kind) × (n : ℕ) × BeginsKind bytes kind n) ⊎ ((code : Code) × (by : ℕ) × Fails bytes code by)
+TokenOrFault bytes = ((kind : TokenKind) × (n : ℕ) × BeginsKind bytes kind n) ⊎ ((code : Code) × (by : ℕ) × Fails bytes code by)
 
 fits_or_not : (z : ℤ) → FitsSigned w64 z ⊎ (FitsSigned w64 z → ⊥)
 fits_or_not z = ⊎_elim (λ l. inl (record { sfits = l })) (λ g. inr (λ f. let l = f.sfits in omega arith)) (cases_lt (mag z) (2 ^ hbits w64))

@@ -18,7 +18,7 @@ use Rattle.base_core.specs.Words.{is_word_byte}
 use mir.Syntax.{w64}
 use mir.Val.{SFits as FitsSigned, to_z, of_z}
 use Rattle.lexer_core.specs.declared.fault.Code.TheVariants as codes_of
-use Rattle.lexer_core.specs.declared.token.Kind.TheVariants as kinds
+use Rattle.lexer_core.specs.declared.token.TokenKind.TheVariants as kinds
 use Rattle.lexer_core.specs.Lexing.{BeginsKind, Fails, Number, IsNumber, IsTooGreat, sign_len, number_len, starts_number, great_number, joined_number}
 use Rattle.lexer_core.proofs.Words.{all_front, some_front}
 

@@ -10,7 +10,7 @@ use Rattle.std.specs.Prelude.{slice_index, ◌==◌, if◌then◌else◌}
 use Rattle.std.specs.Char.{encode_utf8, IsScalar}
 use Rattle.std.specs.Str.{encode_utf8_all, all_scalars}
 use Rattle.lexer_core.specs.declared.fault.Code.TheVariants as codes_of
-use Rattle.lexer_core.specs.declared.token.Kind.TheVariants as kinds
+use Rattle.lexer_core.specs.declared.token.TokenKind.TheVariants as kinds
 use Rattle.base_core.specs.Texts.{is_printable}
 use Rattle.lexer_core.specs.Text.{written, written_all, BeginsText, BeginsWithPlain, BeginsWithNoPlain}
 use Rattle.lexer_core.specs.Lexing.{BeginsKind, Fails, bad_text, open_text, long_text, Text as TextOf}

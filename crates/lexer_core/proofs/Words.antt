@@ -9,7 +9,7 @@ use Rattle.std.specs.List.{prefix_len, list_all}
 use Rattle.std.specs.Char.{is_ascii_alphabetic}
 use Rattle.base_core.specs.Words.{is_word_byte, is_word, name_of, keyword_of}
 use Rattle.base_core.specs.declared.keyword.Keyword.{Keyword}
-use Rattle.lexer_core.specs.declared.token.Kind.TheVariants as kinds
+use Rattle.lexer_core.specs.declared.token.TokenKind.TheVariants as kinds
 use Rattle.lexer_core.specs.Lexing.{Key, Named, BeginsKind}
 
 one_more : (n : ℕ) → 1 + n ≡ suc n

@@ -15,8 +15,8 @@ use Rattle.lexer_core.specs.declared.fault.Code.TheVariants as codes_of
 use Rattle.lexer_core.specs.declared.fault.Fault as faults
 use Rattle.lexer_core.specs.declared.fault.ReadFault.{ReadFault}
 use Rattle.lexer_core.specs.declared.fault.ReadFault.TheVariants as read_faults
-use Rattle.lexer_core.specs.declared.token.Kind.{Kind}
-use Rattle.lexer_core.specs.declared.token.Kind.TheVariants as kinds
+use Rattle.lexer_core.specs.declared.token.TokenKind.{TokenKind}
+use Rattle.lexer_core.specs.declared.token.TokenKind.TheVariants as kinds
 use Rattle.lexer_core.specs.declared.token.Mark.{Mark}
 use Rattle.lexer_core.specs.declared.token.Mark.TheVariants as marks
 use Rattle.lexer_core.specs.declared.token.Token as tokens
@@ -30,7 +30,7 @@ pub data Lexeme : Type 0 where
   Sign : Mark → Lexeme
 
 -- which kind of token says it
-abbrev pub kind_of : Lexeme → Kind
+abbrev pub kind_of : Lexeme → TokenKind
 kind_of (Key k) = kinds.Keyword k
 kind_of (Named n) = kinds.Name n
 kind_of (Number z) = kinds.Number z
@@ -111,7 +111,7 @@ pub record BeginsLexeme (bytes : List ℕ) (l : Lexeme) (n : ℕ) : Type 0 where
   pub ends : goes_on l (slice_index bytes n) ≡ false
 
 -- the same for a token as the code has it
-pub record BeginsKind (bytes : List ℕ) (kind : Kind) (n : ℕ) : Type 0 where
+pub record BeginsKind (bytes : List ℕ) (kind : TokenKind) (n : ℕ) : Type 0 where
   pub lexeme : Lexeme
   pub same : kind_of lexeme ≡ kind
   pub begins : BeginsLexeme bytes lexeme n
@@ -216,7 +216,7 @@ unfoldable pub unquoted : List ℕ → List ℕ
 unquoted quoted = undoubled false (take (length quoted - 2) (drop 1 quoted))
 
 -- what a token of this kind says, of which these are the bytes
-abbrev pub lexeme_of : Kind → List ℕ → Lexeme
+abbrev pub lexeme_of : TokenKind → List ℕ → Lexeme
 lexeme_of (kinds.Keyword k) bytes = Key k
 lexeme_of (kinds.Name n) bytes = Named n
 lexeme_of (kinds.Number z) bytes = Number z

@@ -8,7 +8,7 @@ use crate::fault::{Code, Fault, ReadFault};
 use crate::mark::mark;
 use crate::number::number;
 use crate::text::text;
-use crate::token::{Kind, Token};
+use crate::token::{Token, TokenKind};
 use crate::word::word;
 use std::alloc::Global;
 
@@ -32,7 +32,7 @@ fn starts_number(bytes: &[u8]) -> bool
     first.is_ascii_digit() || (first == b'-' && byte_at(bytes, 1).is_ascii_digit())
 }
 
-fn first_token(bytes: &[u8]) -> Result<(Kind, usize), Fault>
+fn first_token(bytes: &[u8]) -> Result<(TokenKind, usize), Fault>
     requires some { 0 < length bytes.now }
     requires short { length bytes.now ≤ 4096 }
     requires no_blank { is_blank (slice_index bytes.now 0) ≡ false }
@@ -51,7 +51,7 @@ fn first_token(bytes: &[u8]) -> Result<(Kind, usize), Fault>
         return text(bytes);
     }
     match mark(bytes) {
-        Some(mark) => Ok((Kind::Mark(mark), mark.text().len())),
+        Some(mark) => Ok((TokenKind::Mark(mark), mark.text().len())),
         None => Err(Fault {
             code: Code::BadByte,
             offset: 0,

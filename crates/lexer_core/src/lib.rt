@@ -42,5 +42,5 @@ pub use fault::{Code, ReadFault};
 pub use laws::{one_fault, one_list_of_tokens, one_reading, reading_or_fault, said_or_faulty};
 pub use lexer::{MAX_LINE, is_blank, tokens};
 pub use text::unquoted;
-pub use token::{Kind, Mark, Token};
+pub use token::{Mark, Token, TokenKind};
 pub use word::word_len;

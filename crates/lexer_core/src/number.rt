@@ -8,7 +8,7 @@ ghost use Rattle.lexer_core.specs.Lexing.{BeginsKind, FailsWith, IsNumber, IsToo
 
 use crate::bytes::byte_at;
 use crate::fault::{Code, Fault};
-use crate::token::Kind;
+use crate::token::TokenKind;
 use base_core::is_word_byte;
 
 fn digits_len(bytes: &[u8]) -> usize
@@ -52,7 +52,7 @@ fn value(spelled: &[u8]) -> Option<i64>
 }
 
 /// The number that stands first.
-pub fn number(bytes: &[u8]) -> Result<(Kind, usize), Fault>
+pub fn number(bytes: &[u8]) -> Result<(TokenKind, usize), Fault>
     requires { starts_number bytes.now ≡ true }
     ensures fault_within { IfErr result (λ f. f.offset < length bytes.now) }
     ensures first { MatchResult result (λ t. BeginsKind bytes.now t.0 t.1)
@@ -66,7 +66,7 @@ pub fn number(bytes: &[u8]) -> Result<(Kind, usize), Fault>
         });
     }
     match value(&bytes[..len]) {
-        Some(number) => Ok((Kind::Number(number), len)),
+        Some(number) => Ok((TokenKind::Number(number), len)),
         None => Err(Fault {
             code: Code::BadNumber,
             offset: 0,

@@ -8,7 +8,7 @@ ghost use Rattle.lexer_core.specs.Lexing.{BeginsKind, FailsWith, IsSomeText, unq
 
 use crate::bytes::byte_at;
 use crate::fault::{Code, Fault};
-use crate::token::Kind;
+use crate::token::TokenKind;
 use base_core::Text;
 use std::alloc::{AllocError, Global};
 
@@ -45,7 +45,7 @@ fn plain_len(bytes: &[u8]) -> Option<usize>
 }
 
 /// The text that stands first.
-pub fn text(bytes: &[u8]) -> Result<(Kind, usize), Fault>
+pub fn text(bytes: &[u8]) -> Result<(TokenKind, usize), Fault>
     requires quote { slice_index bytes.now 0 ≡ 39 }
     requires short { length bytes.now ≤ 4096 }
     ensures fault_within { IfErr result (λ f. f.offset < length bytes.now) }
@@ -70,7 +70,7 @@ pub fn text(bytes: &[u8]) -> Result<(Kind, usize), Fault>
             at += 2;
             size += 1;
         } else if size <= MAX_TEXT {
-            return Ok((Kind::Text, at + 1));
+            return Ok((TokenKind::Text, at + 1));
         } else {
             return Err(Fault {
                 code: Code::TooLong,

@@ -19,7 +19,7 @@ pub enum Mark {
 
 /// What a token is. A text's bytes stay in the line; `unquoted` makes the text of them.
 #[derive(Clone, Copy, PartialEq, Eq)]
-pub enum Kind {
+pub enum TokenKind {
     Keyword(Keyword),
     Name(Name),
     Number(i64),
@@ -30,7 +30,7 @@ pub enum Kind {
 /// A token and its slice of the line, in bytes from 0: from `start` to before `end`.
 #[derive(Clone, Copy, PartialEq, Eq)]
 pub struct Token {
-    pub kind: Kind,
+    pub kind: TokenKind,
     pub start: usize,
     pub end: usize,
 }

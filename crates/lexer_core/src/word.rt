@@ -7,7 +7,7 @@ ghost use Rattle.base_core.specs.Words.{is_word_byte};
 ghost use Rattle.lexer_core.specs.Lexing.{BeginsKind, FailsWith};
 
 use crate::fault::{Code, Fault};
-use crate::token::Kind;
+use crate::token::TokenKind;
 use base_core::{MAX_NAME, Word, is_word_byte};
 
 /// The number of bytes of letters, digits and `_` at the front. Where the first is a letter, they
@@ -20,7 +20,7 @@ pub fn word_len(bytes: &[u8]) -> usize
 }
 
 /// The keyword or the name that stands first.
-pub fn word(bytes: &[u8]) -> Result<(Kind, usize), Fault>
+pub fn word(bytes: &[u8]) -> Result<(TokenKind, usize), Fault>
     requires { is_ascii_alphabetic (slice_index bytes.now 0) ≡ true }
     ensures fault_within { IfErr result (λ f. f.offset < length bytes.now) }
     ensures first { MatchResult result (λ t. BeginsKind bytes.now t.0 t.1)
@@ -34,7 +34,7 @@ pub fn word(bytes: &[u8]) -> Result<(Kind, usize), Fault>
         });
     }
     match Word::read(&bytes[..len]) {
-        Word::Keyword(keyword) => Ok((Kind::Keyword(keyword), len)),
-        Word::Name(name) => Ok((Kind::Name(name), len)),
+        Word::Keyword(keyword) => Ok((TokenKind::Keyword(keyword), len)),
+        Word::Name(name) => Ok((TokenKind::Name(name), len)),
     }
 }

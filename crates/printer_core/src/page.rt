@@ -3,11 +3,12 @@ ghost use Rattle.std.specs.Prelude.{◌≡◌, ◌++◌, ◌∷◌, [], true, fa
 ghost use Rattle.base_core.specs.Words.{text_of};
 ghost use Rattle.lexer_core.specs.Text.{written};
 ghost use Rattle.lexer_core.specs.Lexing.{Key, Named, Number, Text as Quoted, Sign};
-ghost use Rattle.reader_core.specs.Language.{value_says};
+ghost use Rattle.reader_core.specs.Language.{separator_lexeme, value_says};
 ghost use Rattle.printer_core.specs.Printing.{Sheet, Prints, doubled};
 
 use base_core::{Keyword, Name, NoMemory, Text, Value};
 use lexer_core::Mark;
+use reader_core::Separator;
 use std::alloc::{AllocError, Global};
 use std::marker::Model;
 
@@ -92,6 +93,15 @@ impl Page {
         self.text.push_str(mark.text())?;
         self.is_tight = mark == Mark::Open;
         Ok(())
+    }
+
+    pub fn separator(&mut self, separator: Separator) -> Result<(), NoMemory>
+        ensures { OnOk result (Prints (separator_lexeme separator ∷ []) self.old self.new) }
+    {
+        match separator {
+            Separator::Comma => self.mark(Mark::Comma),
+            Separator::And => self.keyword(Keyword::And),
+        }
     }
 
     pub fn name(&mut self, name: Name) -> Result<(), NoMemory>

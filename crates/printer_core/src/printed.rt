@@ -4,7 +4,8 @@ ghost use Rattle.std.specs.List.{flat_map};
 ghost use Rattle.lexer_core.specs.Lexing as lexemes;
 ghost use Rattle.lexer_core.specs.Lexing.{Lexeme};
 ghost use Rattle.lexer_core.specs.declared.token.Mark.TheVariants as marks;
-ghost use Rattle.reader_core.specs.Language.{listed, names_say, columns_say, type_lexeme, comparison_mark, AreNamed, IsSelection};
+ghost use Rattle.reader_core.specs.declared.separator.Separator.{Separator};
+ghost use Rattle.reader_core.specs.Language.{listed, separator_lexeme, names_say, columns_say, type_lexeme, comparison_mark, AreNamed, IsSelection};
 ghost use Rattle.printer_core.specs.Printing.{Prints};
 
 use crate::page::Page;
@@ -13,32 +14,32 @@ use base_core::{
     Value,
 };
 use lexer_core::Mark;
-use reader_core::{MAX_ITEMS, Privilege};
+use reader_core::{MAX_ITEMS, Privilege, Separator};
 
 /// What can stand on a page as an item of a list.
 pub trait Printed: Sized {
     // What stands between two items.
-    ghost separator: { Lexeme };
+    ghost SEPARATOR: { Separator };
     // What an item says, token by token.
     ghost says: { Self → List Lexeme };
     // What the language asks of an item by itself.
     ghost well_formed: { Self → Type 0 } = { λ _. Unit {0} };
 
+    const SEPARATOR: Separator;
+
     fn write(&self, page: &mut Page) -> Result<(), NoMemory>
         ensures written { OnOk result (Prints (Self.says self.now) page.old page.new) }
         ensures well_formed { OnOk result (Self.well_formed self.now) };
-
-    fn write_separator(page: &mut Page) -> Result<(), NoMemory>
-        ensures { OnOk result (Prints (Self.separator ∷ []) page.old page.new) };
 }
 
 fn write_behind<T: Printed>(page: &mut Page, items: &[T]) -> Result<(), NoMemory>
     ensures written { OnOk result
-        (Prints (flat_map (λ x. T.separator ∷ T.says x) items.now) page.old page.new) }
+        (Prints (flat_map (λ x. separator_lexeme T.SEPARATOR ∷ T.says x) items.now)
+        page.old page.new) }
     ensures well_formed { OnOk result (All T.well_formed items.now) }
 {
     for item in items {
-        T::write_separator(page)?;
+        page.separator(T::SEPARATOR)?;
         item.write(page)?;
     }
     Ok(())
@@ -46,7 +47,8 @@ fn write_behind<T: Printed>(page: &mut Page, items: &[T]) -> Result<(), NoMemory
 
 /// The items, with a separator between each two.
 pub fn write_list<T: Printed>(page: &mut Page, items: &[T]) -> Result<(), NoMemory>
-    ensures written { OnOk result (Prints (listed T.separator T.says items.now) page.old page.new) }
+    ensures written { OnOk result
+        (Prints (listed (separator_lexeme T.SEPARATOR) T.says items.now) page.old page.new) }
     ensures well_formed { OnOk result (All T.well_formed items.now) }
 {
     match items {
@@ -60,34 +62,32 @@ pub fn write_list<T: Printed>(page: &mut Page, items: &[T]) -> Result<(), NoMemo
 }
 
 impl Printed for Name {
-    ghost use Rattle.reader_core.specs.Language.{comma_lexeme, name_says};
+    ghost use Rattle.reader_core.specs.declared.separator.Separator.TheVariants as separators;
+    ghost use Rattle.reader_core.specs.Language.{name_says};
 
-    ghost separator = { comma_lexeme };
+    ghost SEPARATOR = { separators.Comma };
+
+    const SEPARATOR: Separator = Separator::Comma;
 
     ghost says = { name_says };
 
     fn write(&self, page: &mut Page) -> Result<(), NoMemory> {
         page.name(*self)
     }
-
-    fn write_separator(page: &mut Page) -> Result<(), NoMemory> {
-        page.mark(Mark::Comma)
-    }
 }
 
 impl Printed for User {
-    ghost use Rattle.reader_core.specs.Language.{comma_lexeme, user_says};
+    ghost use Rattle.reader_core.specs.declared.separator.Separator.TheVariants as separators;
+    ghost use Rattle.reader_core.specs.Language.{user_says};
 
-    ghost separator = { comma_lexeme };
+    ghost SEPARATOR = { separators.Comma };
+
+    const SEPARATOR: Separator = Separator::Comma;
 
     ghost says = { user_says };
 
     fn write(&self, page: &mut Page) -> Result<(), NoMemory> {
         page.name(self.0)
-    }
-
-    fn write_separator(page: &mut Page) -> Result<(), NoMemory> {
-        page.mark(Mark::Comma)
     }
 }
 
@@ -101,9 +101,12 @@ fn type_keyword(ty: ColType) -> Keyword
 }
 
 impl Printed for Column {
-    ghost use Rattle.reader_core.specs.Language.{comma_lexeme, column_says};
+    ghost use Rattle.reader_core.specs.declared.separator.Separator.TheVariants as separators;
+    ghost use Rattle.reader_core.specs.Language.{column_says};
 
-    ghost separator = { comma_lexeme };
+    ghost SEPARATOR = { separators.Comma };
+
+    const SEPARATOR: Separator = Separator::Comma;
 
     ghost says = { column_says };
 
@@ -112,32 +115,30 @@ impl Printed for Column {
         page.keyword(type_keyword(self.ty))?;
         Ok(())
     }
-
-    fn write_separator(page: &mut Page) -> Result<(), NoMemory> {
-        page.mark(Mark::Comma)
-    }
 }
 
 impl Printed for Value {
-    ghost use Rattle.reader_core.specs.Language.{comma_lexeme, value_says};
+    ghost use Rattle.reader_core.specs.declared.separator.Separator.TheVariants as separators;
+    ghost use Rattle.reader_core.specs.Language.{value_says};
 
-    ghost separator = { comma_lexeme };
+    ghost SEPARATOR = { separators.Comma };
+
+    const SEPARATOR: Separator = Separator::Comma;
 
     ghost says = { value_says };
 
     fn write(&self, page: &mut Page) -> Result<(), NoMemory> {
         page.value(self)
     }
-
-    fn write_separator(page: &mut Page) -> Result<(), NoMemory> {
-        page.mark(Mark::Comma)
-    }
 }
 
 impl Printed for Assignment {
-    ghost use Rattle.reader_core.specs.Language.{comma_lexeme, set_says};
+    ghost use Rattle.reader_core.specs.declared.separator.Separator.TheVariants as separators;
+    ghost use Rattle.reader_core.specs.Language.{set_says};
 
-    ghost separator = { comma_lexeme };
+    ghost SEPARATOR = { separators.Comma };
+
+    const SEPARATOR: Separator = Separator::Comma;
 
     ghost says = { set_says };
 
@@ -146,10 +147,6 @@ impl Printed for Assignment {
         page.mark(Mark::Equal)?;
         page.value(&self.value)?;
         Ok(())
-    }
-
-    fn write_separator(page: &mut Page) -> Result<(), NoMemory> {
-        page.mark(Mark::Comma)
     }
 }
 
@@ -167,11 +164,12 @@ fn comparison_mark(comparison: Comparison) -> Mark
 }
 
 impl Printed for Condition {
-    ghost use Rattle.lexer_core.specs.Lexing as lexemes;
-    ghost use Rattle.base_core.specs.declared.keyword.Keyword.TheVariants as keywords;
+    ghost use Rattle.reader_core.specs.declared.separator.Separator.TheVariants as separators;
     ghost use Rattle.reader_core.specs.Language.{condition_says};
 
-    ghost separator = { lexemes.Key keywords.And };
+    ghost SEPARATOR = { separators.And };
+
+    const SEPARATOR: Separator = Separator::And;
 
     ghost says = { condition_says };
 
@@ -180,10 +178,6 @@ impl Printed for Condition {
         page.mark(comparison_mark(self.comparison))?;
         page.value(&self.literal)?;
         Ok(())
-    }
-
-    fn write_separator(page: &mut Page) -> Result<(), NoMemory> {
-        page.keyword(Keyword::And)
     }
 }
 
@@ -214,9 +208,12 @@ fn write_columns(
 }
 
 impl Printed for Privilege {
-    ghost use Rattle.reader_core.specs.Language.{comma_lexeme, privilege_says, IsWellFormedPrivilege};
+    ghost use Rattle.reader_core.specs.declared.separator.Separator.TheVariants as separators;
+    ghost use Rattle.reader_core.specs.Language.{privilege_says, IsWellFormedPrivilege};
 
-    ghost separator = { comma_lexeme };
+    ghost SEPARATOR = { separators.Comma };
+
+    const SEPARATOR: Separator = Separator::Comma;
 
     ghost says = { privilege_says };
 
@@ -233,9 +230,5 @@ impl Printed for Privilege {
                 Ok(())
             }
         }
-    }
-
-    fn write_separator(page: &mut Page) -> Result<(), NoMemory> {
-        page.mark(Mark::Comma)
     }
 }

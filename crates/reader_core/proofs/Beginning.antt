@@ -3,8 +3,8 @@ use Rattle.std.proofs.Common.{◌≡◌, List, [], ◌∷◌, length, Bool, true
 use Rattle.base_core.specs.declared.keyword.Keyword.{Keyword}
 use Rattle.base_core.specs.declared.keyword.Keyword.TheVariants as keywords
 use Rattle.lexer_core.specs.Lexing.{Lexeme}
-use Rattle.lexer_core.specs.declared.token.Kind.{Kind}
-use Rattle.lexer_core.specs.declared.token.Kind.TheVariants as kinds
+use Rattle.lexer_core.specs.declared.token.TokenKind.{TokenKind}
+use Rattle.lexer_core.specs.declared.token.TokenKind.TheVariants as kinds
 use Rattle.lexer_core.specs.declared.token.Token as tokens
 use Rattle.lexer_core.specs.declared.fault.ReadFault.{ReadFault}
 use Rattle.lexer_core.specs.declared.fault.ReadFault.TheVariants as faults
@@ -18,7 +18,7 @@ use Rattle.reader_core.proofs.Theory.{first_fault_nil, first_fault_none, first_f
 use Rattle.reader_core.proofs.Taking.{at_line}
 
 -- two grammars that go on alike with the next token
-same_fault : (at : Cursor) (g h : Grammar) (t : Kind) → next_kind at ≡ Some t → step g t ≡ step h t → can_end g ≡ can_end h → fault_left g at ≡ fault_left h at
+same_fault : (at : Cursor) (g h : Grammar) (t : TokenKind) → next_kind at ≡ Some t → step g t ≡ step h t → can_end g ≡ can_end h → fault_left g at ≡ fault_left h at
 same_fault at g h t next same ends = go at.rest next
   where
     go : (ts : List tokens.Token) → next_kind (at_line at.line ts) ≡ Some t → first_fault (length at.line) g ts ≡ first_fault (length at.line) h ts
@@ -44,17 +44,17 @@ begun {V} a says r old new first k same ends peek is read = go r read
     go (Err e) f = record { fault = λ ne g. fault g ∙ f.fault ne g }
 
 -- none was
-no_step : (old : Cursor) (e : ReadFault) → ((t : Kind) (g : Grammar) → next_kind old ≡ Some t → step (body g) t ≡ None) → e ≡ faults.At codes.Expected (offset_at old) → Faults body e old
+no_step : (old : Cursor) (e : ReadFault) → ((t : TokenKind) (g : Grammar) → next_kind old ≡ Some t → step (body g) t ≡ None) → e ≡ faults.At codes.Expected (offset_at old) → Faults body e old
 no_step old e none is = record { fault = λ ne g. go g old.rest (λ t. none t g) ∙ sym (ap fault_of is) }
   where
-    go : (g : Grammar) (ts : List tokens.Token) → ((t : Kind) → next_kind (at_line old.line ts) ≡ Some t → step (body g) t ≡ None) → fault_left (body g) (at_line old.line ts) ≡ Some (codes.Expected, offset_at (at_line old.line ts))
+    go : (g : Grammar) (ts : List tokens.Token) → ((t : TokenKind) → next_kind (at_line old.line ts) ≡ Some t → step (body g) t ≡ None) → fault_left (body g) (at_line old.line ts) ≡ Some (codes.Expected, offset_at (at_line old.line ts))
     go g [] n = first_fault_nil (length old.line) (body g)
     go g (t ∷ ts) n = first_fault_none (length old.line) (body g) t ts (n t.kind refl)
 
 pub no_keyword : (old : Cursor) (e : ReadFault) → (◌≡◌ {A = Result Keyword ReadFault} (Err e) (Err (faults.At codes.Expected (offset_at old)))) × (next_is_keyword old ≡ false) → Faults body e old
 no_keyword old e p = let h = p.0 in let is : e ≡ faults.At codes.Expected (offset_at old) = cc in no_step old e (λ t g q. go old.rest t g p.1 q) is
   where
-    go : (ts : List tokens.Token) (t : Kind) (g : Grammar) → next_is_keyword (at_line old.line ts) ≡ false → next_kind (at_line old.line ts) ≡ Some t → step (body g) t ≡ None
+    go : (ts : List tokens.Token) (t : TokenKind) (g : Grammar) → next_is_keyword (at_line old.line ts) ≡ false → next_kind (at_line old.line ts) ≡ Some t → step (body g) t ≡ None
     go [] t g n q = cc
     go (u ∷ us) (kinds.Keyword k) g n q = let is : u.kind ≡ kinds.Keyword k = cc in (let no : true ≡ false = sym (ap is_any_keyword is) ∙ n in cc)
     go (u ∷ us) _ g n q = refl
@@ -88,5 +88,5 @@ other_step _ g o = refl
 pub other_keyword : (old : Cursor) (e : ReadFault) (k : Keyword) → next_kind old ≡ Some (kinds.Keyword k) → IsOther k → e ≡ faults.At codes.Expected (offset_at old) → Faults body e old
 other_keyword old e k next o is = no_step old e (λ t g q. go t g (sym q ∙ next)) is
   where
-    go : (t : Kind) (g : Grammar) → Some t ≡ Some (kinds.Keyword k) → step (body g) t ≡ None
+    go : (t : TokenKind) (g : Grammar) → Some t ≡ Some (kinds.Keyword k) → step (body g) t ≡ None
     go t g q = let same : t ≡ kinds.Keyword k = cc in ap (step (body g)) same ∙ other_step k g o

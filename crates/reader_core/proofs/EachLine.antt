@@ -1,7 +1,7 @@
 -- Each line spells a statement or has a fault.
 use Rattle.std.proofs.Common.{◌≡◌, ◌⊎◌, ℕ, List, [], ◌∷◌, map, length, Option, Some, None, sym, subst, refl, inl, inr}
 use Rattle.lexer_core.specs.Lexing.{Lexeme, Says, AreTokens}
-use Rattle.lexer_core.specs.declared.token.Kind.{Kind}
+use Rattle.lexer_core.specs.declared.token.TokenKind.{TokenKind}
 use Rattle.lexer_core.specs.declared.token.Token as tokens
 use Rattle.lexer_core.specs.declared.fault.Code.{Code}
 use Rattle.lexer_core.specs.declared.fault.Code.TheVariants as codes
@@ -23,7 +23,7 @@ module _ (line : List ℕ) where
   spelled : (said : List Lexeme) → (says : Says line said) → IsWhole statement (map (λ t. t.kind) says.tokens_of) → StatementOrFault
   spelled said says whole =
       let kinds = lexed_kinds line (length line) says.tokens_of said says.lexed in
-      let s = whole_said said (proper_lexed line (length line) says.tokens_of said says.lexed) (subst (λ (ks : List Kind). IsWhole statement ks) kinds whole) in
+      let s = whole_said said (proper_lexed line (length line) says.tokens_of said says.lexed) (subst (λ (ks : List TokenKind). IsWhole statement ks) kinds whole) in
       inl (s.0, record { said = said; says = says; statement_of = s.1; well_formed = s.2 })
 
   fault_left : (said : List Lexeme) → (says : Says line said) → (ts : List tokens.Token) → says.tokens_of ≡ ts → AreTokens line ts → StatementOrFault

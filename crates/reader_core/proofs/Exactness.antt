@@ -2,7 +2,7 @@
 use Rattle.std.proofs.Common.{◌≡◌, ℕ, Bool, List, [], ◌∷◌, ◌++◌, map, length, Some, None, Result, Ok, Err, IfOk, IfErr, ap, sym, subst, ◌∙◌, refl, inl, inr}
 use Rattle.std.proofs.lemmas.List.{map-append}
 use Rattle.lexer_core.specs.Lexing.{Lexeme, Says, AreTokens, IsLineFault, Lexed, start, blank, token, kind_of}
-use Rattle.lexer_core.specs.declared.token.Kind.{Kind}
+use Rattle.lexer_core.specs.declared.token.TokenKind.{TokenKind}
 use Rattle.lexer_core.specs.declared.token.Token as tokens
 use Rattle.lexer_core.specs.declared.fault.Code.{Code}
 use Rattle.lexer_core.specs.declared.fault.ReadFault.{ReadFault}
@@ -62,7 +62,7 @@ spelled_no_fault line s _ _ p (nothing a) = nothing_said line s p.said p.says p.
 spelled_no_fault line s _ _ p (ungrammatical {code} {offset} {t} {ts} a f) =
     let same : p.says.tokens_of ≡ t ∷ ts = one_list_of_tokens line p.says.tokens_of (t ∷ ts) (tokens_of line p.said p.says) a in
     let kinds : map kind_of p.said ≡ map (λ x. x.kind) (t ∷ ts) = sym (lexed_kinds line (length line) p.says.tokens_of p.said p.says.lexed) ∙ ap (map (λ x. x.kind)) same in
-    let whole = subst (λ (ks : List Kind). IsWhole statement ks) kinds (says_whole p.said s p.well_formed p.statement_of) in
+    let whole = subst (λ (ks : List TokenKind). IsWhole statement ks) kinds (says_whole p.said s p.well_formed p.statement_of) in
     no_fault (code, offset) (sym (first_fault_from_whole statement (length line) (t ∷ ts) sound whole) ∙ first_fault_from_fault statement (length line) (t ∷ ts) (code, offset) sound f)
 
 abbrev Agree : Code → ℕ → Code → ℕ → Type 0

@@ -7,8 +7,8 @@ use Rattle.std.proofs.lemmas.Bool.{and_parts, and_from}
 use Rattle.std.proofs.lemmas.Bool.Decides.{nat_tests}
 use Rattle.base_core.specs.Words.{same_name}
 use Rattle.base_core.specs.Distinct.{are_distinct}
-use Rattle.lexer_core.specs.declared.token.Kind.{Kind}
-use Rattle.lexer_core.specs.declared.token.Kind.TheVariants as kinds
+use Rattle.lexer_core.specs.declared.token.TokenKind.{TokenKind}
+use Rattle.lexer_core.specs.declared.token.TokenKind.TheVariants as kinds
 use Rattle.lexer_core.specs.declared.fault.Code.{Code}
 use Rattle.lexer_core.specs.declared.fault.Code.TheVariants as codes
 use Rattle.reader_core.specs.Grammar.{Rule, repeated_or_too_many, same}
@@ -34,19 +34,19 @@ mark_none repeated count limit e h =
     ap (λ b. if b then Some codes.Duplicate else if nat_le limit count then Some codes.TooMany else None) e ∙ ap (λ b. if b then Some codes.TooMany else None) room
 
 -- ---- how many
-pub fine_few : (r : Rule) (seen ks : List Kind) → AreFaultless r seen ks → length seen ≤ r.limit → length seen + length ks ≤ r.limit
+pub fine_few : (r : Rule) (seen ks : List TokenKind) → AreFaultless r seen ks → length seen ≤ r.limit → length seen + length ks ≤ r.limit
 fine_few r seen [] f h = omega arith
 fine_few r seen (k ∷ ks) f h =
     let m = unmarked (r.distinct && list_any (λ x. same x k) seen) (length seen) r.limit f.0 in
     let more = fine_few r (seen ++ k ∷ []) ks f.1 (omega (arith, m.1, length-append seen (k ∷ []))) in
     omega (arith, more, length-append seen (k ∷ []))
 
-few_fine : (r : Rule) → r.distinct ≡ false → (seen ks : List Kind) → length seen + length ks ≤ r.limit → AreFaultless r seen ks
+few_fine : (r : Rule) → r.distinct ≡ false → (seen ks : List TokenKind) → length seen + length ks ≤ r.limit → AreFaultless r seen ks
 few_fine r any seen [] h = tt
 few_fine r any seen (k ∷ ks) h = (mark_none (r.distinct && list_any (λ x. same x k) seen) (length seen) r.limit (ap (λ b. b && list_any (λ x. same x k) seen) any) (omega arith), few_fine r any (seen ++ k ∷ []) ks (omega (arith, length-append seen (k ∷ []))))
 
 -- items that may repeat
-pub fine_if_few : {A : Type 0} (r : Rule) (first : A → Kind) (xs : List A) → r.distinct ≡ false → length xs ≤ r.limit → AreFaultless r [] (map first xs)
+pub fine_if_few : {A : Type 0} (r : Rule) (first : A → TokenKind) (xs : List A) → r.distinct ≡ false → length xs ≤ r.limit → AreFaultless r [] (map first xs)
 fine_if_few r first xs any h = few_fine r any [] (map first xs) (omega (arith, length-map xs first))
 
 -- ---- different items, as a test tells them apart
@@ -92,12 +92,12 @@ module _ {A : Type 0} (same_item : A → A → Bool) where
   apart_push : (ones : List A) (n : A) (others : List A) → are_apart same_item (ones ++ n ∷ []) others ≡ (are_apart same_item ones others && (not (list_any (same_item n) others) && true))
   apart_push ones n others = list_all-append (λ x. not (list_any (same_item x) others)) ones (n ∷ [])
 
-firsts_push : {A : Type 0} (first : A → Kind) (xs : List A) (n : A) → map first (xs ++ n ∷ []) ≡ map first xs ++ first n ∷ []
+firsts_push : {A : Type 0} (first : A → TokenKind) (xs : List A) (n : A) → map first (xs ++ n ∷ []) ≡ map first xs ++ first n ∷ []
 firsts_push first [] n = refl
 firsts_push first (x ∷ xs) n = ap (λ ks. first x ∷ ks) (firsts_push first xs n)
 
 -- items that their first tokens tell apart
-module _ {A : Type 0} (same_item : A → A → Bool) (first : A → Kind) (tells : (x y : A) → same (first x) (first y) ≡ same_item x y) (limit : ℕ) where
+module _ {A : Type 0} (same_item : A → A → Bool) (first : A → TokenKind) (tells : (x y : A) → same (first x) (first y) ≡ same_item x y) (limit : ℕ) where
   any_first : (xs : List A) (n : A) → list_any (λ k. same k (first n)) (map first xs) ≡ list_any (λ x. same_item x n) xs
   any_first [] n = refl
   any_first (x ∷ xs) n = ap (λ b. b || list_any (λ k. same k (first n)) (map first xs)) (tells x n) ∙ ap (λ b. same_item x n || b) (any_first xs n)
@@ -106,7 +106,7 @@ module _ {A : Type 0} (same_item : A → A → Bool) (first : A → Kind) (tells
   fine_apart seen [] f = (refl, apart_nil same_item seen)
   fine_apart seen (n ∷ xs) f =
       let m = unmarked (list_any (λ k. same k (first n)) (map first seen)) (length (map first seen)) limit f.0 in
-      let more = fine_apart (seen ++ n ∷ []) xs (subst (λ (ks : List Kind). AreFaultless (comma_separated limit true) ks (map first xs)) (sym (firsts_push first seen n)) f.1) in
+      let more = fine_apart (seen ++ n ∷ []) xs (subst (λ (ks : List TokenKind). AreFaultless (comma_separated limit true) ks (map first xs)) (sym (firsts_push first seen n)) f.1) in
       let q = and_parts (are_apart same_item seen xs) (not (list_any (same_item n) xs) && true) (sym (apart_push same_item seen n xs) ∙ more.1) in
       let new = and_parts (not (list_any (same_item n) xs)) true q.1 in
       (and_from (not (list_any (same_item n) xs)) (differ same_item xs) new.0 more.0, apart_more same_item seen n xs (sym (any_first seen n) ∙ m.0) q.0)
@@ -118,7 +118,7 @@ module _ {A : Type 0} (same_item : A → A → Bool) (first : A → Kind) (tells
       let q = apart_less same_item seen n xs a in
       let count : length (map first seen) ≡ length seen = length-map seen first in (
         mark_none (list_any (λ k. same k (first n)) (map first seen)) (length (map first seen)) limit (any_first seen n ∙ q.0) (omega arith),
-        subst (λ (ks : List Kind). AreFaultless (comma_separated limit true) ks (map first xs)) (firsts_push first seen n)
+        subst (λ (ks : List TokenKind). AreFaultless (comma_separated limit true) ks (map first xs)) (firsts_push first seen n)
             (apart_fine (seen ++ n ∷ []) xs (omega (arith, length-append seen (n ∷ []))) p.1
             (apart_push same_item seen n xs ∙ and_from (are_apart same_item seen xs) (not (list_any (same_item n) xs) && true) q.1 (and_from (not (list_any (same_item n) xs)) true p.0 refl))),
       )
@@ -145,7 +145,7 @@ pub fine_if_distinct : {A : Type 0} (limit : ℕ) (name_of : A → List ℕ) (xs
 fine_if_distinct limit name_of xs h d = fine_if_differ (λ x y. same_name (name_of x) (name_of y)) (λ x. kinds.Name (name_of x)) (λ x y. refl) limit xs h (sym (distinct_is name_of xs) ∙ d)
 
 -- ---- privileges by their words
-abbrev word_kind : Privilege → Kind
+abbrev word_kind : Privilege → TokenKind
 word_kind p = kinds.Keyword (word_keyword (word_of p))
 
 different_is : (ps : List Privilege) → are_different ps ≡ differ same_word ps
@@ -159,5 +159,5 @@ pub fine_if_different : (ps : List Privilege) → length ps ≤ 4 → are_differ
 fine_if_different ps h d = fine_if_differ same_word word_kind (λ x y. refl) 4 ps h (sym (different_is ps) ∙ d)
 
 -- as many as the rule allows
-pub few_if_fine : {A : Type 0} (r : Rule) (first : A → Kind) (xs : List A) → AreFaultless r [] (map first xs) → length xs ≤ r.limit
+pub few_if_fine : {A : Type 0} (r : Rule) (first : A → TokenKind) (xs : List A) → AreFaultless r [] (map first xs) → length xs ≤ r.limit
 few_if_fine r first xs f = let h = fine_few r [] (map first xs) f (omega arith) in omega (arith, h, length-map xs first)

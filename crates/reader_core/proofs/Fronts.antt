@@ -15,8 +15,8 @@ use Rattle.base_core.specs.declared.condition.Comparison.{Comparison}
 use Rattle.base_core.specs.declared.condition.Comparison.TheVariants as comparisons
 use Rattle.lexer_core.specs.Lexing.{Lexeme, kind_of}
 use Rattle.lexer_core.specs.Lexing as lexemes
-use Rattle.lexer_core.specs.declared.token.Kind.{Kind}
-use Rattle.lexer_core.specs.declared.token.Kind.TheVariants as kinds
+use Rattle.lexer_core.specs.declared.token.TokenKind.{TokenKind}
+use Rattle.lexer_core.specs.declared.token.TokenKind.TheVariants as kinds
 use Rattle.lexer_core.specs.declared.token.Mark.{Mark}
 use Rattle.lexer_core.specs.declared.token.Mark.TheVariants as marks
 use Rattle.lexer_core.specs.declared.fault.Code.{Code}
@@ -114,7 +114,7 @@ least_only (lexemes.Text t) f = cc
 least_only (lexemes.Sign m) f = cc
 
 -- ---- one token
-one_back : {c : Class} {g : Grammar} {t : Kind} {w : Option Code} {ss : List TokenWithFault} → Matches (One c g) (record { kind = t; wrong = w } ∷ ss) → (fits c t ≡ true) × Matches g ss
+one_back : {c : Class} {g : Grammar} {t : TokenKind} {w : Option Code} {ss : List TokenWithFault} → Matches (One c g) (record { kind = t; wrong = w } ∷ ss) → (fits c t ≡ true) × Matches g ss
 one_back (one f m) = (f, m)
 
 no_one : {c : Class} {g : Grammar} → Matches (One c g) [] → ⊥
@@ -162,7 +162,7 @@ pub least_front : (g : Grammar) (said : List Lexeme) → Matches (One AtLeastOne
 least_front g said m = token_front AtLeastOne (λ n. lexemes.Number (pos n)) (λ n. 1 ≤ n) least_only g said m
 
 -- ---- a choice
-case_back : {c : Class} {a b : Grammar} {t : Kind} {w : Option Code} {ss : List TokenWithFault} → Matches (Case c a b) (record { kind = t; wrong = w } ∷ ss) → ((fits c t ≡ true) × Matches a ss) ⊎ Matches b (record { kind = t; wrong = w } ∷ ss)
+case_back : {c : Class} {a b : Grammar} {t : TokenKind} {w : Option Code} {ss : List TokenWithFault} → Matches (Case c a b) (record { kind = t; wrong = w } ∷ ss) → ((fits c t ≡ true) × Matches a ss) ⊎ Matches b (record { kind = t; wrong = w } ∷ ss)
 case_back (this f m) = inl (f, m)
 case_back (other n m) = inr m
 
@@ -178,28 +178,28 @@ case_front c l a b (x ∷ rest) only m = elim (case_back m) [
 ]
 
 -- ---- lists
-item_back : {r : Rule} {s : List Kind} {i g : Grammar} {t : Kind} {w : Option Code} {ss : List TokenWithFault} → Matches (Items r s i g) (record { kind = t; wrong = w } ∷ ss) → (item_fault r s t ≡ w) × Matches (followed_by i (More r (s ++ t ∷ []) i g)) (faultless t ∷ ss)
+item_back : {r : Rule} {s : List TokenKind} {i g : Grammar} {t : TokenKind} {w : Option Code} {ss : List TokenWithFault} → Matches (Items r s i g) (record { kind = t; wrong = w } ∷ ss) → (item_fault r s t ≡ w) × Matches (followed_by i (More r (s ++ t ∷ []) i g)) (faultless t ∷ ss)
 item_back (item m) = (refl, m)
 
-no_item : {r : Rule} {s : List Kind} {i g : Grammar} → Matches (Items r s i g) [] → ⊥
+no_item : {r : Rule} {s : List TokenKind} {i g : Grammar} → Matches (Items r s i g) [] → ⊥
 no_item m = elim m [ ]
 
-more_back : {r : Rule} {s : List Kind} {i g : Grammar} {t : Kind} {w : Option Code} {ss : List TokenWithFault} → Matches (More r s i g) (record { kind = t; wrong = w } ∷ ss) → ((fits r.separator t ≡ true) × Matches (Items r s i g) ss) ⊎ Matches g (record { kind = t; wrong = w } ∷ ss)
+more_back : {r : Rule} {s : List TokenKind} {i g : Grammar} {t : TokenKind} {w : Option Code} {ss : List TokenWithFault} → Matches (More r s i g) (record { kind = t; wrong = w } ∷ ss) → ((fits r.separator t ≡ true) × Matches (Items r s i g) ss) ⊎ Matches g (record { kind = t; wrong = w } ∷ ss)
 more_back (next f m) = inl (f, m)
 more_back (last n m) = inr m
 
-more_end : {r : Rule} {s : List Kind} {i g : Grammar} → Matches (More r s i g) [] → Matches g []
+more_end : {r : Rule} {s : List TokenKind} {i g : Grammar} → Matches (More r s i g) [] → Matches g []
 more_end (last n m) = m
 
 -- What tells an item of a list by its tokens.
-pub record TellsItem {A : Type 0} (r : Rule) (i : Grammar) (separator : Lexeme) (first : A → Kind) (says : A → List Lexeme) (IsItem : A → Type 0) : Type 0 where
-  pub tail : A → List Kind
+pub record TellsItem {A : Type 0} (r : Rule) (i : Grammar) (separator : Lexeme) (first : A → TokenKind) (says : A → List Lexeme) (IsItem : A → Type 0) : Type 0 where
+  pub tail : A → List TokenKind
   pub begins : (x : A) → map kind_of (says x) ≡ first x ∷ tail x
   pub separates : (l : Lexeme) → fits r.separator (kind_of l) ≡ true → l ≡ separator
   pub one_item : (k : Grammar) (said : List Lexeme) → Matches (followed_by i k) (faultless_all said) → Front says IsItem k said
 
 -- the items of a list, and what is left
-pub record Listed {A : Type 0} (r : Rule) (s : List Kind) (g : Grammar) (first : A → Kind) (texts : List A → List Lexeme) (IsItem : A → Type 0) (said : List Lexeme) : Type 0 where
+pub record Listed {A : Type 0} (r : Rule) (s : List TokenKind) (g : Grammar) (first : A → TokenKind) (texts : List A → List Lexeme) (IsItem : A → Type 0) (said : List Lexeme) : Type 0 where
   pub items : List A
   pub rest : List Lexeme
   pub split : said ≡ texts items ++ rest
@@ -207,7 +207,7 @@ pub record Listed {A : Type 0} (r : Rule) (s : List Kind) (g : Grammar) (first :
   pub free : AreFaultless r s (map first items)
   pub left : Matches g (faultless_all rest)
 
-module _ {A : Type 0} {r : Rule} {i : Grammar} {separator : Lexeme} {first : A → Kind} {says : A → List Lexeme} {IsItem : A → Type 0} (of : TellsItem r i separator first says IsItem) (g : Grammar) where
+module _ {A : Type 0} {r : Rule} {i : Grammar} {separator : Lexeme} {first : A → TokenKind} {says : A → List Lexeme} {IsItem : A → Type 0} (of : TellsItem r i separator first says IsItem) (g : Grammar) where
   abbrev behind : List A → List Lexeme
   behind xs = flat_map (λ y. separator ∷ says y) xs
 
@@ -224,7 +224,7 @@ module _ {A : Type 0} {r : Rule} {i : Grammar} {separator : Lexeme} {first : A �
   shorter x said rest e = omega (arith, ap length e, length-append (says x) rest, ap length (of.begins x), length-map (says x) kind_of)
 
   -- an item, and those further on
-  some_items : (s : List Kind) (said : List Lexeme) → ((s : List Kind) (rest : List Lexeme) → length rest < length said → Matches (More r s i g) (faultless_all rest) → Listed r s g first behind IsItem rest) → Matches (Items r s i g) (faultless_all said) → (t : Listed r s g first (listed separator says) IsItem said) × (0 < length t.items)
+  some_items : (s : List TokenKind) (said : List Lexeme) → ((s : List TokenKind) (rest : List Lexeme) → length rest < length said → Matches (More r s i g) (faultless_all rest) → Listed r s g first behind IsItem rest) → Matches (Items r s i g) (faultless_all said) → (t : Listed r s g first (listed separator says) IsItem said) × (0 < length t.items)
   some_items s [] further m = absurd (no_item m)
   some_items s (l ∷ rest) further m =
       let p = item_back m in
@@ -236,13 +236,13 @@ module _ {A : Type 0} {r : Rule} {i : Grammar} {separator : Lexeme} {first : A �
           rest = more.rest;
           split = and_then (says x.value) (behind more.items) more.rest x.split more.split;
           are = (x.well_formed, more.are);
-          free = (ap (item_fault r s) (sym same) ∙ p.0, subst (λ (t : Kind). AreFaultless r (s ++ t ∷ []) (map first more.items)) same more.free);
+          free = (ap (item_fault r s) (sym same) ∙ p.0, subst (λ (t : TokenKind). AreFaultless r (s ++ t ∷ []) (map first more.items)) same more.free);
           left = more.left;
         },
         omega arith,
       )
 
-  more_items : (fuel : ℕ) (s : List Kind) (said : List Lexeme) → length said ≤ fuel → Matches (More r s i g) (faultless_all said) → Listed r s g first behind IsItem said
+  more_items : (fuel : ℕ) (s : List TokenKind) (said : List Lexeme) → length said ≤ fuel → Matches (More r s i g) (faultless_all said) → Listed r s g first behind IsItem said
   more_items fuel s [] h m = record { items = []; rest = []; split = refl; are = tt; free = tt; left = more_end m }
   more_items zero s (l ∷ said) h m = absurd (omega (arith, h))
   more_items (suc fuel) s (l ∷ said) h m = elim (more_back m) [

@@ -5,7 +5,7 @@ use Rattle.std.proofs.lemmas.List.{append-nil, length-map}
 use Rattle.std.proofs.lemmas.List.Elements.{All-nil, All-cons, All-append}
 use Rattle.std.specs.List.{list_any, flat_map}
 use Rattle.lexer_core.specs.Lexing.{Lexeme, located}
-use Rattle.lexer_core.specs.declared.token.Kind.{Kind}
+use Rattle.lexer_core.specs.declared.token.TokenKind.{TokenKind}
 use Rattle.lexer_core.specs.declared.token.Token as tokens
 use Rattle.lexer_core.specs.declared.fault.ReadFault.{ReadFault}
 use Rattle.lexer_core.specs.declared.fault.ReadFault.TheVariants as faults
@@ -18,18 +18,18 @@ use Rattle.reader_core.specs.Language.{listed}
 use Rattle.reader_core.proofs.Theory.{first_fault_nil, first_fault_none, first_fault_some}
 use Rattle.reader_core.proofs.Taking.{says_taken, at_line}
 
-step_item : (r : Rule) (s : List Kind) (c : Class) (i k : Grammar) (x y : Kind) (m : Option Code) → y ≡ x → fits c x ≡ true → item_fault r s x ≡ m → step (Items r s (One c i) k) y ≡ Some (m, followed_by i (More r (s ++ x ∷ []) (One c i) k))
+step_item : (r : Rule) (s : List TokenKind) (c : Class) (i k : Grammar) (x y : TokenKind) (m : Option Code) → y ≡ x → fits c x ≡ true → item_fault r s x ≡ m → step (Items r s (One c i) k) y ≡ Some (m, followed_by i (More r (s ++ x ∷ []) (One c i) k))
 step_item r s c i k x y m e f h =
     ap (λ z. step (Items r s (One c i) k) z) e
     ∙ ap (λ b. with_fault (item_fault r s x) (if b then Some (followed_by i (More r (s ++ x ∷ []) (One c i) k)) else None)) f
     ∙ ap (λ z. with_fault z (Some (followed_by i (More r (s ++ x ∷ []) (One c i) k)))) h
 
-step_misfit : (r : Rule) (s : List Kind) (c : Class) (i k : Grammar) (y : Kind) → fits c y ≡ false → step (Items r s (One c i) k) y ≡ None
+step_misfit : (r : Rule) (s : List TokenKind) (c : Class) (i k : Grammar) (y : TokenKind) → fits c y ≡ false → step (Items r s (One c i) k) y ≡ None
 step_misfit r s c i k y f = ap (λ b. with_fault (item_fault r s y) (if b then Some (followed_by i (More r (s ++ y ∷ []) (One c i) k)) else None)) f
 
 -- ---- the first token of an item
-module _ (at : Cursor) (r : Rule) (s : List Kind) (c : Class) (i k : Grammar) where
-  pub item_bad : (x : Kind) (code : Code) → next_kind at ≡ Some x → fits c x ≡ true → item_fault r s x ≡ Some code → fault_left (Items r s (One c i) k) at ≡ Some (code, offset_at at)
+module _ (at : Cursor) (r : Rule) (s : List TokenKind) (c : Class) (i k : Grammar) where
+  pub item_bad : (x : TokenKind) (code : Code) → next_kind at ≡ Some x → fits c x ≡ true → item_fault r s x ≡ Some code → fault_left (Items r s (One c i) k) at ≡ Some (code, offset_at at)
   item_bad x code is f m = go at.rest is
     where
       go : (ts : List tokens.Token) → next_kind (at_line at.line ts) ≡ Some x → fault_left (Items r s (One c i) k) (at_line at.line ts) ≡ Some (code, offset_at (at_line at.line ts))
@@ -43,14 +43,14 @@ module _ (at : Cursor) (r : Rule) (s : List Kind) (c : Class) (i k : Grammar) wh
       go [] e = first_fault_nil (length at.line) (Items r s (One c i) k)
       go (t ∷ ts) e = first_fault_none (length at.line) _ t ts (step_misfit r s c i k t.kind e)
 
-pub item_misfit_at : (old : Cursor) (r : Rule) (s : List Kind) (c : Class) (i : Grammar) (e : ReadFault) → e ≡ faults.At codes.Expected (offset_at old) → next_is c old ≡ false → Faults (λ k. Items r s (One c i) k) e old
+pub item_misfit_at : (old : Cursor) (r : Rule) (s : List TokenKind) (c : Class) (i : Grammar) (e : ReadFault) → e ≡ faults.At codes.Expected (offset_at old) → next_is c old ≡ false → Faults (λ k. Items r s (One c i) k) e old
 item_misfit_at old r s c i e same h = record { fault = λ ne k. item_misfit old r s c i k h ∙ sym (ap fault_of same) }
 
 -- an item past the limit, where items may repeat
-pub item_bad_at : (old : Cursor) (r : Rule) (s : List Kind) (c : Class) (i : Grammar) (code : Code) (e : ReadFault) → r.distinct ≡ false → next_is c old ≡ true → repeated_or_too_many false (length s) r.limit ≡ Some code → e ≡ faults.At code (offset_at old) → Faults (λ k. Items r s (One c i) k) e old
+pub item_bad_at : (old : Cursor) (r : Rule) (s : List TokenKind) (c : Class) (i : Grammar) (code : Code) (e : ReadFault) → r.distinct ≡ false → next_is c old ≡ true → repeated_or_too_many false (length s) r.limit ≡ Some code → e ≡ faults.At code (offset_at old) → Faults (λ k. Items r s (One c i) k) e old
 item_bad_at old r s c i code e any is m fault = record { fault = λ ne k. go k old.rest is ∙ sym (ap fault_of fault) }
   where
-    at_any : (t : Kind) → item_fault r s t ≡ Some code
+    at_any : (t : TokenKind) → item_fault r s t ≡ Some code
     at_any t = ap (λ b. repeated_or_too_many (b && list_any (λ x. same x t) s) (length s) r.limit) any ∙ m
 
     go : (k : Grammar) (ts : List tokens.Token) → next_is c (at_line old.line ts) ≡ true → fault_left (Items r s (One c i) k) (at_line old.line ts) ≡ Some (code, offset_at (at_line old.line ts))
@@ -58,11 +58,11 @@ item_bad_at old r s c i code e any is m fault = record { fault = λ ne k. go k o
     go k (t ∷ ts) e = first_fault_some (length old.line) _ t ts (Some code) _ (step_item r s c i k t.kind t.kind (Some code) refl e (at_any t.kind))
 
 -- a look at the next token that found none of the class
-pub item_misfit_so : {V : Type 0} (old : Cursor) (r : Rule) (s : List Kind) (c : Class) (i : Grammar) (e : ReadFault) → ◌≡◌ {A = Result V ReadFault} (Err e) (Err (faults.At codes.Expected (offset_at old))) × (next_is c old ≡ false) → Faults (λ k. Items r s (One c i) k) e old
+pub item_misfit_so : {V : Type 0} (old : Cursor) (r : Rule) (s : List TokenKind) (c : Class) (i : Grammar) (e : ReadFault) → ◌≡◌ {A = Result V ReadFault} (Err e) (Err (faults.At codes.Expected (offset_at old))) × (next_is c old ≡ false) → Faults (λ k. Items r s (One c i) k) e old
 item_misfit_so old r s c i e h = let p = h.0 in let same : e ≡ faults.At codes.Expected (offset_at old) = cc in item_misfit_at old r s c i e same h.1
 
 -- the token that begins an item is taken
-pub item_taken : {old new : Cursor} (r : Rule) (s : List Kind) (c : Class) (i : Grammar) (x : Kind) (l : Lexeme) → next_kind old ≡ Some x → next_lexeme old ≡ Some l → fits c x ≡ true → item_fault r s x ≡ None → new.rest ≡ drop 1 old.rest → new.line ≡ old.line → Takes (λ k. Items r s (One c i) k) (λ k. followed_by i (More r (s ++ x ∷ []) (One c i) k)) (l ∷ []) old new
+pub item_taken : {old new : Cursor} (r : Rule) (s : List TokenKind) (c : Class) (i : Grammar) (x : TokenKind) (l : Lexeme) → next_kind old ≡ Some x → next_lexeme old ≡ Some l → fits c x ≡ true → item_fault r s x ≡ None → new.rest ≡ drop 1 old.rest → new.line ≡ old.line → Takes (λ k. Items r s (One c i) k) (λ k. followed_by i (More r (s ++ x ∷ []) (One c i) k)) (l ∷ []) old new
 item_taken {old} {new} r s c i x l is says f m rest line = record {
   says = says_taken old new l says rest line;
   line = line;
@@ -74,11 +74,11 @@ item_taken {old} {new} r s c i x l is says f m rest line = record {
     go k (t ∷ ts) e = first_fault_some (length old.line) _ t ts None _ (step_item r s c i k x t.kind None (cc) f m)
 
 -- ---- behind an item
-more_on : (end : ℕ) (line : List ℕ) (ts : List tokens.Token) (r : Rule) (s : List Kind) (i k : Grammar) → next_is r.separator (at_line line ts) ≡ true → first_fault end (More r s i k) ts ≡ first_fault end (Items r s i k) (drop 1 ts)
+more_on : (end : ℕ) (line : List ℕ) (ts : List tokens.Token) (r : Rule) (s : List TokenKind) (i k : Grammar) → next_is r.separator (at_line line ts) ≡ true → first_fault end (More r s i k) ts ≡ first_fault end (Items r s i k) (drop 1 ts)
 more_on end line [] r s i k e = cc
 more_on end line (t ∷ ts) r s i k e = first_fault_some end _ t ts None (Items r s i k) (ap (λ b. if b then Some (None, Items r s i k) else step k t.kind) e)
 
-more_done : (end : ℕ) (line : List ℕ) (ts : List tokens.Token) (r : Rule) (s : List Kind) (i k : Grammar) → next_is r.separator (at_line line ts) ≡ false → first_fault end (More r s i k) ts ≡ first_fault end k ts
+more_done : (end : ℕ) (line : List ℕ) (ts : List tokens.Token) (r : Rule) (s : List TokenKind) (i k : Grammar) → next_is r.separator (at_line line ts) ≡ false → first_fault end (More r s i k) ts ≡ first_fault end k ts
 unfolding first_fault
 more_done end line [] r s i k e = refl
 more_done end line (t ∷ ts) r s i k e = ap (λ b. elim (if b then Some (None, Items r s i k) else step k t.kind) [ None ↦ Some ((if can_end k then codes.Trailing else codes.Expected), t.start) | Some s ↦ elim s.0 [ None ↦ first_fault end s.1 ts | Some code ↦ Some (code, t.start) ] ]) e
@@ -95,7 +95,7 @@ each_listed separator says [] x = refl
 each_listed separator says (y ∷ ys) x = refl
 
 -- A list in the midst, before an item.
-pub record SoFar {A : Type 0} (r : Rule) (separator : Lexeme) (i : Grammar) (first : A → Kind) (says : A → List Lexeme) (IsItem : A → Type 0) (xs : List A) (old here : Cursor) : Type 0 where
+pub record SoFar {A : Type 0} (r : Rule) (separator : Lexeme) (i : Grammar) (first : A → TokenKind) (says : A → List Lexeme) (IsItem : A → Type 0) (xs : List A) (old here : Cursor) : Type 0 where
   pub line : here.line ≡ old.line
   pub fault : (k : Grammar) → fault_left (Items r [] i k) old ≡ fault_left (Items r (map first xs) i k) here
   pub said : separator ∷ left_says old ≡ behind_each separator says xs ++ separator ∷ left_says here
@@ -103,22 +103,22 @@ pub record SoFar {A : Type 0} (r : Rule) (separator : Lexeme) (i : Grammar) (fir
   pub well_formed : All IsItem xs
 
 -- faultless items, with one more
-fine_push : (r : Rule) (seen ks : List Kind) (k : Kind) → AreFaultless r seen ks → item_fault r (seen ++ ks) k ≡ None → AreFaultless r seen (ks ++ k ∷ [])
-fine_push r seen [] k h m = (subst (λ (s : List Kind). item_fault r s k ≡ None) (append-nil seen) m, tt)
-fine_push r seen (j ∷ ks) k h m = (h.0, fine_push r (seen ++ j ∷ []) ks k h.1 (subst (λ (s : List Kind). item_fault r s k ≡ None) (sym (append_assoc seen (j ∷ []) ks)) m))
+fine_push : (r : Rule) (seen ks : List TokenKind) (k : TokenKind) → AreFaultless r seen ks → item_fault r (seen ++ ks) k ≡ None → AreFaultless r seen (ks ++ k ∷ [])
+fine_push r seen [] k h m = (subst (λ (s : List TokenKind). item_fault r s k ≡ None) (append-nil seen) m, tt)
+fine_push r seen (j ∷ ks) k h m = (h.0, fine_push r (seen ++ j ∷ []) ks k h.1 (subst (λ (s : List TokenKind). item_fault r s k ≡ None) (sym (append_assoc seen (j ∷ []) ks)) m))
 
-pub firsts_push : {A : Type 0} (first : A → Kind) (xs : List A) (x : A) → map first (xs ++ x ∷ []) ≡ map first xs ++ first x ∷ []
+pub firsts_push : {A : Type 0} (first : A → TokenKind) (xs : List A) (x : A) → map first (xs ++ x ∷ []) ≡ map first xs ++ first x ∷ []
 firsts_push first [] x = refl
 firsts_push first (y ∷ xs) x = ap (λ zs. first y ∷ zs) (firsts_push first xs x)
 
-pub firsts_length : {A : Type 0} (first : A → Kind) (xs : List A) → length (map first xs) ≡ length xs
+pub firsts_length : {A : Type 0} (first : A → TokenKind) (xs : List A) → length (map first xs) ≡ length xs
 firsts_length first [] = refl
 firsts_length first (x ∷ xs) = ap suc (firsts_length first xs)
 
-pub nothing_yet : {A : Type 0} (r : Rule) (separator : Lexeme) (i : Grammar) (first : A → Kind) (says : A → List Lexeme) (IsItem : A → Type 0) (xs : List A) (here : Cursor) → xs ≡ [] → SoFar r separator i first says IsItem xs here here
+pub nothing_yet : {A : Type 0} (r : Rule) (separator : Lexeme) (i : Grammar) (first : A → TokenKind) (says : A → List Lexeme) (IsItem : A → Type 0) (xs : List A) (here : Cursor) → xs ≡ [] → SoFar r separator i first says IsItem xs here here
 nothing_yet {A} r separator i first says IsItem xs here e = subst (λ (ys : List A). SoFar r separator i first says IsItem ys here here) (sym e) (record { line = refl; fault = λ k. refl; said = refl; faultless = tt; well_formed = All-nil IsItem })
 
-module _ {A : Type 0} {r : Rule} {separator : Lexeme} {i : Grammar} {first : A → Kind} {says : A → List Lexeme} {IsItem : A → Type 0} {xs : List A} {old here mid : Cursor} (x : A)
+module _ {A : Type 0} {r : Rule} {separator : Lexeme} {i : Grammar} {first : A → TokenKind} {says : A → List Lexeme} {IsItem : A → Type 0} {xs : List A} {old here mid : Cursor} (x : A)
     (so_far : SoFar r separator i first says IsItem xs old here) (t : Takes (λ k. Items r (map first xs) i k) (λ k. More r (map first (xs ++ x ∷ [])) i k) (says x) here mid) (m : item_fault r (map first xs) (first x) ≡ None) (is_item : IsItem x) where
   pub lawful_on : All IsItem (xs ++ x ∷ [])
   lawful_on = All-append IsItem xs (x ∷ []) so_far.well_formed (All-cons IsItem x [] is_item (All-nil IsItem))
@@ -177,6 +177,6 @@ case_no at c a b is = go at.rest is
     go (t ∷ ts) e = ap (λ x. elim (if x then Some (None, a) else step b t.kind) [ None ↦ Some ((if can_end b then codes.Trailing else codes.Expected), t.start) | Some s ↦ elim s.0 [ None ↦ first_fault (length at.line) s.1 ts | Some code ↦ Some (code, t.start) ] ]) e
 
 -- names that stand earlier
-pub any_first : {A : Type 0} (first : A → Kind) (xs : List A) (t : Kind) → list_any (λ x. same x t) (map first xs) ≡ list_any (λ x. same (first x) t) xs
+pub any_first : {A : Type 0} (first : A → TokenKind) (xs : List A) (t : TokenKind) → list_any (λ x. same x t) (map first xs) ≡ list_any (λ x. same (first x) t) xs
 any_first first [] t = refl
 any_first first (x ∷ xs) t = rw (any_first first xs t) refl

@@ -4,7 +4,7 @@ use Rattle.base_core.specs.declared.keyword.Keyword.TheVariants as keywords
 use Rattle.base_core.specs.declared.condition.Condition.{Condition}
 use Rattle.lexer_core.specs.Lexing.{Lexeme, kind_of}
 use Rattle.lexer_core.specs.Lexing as lexemes
-use Rattle.lexer_core.specs.declared.token.Kind.TheVariants as kinds
+use Rattle.lexer_core.specs.declared.token.TokenKind.TheVariants as kinds
 use Rattle.lexer_core.specs.declared.token.Mark.TheVariants as marks
 use Rattle.reader_core.specs.declared.privilege.Privilege.TheVariants as privileges_of
 use Rattle.reader_core.specs.Grammar.{Grammar, One, Items, Key, Sign, AnyName, followed_by}

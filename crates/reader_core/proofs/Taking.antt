@@ -12,8 +12,8 @@ use Rattle.base_core.specs.declared.condition.Comparison.{Comparison}
 use Rattle.base_core.specs.declared.condition.Comparison.TheVariants as comparisons
 use Rattle.lexer_core.specs.Lexing.{Lexeme, AreSpelled, located, lexeme_of, kind_of}
 use Rattle.lexer_core.specs.Lexing as lexemes
-use Rattle.lexer_core.specs.declared.token.Kind.{Kind}
-use Rattle.lexer_core.specs.declared.token.Kind.TheVariants as kinds
+use Rattle.lexer_core.specs.declared.token.TokenKind.{TokenKind}
+use Rattle.lexer_core.specs.declared.token.TokenKind.TheVariants as kinds
 use Rattle.lexer_core.specs.declared.token.Mark.{Mark}
 use Rattle.lexer_core.specs.declared.token.Mark.TheVariants as marks
 use Rattle.lexer_core.specs.declared.token.Token as tokens
@@ -35,7 +35,7 @@ abbrev pub at_line : List ℕ → List tokens.Token → Cursor
 at_line line ts = record { line = line; rest = ts }
 
 -- a token whose kind tells what it says
-pub said_by_kind : (c : Cursor) (k : Kind) (l : Lexeme) → next_kind c ≡ Some k → ((bytes : List ℕ) → lexeme_of k bytes ≡ l) → next_lexeme c ≡ Some l
+pub said_by_kind : (c : Cursor) (k : TokenKind) (l : Lexeme) → next_kind c ≡ Some k → ((bytes : List ℕ) → lexeme_of k bytes ≡ l) → next_lexeme c ≡ Some l
 said_by_kind c k l e says = go c.rest e
   where
     go : (ts : List tokens.Token) → next_kind (at_line c.line ts) ≡ Some k → next_lexeme (at_line c.line ts) ≡ Some l
@@ -43,7 +43,7 @@ said_by_kind c k l e says = go c.rest e
     go (t ∷ ts) e =
         let bytes = take (t.end - t.start) (drop t.start c.line) in
         let is : t.kind ≡ k = cc in
-        ap (λ (x : Kind). Some (lexeme_of x bytes)) is ∙ ap (λ (x : Lexeme). Some x) (says bytes)
+        ap (λ (x : TokenKind). Some (lexeme_of x bytes)) is ∙ ap (λ (x : Lexeme). Some x) (says bytes)
 
 -- behind a token that was taken
 pub says_taken : (old new : Cursor) (l : Lexeme) → next_lexeme old ≡ Some l → new.rest ≡ drop 1 old.rest → new.line ≡ old.line → left_says old ≡ l ∷ left_says new
@@ -138,21 +138,21 @@ numbered_mark marks.LessEqual = refl
 numbered_mark marks.Greater = refl
 numbered_mark marks.GreaterEqual = refl
 
-pub key_fits : (k : Keyword) (t : Kind) → fits (Key k) t ≡ true → t ≡ kinds.Keyword k
+pub key_fits : (k : Keyword) (t : TokenKind) → fits (Key k) t ≡ true → t ≡ kinds.Keyword k
 key_fits k (kinds.Keyword j) e = ap (λ (x : Keyword). kinds.Keyword x) (sym (numbered_keyword j) ∙ ap keyword_at (sym (eqb-true (keyword_number k) (keyword_number j) e)) ∙ numbered_keyword k)
 key_fits k _ e = cc
 
-pub sign_fits : (m : Mark) (t : Kind) → fits (Sign m) t ≡ true → t ≡ kinds.Mark m
+pub sign_fits : (m : Mark) (t : TokenKind) → fits (Sign m) t ≡ true → t ≡ kinds.Mark m
 sign_fits m (kinds.Mark n) e = ap (λ (x : Mark). kinds.Mark x) (sym (numbered_mark n) ∙ ap mark_at (sym (eqb-true (mark_number m) (mark_number n) e)) ∙ numbered_mark m)
 sign_fits m _ e = cc
 
 -- the kind of the next token, where its class has one kind alone
-pub only_kind : (c : Cursor) (class : Class) (k : Kind) → ((t : Kind) → fits class t ≡ true → t ≡ k) → next_is class c ≡ true → next_kind c ≡ Some k
+pub only_kind : (c : Cursor) (class : Class) (k : TokenKind) → ((t : TokenKind) → fits class t ≡ true → t ≡ k) → next_is class c ≡ true → next_kind c ≡ Some k
 only_kind c class k only e = go c.rest e
   where
     go : (ts : List tokens.Token) → next_is class (at_line c.line ts) ≡ true → next_kind (at_line c.line ts) ≡ Some k
     go [] e = cc
-    go (t ∷ ts) e = ap (λ (x : Kind). Some x) (only t.kind e)
+    go (t ∷ ts) e = ap (λ (x : TokenKind). Some x) (only t.kind e)
 
 pub key_said : (c : Cursor) (k : Keyword) → next_is (Key k) c ≡ true → next_lexeme c ≡ Some (lexemes.Key k)
 key_said c k is = said_by_kind c (kinds.Keyword k) (lexemes.Key k) (only_kind c (Key k) (kinds.Keyword k) (key_fits k) is) (λ bytes. refl)
@@ -161,7 +161,7 @@ pub sign_said : (c : Cursor) (m : Mark) → next_is (Sign m) c ≡ true → next
 sign_said c m is = said_by_kind c (kinds.Mark m) (lexemes.Sign m) (only_kind c (Sign m) (kinds.Mark m) (sign_fits m) is) (λ bytes. refl)
 
 -- a token of this kind was taken
-pub kind_taken : (old new : Cursor) (c : Class) (k : Kind) (l : Lexeme) → next_kind old ≡ Some k → fits c k ≡ true → ((bytes : List ℕ) → lexeme_of k bytes ≡ l) → new.rest ≡ drop 1 old.rest → new.line ≡ old.line → Takes (λ g. One c g) (λ g. g) (l ∷ []) old new
+pub kind_taken : (old new : Cursor) (c : Class) (k : TokenKind) (l : Lexeme) → next_kind old ≡ Some k → fits c k ≡ true → ((bytes : List ℕ) → lexeme_of k bytes ≡ l) → new.rest ≡ drop 1 old.rest → new.line ≡ old.line → Takes (λ g. One c g) (λ g. g) (l ∷ []) old new
 kind_taken old new c k l e f says rest line = one_taken old new c l (go old.rest e) (said_by_kind old k l e says) rest line
   where
     go : (ts : List tokens.Token) → next_kind (at_line old.line ts) ≡ Some k → next_is c (at_line old.line ts) ≡ true
@@ -193,14 +193,14 @@ pub missing_so : {V : Type 0} (old : Cursor) (c : Class) (e : ReadFault) → ◌
 missing_so {V} old c e h = let same : e ≡ faults.At codes.Expected (offset_at old) = let p = h.0 in cc in missing old c e h.1 same
 
 -- nothing is left, or something behind the end
-pub none_left : (c : Cursor) (next : Option Kind) → next ≡ next_kind c → is_some next ≡ false → (fault_left End c ≡ None) × (c.rest ≡ [])
+pub none_left : (c : Cursor) (next : Option TokenKind) → next ≡ next_kind c → is_some next ≡ false → (fault_left End c ≡ None) × (c.rest ≡ [])
 none_left c next e none = go c.rest (ap is_some (sym e) ∙ none)
   where
     go : (ts : List tokens.Token) → is_some (next_kind (at_line c.line ts)) ≡ false → (first_fault (length c.line) End ts ≡ None) × (ts ≡ [])
     go [] h = (first_fault_nil (length c.line) End, refl)
     go (t ∷ ts) h = cc
 
-pub some_left : (c : Cursor) (next : Option Kind) → next ≡ next_kind c → is_some next ≡ true → fault_left End c ≡ Some (codes.Trailing, offset_at c)
+pub some_left : (c : Cursor) (next : Option TokenKind) → next ≡ next_kind c → is_some next ≡ true → fault_left End c ≡ Some (codes.Trailing, offset_at c)
 some_left c next e some = go c.rest (ap is_some (sym e) ∙ some)
   where
     go : (ts : List tokens.Token) → is_some (next_kind (at_line c.line ts)) ≡ true → first_fault (length c.line) End ts ≡ Some (codes.Trailing, offset_at (at_line c.line ts))

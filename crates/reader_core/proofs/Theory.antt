@@ -3,8 +3,8 @@ use Rattle.std.proofs.Common.{◌≡◌, ℕ, Bool, true, false, nat_le, pos, Li
 use Rattle.std.proofs.lemmas.List.{append-nil}
 use Rattle.base_core.specs.declared.keyword.Keyword.TheVariants as keywords
 use Rattle.lexer_core.specs.declared.token.Mark.TheVariants as marks
-use Rattle.lexer_core.specs.declared.token.Kind.{Kind}
-use Rattle.lexer_core.specs.declared.token.Kind.TheVariants as kinds
+use Rattle.lexer_core.specs.declared.token.TokenKind.{TokenKind}
+use Rattle.lexer_core.specs.declared.token.TokenKind.TheVariants as kinds
 use Rattle.lexer_core.specs.declared.token.Token as tokens
 use Rattle.lexer_core.specs.declared.fault.Code.{Code}
 use Rattle.lexer_core.specs.declared.fault.Code.TheVariants as codes
@@ -48,7 +48,7 @@ can_end_no (last n m) = can_end_no m
 
 -- ---- one token
 -- a sentence's first token is a step
-enter_of : (i k : Grammar) {t : Kind} {ss : List TokenWithFault} → BeginsWithToken i → Matches (followed_by i k) (faultless t ∷ ss) → (g : Grammar) × (enter i k t ≡ Some g) × Matches g ss
+enter_of : (i k : Grammar) {t : TokenKind} {ss : List TokenWithFault} → BeginsWithToken i → Matches (followed_by i k) (faultless t ∷ ss) → (g : Grammar) × (enter i k t ≡ Some g) × Matches g ss
 enter_of End k b m = absurd b
 enter_of (One c g) k b (one f m) = (followed_by g k, ap (λ x. if x then Some (followed_by g k) else None) f, m)
 enter_of (Case c a d) k {t} b (this f m) = (followed_by a k, ap (λ x. if x then Some (followed_by a k) else enter d k t) f, m)
@@ -57,7 +57,7 @@ enter_of (Items r s i g) k b m = absurd b
 enter_of (More r s i g) k b m = absurd b
 
 -- a token of the class
-abbrev pub witness : Class → Kind
+abbrev pub witness : Class → TokenKind
 witness (Key k) = kinds.Keyword k
 witness (Sign m) = kinds.Mark m
 witness AnyName = kinds.Name []
@@ -88,7 +88,7 @@ IsSound (Case c a b) = IsSound a × IsSound b
 IsSound (Items r s i g) = BeginsWithToken i × IsSound i × IsSound g × IsCalm r.separator g
 IsSound (More r s i g) = BeginsWithToken i × IsSound i × IsSound g × IsCalm r.separator g
 
-step_of : (g : Grammar) {t : Kind} {w : Option Code} {ss : List TokenWithFault} → IsSound g → Matches g (record { kind = t; wrong = w } ∷ ss) → (g' : Grammar) × (step g t ≡ Some (w, g')) × Matches g' ss
+step_of : (g : Grammar) {t : TokenKind} {w : Option Code} {ss : List TokenWithFault} → IsSound g → Matches g (record { kind = t; wrong = w } ∷ ss) → (g' : Grammar) × (step g t ≡ Some (w, g')) × Matches g' ss
 step_of End b m = elim m [ ]
 step_of (One c g) b (one f m) = (g, ap (λ x. if x then Some (None, g) else None) f, m)
 step_of (Case c a d) {t} b (this f m) = (a, ap (λ x. if x then Some (None, a) else step d t) f, m)
@@ -105,11 +105,11 @@ choose false e = inr (refl, e)
 same_step : (p q : Option Code × Grammar) → Some p ≡ Some q → (p.0 ≡ q.0) × (p.1 ≡ q.1)
 same_step p q e = let h : p ≡ q = cc in (ap (λ (x : Option Code × Grammar). x.0) h, ap (λ (x : Option Code × Grammar). x.1) h)
 
-at_step : {g g1 g2 : Grammar} {t : Kind} {w v : Option Code} {ss : List TokenWithFault} → (v ≡ w) × (g1 ≡ g2) → (Matches g1 ss → Matches g (record { kind = t; wrong = v } ∷ ss)) → Matches g2 ss → Matches g (record { kind = t; wrong = w } ∷ ss)
+at_step : {g g1 g2 : Grammar} {t : TokenKind} {w v : Option Code} {ss : List TokenWithFault} → (v ≡ w) × (g1 ≡ g2) → (Matches g1 ss → Matches g (record { kind = t; wrong = v } ∷ ss)) → Matches g2 ss → Matches g (record { kind = t; wrong = w } ∷ ss)
 at_step {g} {g1} {g2} {t} {w} {v} {ss} e f m =
     subst (λ (x : Option Code). Matches g (record { kind = t; wrong = x } ∷ ss)) e.0 (f (subst (λ (x : Grammar). Matches x ss) (sym e.1) m))
 
-enter_back : (i k : Grammar) {t : Kind} {g : Grammar} {ss : List TokenWithFault} → enter i k t ≡ Some g → Matches g ss → Matches (followed_by i k) (faultless t ∷ ss)
+enter_back : (i k : Grammar) {t : TokenKind} {g : Grammar} {ss : List TokenWithFault} → enter i k t ≡ Some g → Matches g ss → Matches (followed_by i k) (faultless t ∷ ss)
 enter_back End k e m = cc
 enter_back (One c h) k {t} {g} {ss} e m = elim (choose (fits c t) e) [
   | inl p ↦ let gg : followed_by h k ≡ g = cc in one p.0 (subst (λ (x : Grammar). Matches x ss) (sym gg) m)
@@ -126,7 +126,7 @@ unmark : {m w : Option Code} (o : Option Grammar) {g : Grammar} → with_fault m
 unmark None e = cc
 unmark {m} {w} (Some h) {g} e = let p = same_step (m, h) (w, g) e in (ap (λ (x : Grammar). Some x) p.1, p.0)
 
-step_back : (g : Grammar) {t : Kind} {w : Option Code} {g' : Grammar} {ss : List TokenWithFault} → step g t ≡ Some (w, g') → Matches g' ss → Matches g (record { kind = t; wrong = w } ∷ ss)
+step_back : (g : Grammar) {t : TokenKind} {w : Option Code} {g' : Grammar} {ss : List TokenWithFault} → step g t ≡ Some (w, g') → Matches g' ss → Matches g (record { kind = t; wrong = w } ∷ ss)
 step_back End e m = cc
 step_back (One c g) {t} e m = elim (choose (fits c t) e) [ inl p ↦ at_step (same_step _ _ p.1) (one p.0) m | inr p ↦ cc ]
 step_back (Case c a b) {t} e m = elim (choose (fits c t) e) [ inl p ↦ at_step (same_step _ _ p.1) (this p.0) m | inr p ↦ other p.0 (step_back b p.1 m) ]
@@ -153,7 +153,7 @@ sound_then (Case c a b) k h j = (sound_then a k h.0 j, sound_then b k h.1 j)
 sound_then (Items r s i g) k h j = (h.0, h.1, sound_then g k h.2 j, calm_then r.separator g k h.3)
 sound_then (More r s i g) k h j = (h.0, h.1, sound_then g k h.2 j, calm_then r.separator g k h.3)
 
-sound_enter : (i k : Grammar) (t : Kind) {g : Grammar} → IsSound i → IsSound k → enter i k t ≡ Some g → IsSound g
+sound_enter : (i k : Grammar) (t : TokenKind) {g : Grammar} → IsSound i → IsSound k → enter i k t ≡ Some g → IsSound g
 sound_enter End k t h j e = cc
 sound_enter (One c i) k t {g} h j e = elim (choose (fits c t) e) [
   | inl p ↦ let gg : followed_by i k ≡ g = cc in subst IsSound gg (sound_then i k h j)
@@ -166,7 +166,7 @@ sound_enter (Case c a b) k t {g} h j e = elim (choose (fits c t) e) [
 sound_enter (Items r s i g) k t h j e = cc
 sound_enter (More r s i g) k t h j e = cc
 
-sound_step : (g : Grammar) (t : Kind) {w : Option Code} {g' : Grammar} → IsSound g → step g t ≡ Some (w, g') → IsSound g'
+sound_step : (g : Grammar) (t : TokenKind) {w : Option Code} {g' : Grammar} → IsSound g → step g t ≡ Some (w, g') → IsSound g'
 sound_step End t h e = cc
 sound_step (One c g) t h e = elim (choose (fits c t) e) [ inl p ↦ subst IsSound (same_step _ _ p.1).1 h | inr p ↦ cc ]
 sound_step (Case c a b) t h e = elim (choose (fits c t) e) [ inl p ↦ subst IsSound (same_step _ _ p.1).1 h.0 | inr p ↦ sound_step b t h.1 p.1 ]
@@ -174,7 +174,7 @@ sound_step (Items r s i g) t h e = sound_enter i (More r (s ++ t ∷ []) i g) t 
 sound_step (More r s i g) t h e = elim (choose (fits r.separator t) e) [ inl p ↦ subst IsSound (same_step _ _ p.1).1 h | inr p ↦ sound_step g t h.2 p.1 ]
 
 -- ---- each grammar has a sentence
-abbrev pub first : Grammar → Kind
+abbrev pub first : Grammar → TokenKind
 first (One c g) = witness c
 first (Case c a b) = witness c
 first _ = kinds.Text
@@ -220,15 +220,15 @@ sentence g h = let r = complete g End h done in (r.faultless_all, subst (λ (x :
 
 -- ---- the leftmost fault
 -- the tokens lead from the one grammar to the other
-pub record Reaches (all : Grammar) (before : List Kind) (g : Grammar) : Type 0 where
+pub record Reaches (all : Grammar) (before : List TokenKind) (g : Grammar) : Type 0 where
   pub to : (ss : List TokenWithFault) → Matches g ss → Matches all (map faultless before ++ ss)
   pub back : (ss : List TokenWithFault) → Matches all (map faultless before ++ ss) → Matches g ss
 
-fine_push : (ks : List Kind) (t : Kind) (ss : List TokenWithFault) → map faultless (ks ++ t ∷ []) ++ ss ≡ map faultless ks ++ faultless t ∷ ss
+fine_push : (ks : List TokenKind) (t : TokenKind) (ss : List TokenWithFault) → map faultless (ks ++ t ∷ []) ++ ss ≡ map faultless ks ++ faultless t ∷ ss
 fine_push [] t ss = refl
 fine_push (k ∷ ks) t ss = ap (λ x. faultless k ∷ x) (fine_push ks t ss)
 
-reaches_step : {all g g' : Grammar} (before : List Kind) (t : Kind) → Reaches all before g → IsSound g → step g t ≡ Some (None, g') → Reaches all (before ++ t ∷ []) g'
+reaches_step : {all g g' : Grammar} (before : List TokenKind) (t : TokenKind) → Reaches all before g → IsSound g → step g t ≡ Some (None, g') → Reaches all (before ++ t ∷ []) g'
 reaches_step {all} {g} {g'} before t r h e = record {
   to = λ ss m. subst (λ (x : List TokenWithFault). Matches all x) (sym (fine_push before t ss)) (r.to (faultless t ∷ ss) (step_back g e m));
   back = λ ss m.
@@ -237,21 +237,21 @@ reaches_step {all} {g} {g'} before t r h e = record {
       subst (λ (x : Grammar). Matches x ss) (sym q) n.2;
 }
 
-whole_at : {all g : Grammar} (before : List Kind) → Reaches all before g → Matches g [] → IsWhole all before
+whole_at : {all g : Grammar} (before : List TokenKind) → Reaches all before g → Matches g [] → IsWhole all before
 whole_at {all} before r m = subst (λ (x : List TokenWithFault). Matches all x) (append-nil _) (r.to [] m)
 
-at_whole : {all g : Grammar} (before : List Kind) → Reaches all before g → IsWhole all before → Matches g []
+at_whole : {all g : Grammar} (before : List TokenKind) → Reaches all before g → IsWhole all before → Matches g []
 at_whole {all} before r m = r.back [] (subst (λ (x : List TokenWithFault). Matches all x) (sym (append-nil _)) m)
 
 map_push : (ts : List tokens.Token) (t : tokens.Token) → map (λ x. x.kind) (ts ++ t ∷ []) ≡ map (λ x. x.kind) ts ++ t.kind ∷ []
 map_push [] t = refl
 map_push (x ∷ ts) t = ap (λ ks. x.kind ∷ ks) (map_push ts t)
 
-begins_at : {all g : Grammar} (before : List Kind) → Reaches all before g → IsSound g → IsViablePrefix all before
+begins_at : {all g : Grammar} (before : List TokenKind) → Reaches all before g → IsSound g → IsViablePrefix all before
 begins_at {all} {g} before r h = let s = sentence g h in (s.0, r.to s.0 s.1)
 
 -- at one token that leads nowhere, or to a wrong item
-wrong_none : {all g : Grammar} (before : List Kind) (end : ℕ) (t : tokens.Token) (ts : List tokens.Token) (f : Fault) → Reaches all before g → IsSound g → step g t.kind ≡ None → Some ((if can_end g then codes.Trailing else codes.Expected), t.start) ≡ Some f → IsWrongHere all before end (t ∷ ts) f
+wrong_none : {all g : Grammar} (before : List TokenKind) (end : ℕ) (t : tokens.Token) (ts : List tokens.Token) (f : Fault) → Reaches all before g → IsSound g → step g t.kind ≡ None → Some ((if can_end g then codes.Trailing else codes.Expected), t.start) ≡ Some f → IsWrongHere all before end (t ∷ ts) f
 wrong_none {all} {g} before end t ts f r h e q = go (can_end g) refl q
   where
     no : (wrong : Option Code) → CanFollow all before t.kind wrong → ⊥
@@ -270,14 +270,14 @@ wrong_code : (code : Code) (b : Bool) (n l : ℕ) → repeated_or_too_many b n l
 unfolding repeated_or_too_many
 wrong_code code b n l e = wrong_mark b (nat_le l n) code e
 
-wrong_step : (g : Grammar) (t : Kind) (code : Code) (g' : Grammar) → step g t ≡ Some (Some code, g') → (code ≡ codes.Duplicate) ⊎ (code ≡ codes.TooMany)
+wrong_step : (g : Grammar) (t : TokenKind) (code : Code) (g' : Grammar) → step g t ≡ Some (Some code, g') → (code ≡ codes.Duplicate) ⊎ (code ≡ codes.TooMany)
 wrong_step End t code g' e = cc
 wrong_step (One c g) t code g' e = elim (choose (fits c t) e) [ inl p ↦ let z : None ≡ Some code = (same_step _ _ p.1).0 in cc | inr p ↦ cc ]
 wrong_step (Case c a b) t code g' e = elim (choose (fits c t) e) [ inl p ↦ let z : None ≡ Some code = (same_step _ _ p.1).0 in cc | inr p ↦ wrong_step b t code g' p.1 ]
 wrong_step (Items r s i g) t code g' e = wrong_code code _ _ _ (unmark (enter i (More r (s ++ t ∷ []) i g) t) e).1
 wrong_step (More r s i g) t code g' e = elim (choose (fits r.separator t) e) [ inl p ↦ let z : None ≡ Some code = (same_step _ _ p.1).0 in cc | inr p ↦ wrong_step g t code g' p.1 ]
 
-wrong_some : {all g : Grammar} (before : List Kind) (end : ℕ) (t : tokens.Token) (ts : List tokens.Token) (code : Code) (g' : Grammar) → Reaches all before g → IsSound g → step g t.kind ≡ Some (Some code, g') → IsWrongHere all before end (t ∷ ts) (code, t.start)
+wrong_some : {all g : Grammar} (before : List TokenKind) (end : ℕ) (t : tokens.Token) (ts : List tokens.Token) (code : Code) (g' : Grammar) → Reaches all before g → IsSound g → step g t.kind ≡ Some (Some code, g') → IsWrongHere all before end (t ∷ ts) (code, t.start)
 wrong_some {all} {g} before end t ts code g' r h e =
     let s = sentence g' (sound_step g t.kind h e) in
     let o : CanFollow all before t.kind (Some code) = (s.0, r.to _ (step_back g e s.1)) in
@@ -299,7 +299,7 @@ left_fault all end line [] before g f split r h e = elim (choose (can_end g) (sy
 ]
 left_fault all end line (t ∷ ts) before g f split r h e =
     go (step g t.kind) refl (λ g' q. left_fault all end line ts (before ++ t ∷ []) g' f (split ∙ sym (append_assoc before (t ∷ []) ts))
-    (subst (λ (ks : List Kind). Reaches all ks g') (sym (map_push before t)) (reaches_step _ t.kind r h q)) (sound_step g t.kind h q) (sym (first_fault_some end g t ts None g' q) ∙ e))
+    (subst (λ (ks : List TokenKind). Reaches all ks g') (sym (map_push before t)) (reaches_step _ t.kind r h q)) (sound_step g t.kind h q) (sym (first_fault_some end g t ts None g' q) ∙ e))
   where
     go : (st : Option (Option Code × Grammar)) → step g t.kind ≡ st → ((g' : Grammar) → step g t.kind ≡ Some (None, g') → IsFault all end line f) → IsFault all end line f
     go None q k = record { before = before; rest = t ∷ ts; split = split; begins = begins_at _ r h; wrong = wrong_none _ end t ts f r h q (sym (first_fault_none end g t ts q) ∙ e) }
@@ -315,7 +315,7 @@ left_whole all end [] before g r h e = elim (choose (can_end g) (sym (first_faul
 ]
 left_whole all end (t ∷ ts) before g r h e =
     go (step g t.kind) refl (λ g' q. subst (λ (x : List tokens.Token). IsWhole all (map (λ t. t.kind) x)) (append_assoc before (t ∷ []) ts) (left_whole all end ts (before ++ t ∷ []) g'
-    (subst (λ (ks : List Kind). Reaches all ks g') (sym (map_push before t)) (reaches_step _ t.kind r h q)) (sound_step g t.kind h q) (sym (first_fault_some end g t ts None g' q) ∙ e)))
+    (subst (λ (ks : List TokenKind). Reaches all ks g') (sym (map_push before t)) (reaches_step _ t.kind r h q)) (sound_step g t.kind h q) (sym (first_fault_some end g t ts None g' q) ∙ e)))
   where
     go : (st : Option (Option Code × Grammar)) → step g t.kind ≡ st → ((g' : Grammar) → step g t.kind ≡ Some (None, g') → IsWhole all (map (λ x. x.kind) (before ++ t ∷ ts))) → IsWhole all (map (λ x. x.kind) (before ++ t ∷ ts))
     go None q k = let z = sym (first_fault_none end g t ts q) ∙ e in cc
@@ -349,24 +349,24 @@ run : (all g : Grammar) (end : ℕ) (past before rest : List tokens.Token) (ss :
 run all g end past [] rest ss h r m = record { left = g; sound = h; reaches = subst (λ (x : List tokens.Token). Reaches all (map (λ t. t.kind) x) g) (sym (append-nil past)) r; fault_left = refl }
 run all g end past (t ∷ before) rest ss h r m =
     let n = step_of g h m in
-    let more = run all n.0 end (past ++ t ∷ []) before rest ss (sound_step g t.kind h n.1) (subst (λ (ks : List Kind). Reaches all ks n.0) (sym (map_push past t)) (reaches_step _ t.kind r h n.1)) n.2 in
+    let more = run all n.0 end (past ++ t ∷ []) before rest ss (sound_step g t.kind h n.1) (subst (λ (ks : List TokenKind). Reaches all ks n.0) (sym (map_push past t)) (reaches_step _ t.kind r h n.1)) n.2 in
     record { left = more.left; sound = more.sound; reaches = subst (λ (x : List tokens.Token). Reaches all (map (λ t. t.kind) x) more.left) (append_assoc past (t ∷ []) before) more.reaches; fault_left = first_fault_some end g t (before ++ rest) None n.0 n.1 ∙ more.fault_left }
 
-stuck : {all g : Grammar} (before : List Kind) (t : Kind) → Reaches all before g → IsSound g → ((wrong : Option Code) → CanFollow all before t wrong → ⊥) → step g t ≡ None
+stuck : {all g : Grammar} (before : List TokenKind) (t : TokenKind) → Reaches all before g → IsSound g → ((wrong : Option Code) → CanFollow all before t wrong → ⊥) → step g t ≡ None
 stuck {all} {g} before t r h nowhere = go (step g t) refl
   where
     go : (st : Option (Option Code × Grammar)) → step g t ≡ st → st ≡ None
     go None e = refl
     go (Some p) e = let s = sentence p.1 (sound_step g t h e) in absurd (nowhere p.0 (s.0, r.to _ (step_back g e s.1)))
 
-ends_or_not : {all g : Grammar} (before : List Kind) → Reaches all before g → (IsWhole all before → ⊥) → can_end g ≡ false
+ends_or_not : {all g : Grammar} (before : List TokenKind) → Reaches all before g → (IsWhole all before → ⊥) → can_end g ≡ false
 ends_or_not {all} {g} before r nowhere = go (can_end g) refl
   where
     go : (b : Bool) → can_end g ≡ b → b ≡ false
     go true e = absurd (nowhere (whole_at before r (can_end_yes g e)))
     go false e = refl
 
-first_fault_here : (all g : Grammar) (end : ℕ) (before : List Kind) (rest : List tokens.Token) (f : Fault) → IsSound g → Reaches all before g → IsWrongHere all before end rest f → first_fault end g rest ≡ Some f
+first_fault_here : (all g : Grammar) (end : ℕ) (before : List TokenKind) (rest : List tokens.Token) (f : Fault) → IsSound g → Reaches all before g → IsWrongHere all before end rest f → first_fault end g rest ≡ Some f
 first_fault_here all g end before [] f h r w = first_fault_nil end g ∙ ap (λ b. if b then None else Some (codes.Expected, end)) (ends_or_not before r w.0) ∙ ap (λ (x : Fault). Some x) (sym w.1)
 first_fault_here all g end before (t ∷ ts) (code, offset) h r w = go code w.0 ∙ ap (λ (n : ℕ). Some (code, n)) (sym w.1)
   where

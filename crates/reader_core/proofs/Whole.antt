@@ -11,8 +11,8 @@ use Rattle.base_core.specs.declared.name.User.{User}
 use Rattle.base_core.specs.declared.condition.Condition.{Condition}
 use Rattle.lexer_core.specs.Lexing.{Lexeme, kind_of}
 use Rattle.lexer_core.specs.Lexing as lexemes
-use Rattle.lexer_core.specs.declared.token.Kind.{Kind}
-use Rattle.lexer_core.specs.declared.token.Kind.TheVariants as kinds
+use Rattle.lexer_core.specs.declared.token.TokenKind.{TokenKind}
+use Rattle.lexer_core.specs.declared.token.TokenKind.TheVariants as kinds
 use Rattle.lexer_core.specs.declared.token.Mark.TheVariants as marks
 use Rattle.lexer_core.specs.declared.fault.Code.{Code}
 use Rattle.reader_core.specs.declared.privilege.Privilege.{Privilege}
@@ -28,7 +28,7 @@ use Rattle.reader_core.proofs.Taking.{value_fits, type_fits, comparison_fits}
 use Rattle.reader_core.proofs.Fine.{fine_if_few, fine_if_distinct, fine_if_different}
 
 -- the kinds of what is said, and the same without faults
-abbrev pub kinds_of : List Lexeme → List Kind
+abbrev pub kinds_of : List Lexeme → List TokenKind
 kinds_of said = map kind_of said
 
 abbrev faultless_all : List Lexeme → List TokenWithFault
@@ -49,14 +49,14 @@ abbrev bracket : Class
 bracket = Sign marks.Open
 
 -- What says an item is one by the grammar, where no "(" follows.
-record SaysItem {A : Type 0} (r : Rule) (i : Grammar) (separator : Lexeme) (first : A → Kind) (says : A → List Lexeme) (IsItem : A → Type 0) : Type 0 where
+record SaysItem {A : Type 0} (r : Rule) (i : Grammar) (separator : Lexeme) (first : A → TokenKind) (says : A → List Lexeme) (IsItem : A → Type 0) : Type 0 where
   tail : A → List TokenWithFault
   begins : (x : A) → faultless_all (says x) ≡ faultless (first x) ∷ tail x
   separates : fits r.separator (kind_of separator) ≡ true
   shut : fits bracket (kind_of separator) ≡ false
   one_item : (x : A) (k : Grammar) (ss : List TokenWithFault) → IsItem x → is_next bracket ss ≡ false → Matches k ss → Matches (followed_by i k) (faultless_all (says x) ++ ss)
 
-module _ {A : Type 0} {r : Rule} {i : Grammar} {separator : Lexeme} {first : A → Kind} {says : A → List Lexeme} {IsItem : A → Type 0} (of : SaysItem r i separator first says IsItem)
+module _ {A : Type 0} {r : Rule} {i : Grammar} {separator : Lexeme} {first : A → TokenKind} {says : A → List Lexeme} {IsItem : A → Type 0} (of : SaysItem r i separator first says IsItem)
     (g : Grammar) (ss : List TokenWithFault) (m : Matches g ss) (calm : is_next r.separator ss ≡ false) (shut : is_next bracket ss ≡ false) where
   abbrev behind : List A → List Lexeme
   behind xs = flat_map (λ y. separator ∷ says y) xs
@@ -65,7 +65,7 @@ module _ {A : Type 0} {r : Rule} {i : Grammar} {separator : Lexeme} {first : A �
   behind_shut [] = shut
   behind_shut (x ∷ xs) = of.shut
 
-  item_matches : (x : A) (s : List Kind) (more : List TokenWithFault) → IsItem x → is_next bracket more ≡ false → item_fault r s (first x) ≡ None → Matches (More r (s ++ first x ∷ []) i g) more → Matches (Items r s i g) (faultless_all (says x) ++ more)
+  item_matches : (x : A) (s : List TokenKind) (more : List TokenWithFault) → IsItem x → is_next bracket more ≡ false → item_fault r s (first x) ≡ None → Matches (More r (s ++ first x ∷ []) i g) more → Matches (Items r s i g) (faultless_all (says x) ++ more)
   item_matches x s more is free e n =
       let t = subst (λ (z : List TokenWithFault). Matches (followed_by i (More r (s ++ first x ∷ []) i g)) (z ++ more)) (of.begins x) (of.one_item x (More r (s ++ first x ∷ []) i g) more is free n) in
       subst (λ (z : List TokenWithFault). Matches (Items r s i g) (z ++ more)) (sym (of.begins x))
@@ -74,7 +74,7 @@ module _ {A : Type 0} {r : Rule} {i : Grammar} {separator : Lexeme} {first : A �
   split : (xs ys : List Lexeme) → faultless_all xs ++ (faultless_all ys ++ ss) ≡ faultless_all (xs ++ ys) ++ ss
   split xs ys = sym (ap (λ z. z ++ ss) (faultless_all-append xs ys) ∙ append_assoc (faultless_all xs) (faultless_all ys) ss)
 
-  more_matches : (xs : List A) (s : List Kind) → All IsItem xs → AreFaultless r s (map first xs) → Matches (More r s i g) (faultless_all (behind xs) ++ ss)
+  more_matches : (xs : List A) (s : List TokenKind) → All IsItem xs → AreFaultless r s (map first xs) → Matches (More r s i g) (faultless_all (behind xs) ++ ss)
   more_matches [] s is f = last calm m
   more_matches (x ∷ xs) s is f = next of.separates (subst (Matches (Items r s i g)) (split (says x) (behind xs)) (item_matches x s _ (All-head IsItem x xs is) (behind_shut xs) f.0 (more_matches xs (s ++ first x ∷ []) (All-tail IsItem x xs is) f.1)))
 

@@ -1,7 +1,7 @@
 -- What a part of the reader does to the tokens that are left.
 use Rattle.std.specs.Prelude.{◌≡◌, ◌≢◌, ℕ, Bool, false, List, [], ◌∷◌, ◌++◌, length, map, Option, Some, None, Result, Ok, Err}
 use Rattle.lexer_core.specs.Lexing.{Lexeme, located}
-use Rattle.lexer_core.specs.declared.token.Kind.{Kind}
+use Rattle.lexer_core.specs.declared.token.TokenKind.{TokenKind}
 use Rattle.lexer_core.specs.declared.token.Token as tokens
 use Rattle.lexer_core.specs.declared.fault.Code.{Code}
 use Rattle.lexer_core.specs.declared.fault.ReadFault.{ReadFault}
@@ -19,7 +19,7 @@ abbrev pub offset_at : Cursor → ℕ
 offset_at c = elim c.rest [ [] ↦ length c.line | t ∷ ts ↦ t.start ]
 
 -- the kind of the next token
-abbrev pub next_kind : Cursor → Option Kind
+abbrev pub next_kind : Cursor → Option TokenKind
 next_kind c = elim c.rest [ [] ↦ None | t ∷ ts ↦ Some t.kind ]
 
 -- what the next token says

@@ -6,8 +6,8 @@ use Rattle.base_core.specs.declared.keyword.Keyword.{Keyword}
 use Rattle.base_core.specs.declared.keyword.Keyword.TheVariants as keywords
 use Rattle.lexer_core.specs.declared.token.Mark.{Mark}
 use Rattle.lexer_core.specs.declared.token.Mark.TheVariants as marks
-use Rattle.lexer_core.specs.declared.token.Kind.{Kind}
-use Rattle.lexer_core.specs.declared.token.Kind.TheVariants as kinds
+use Rattle.lexer_core.specs.declared.token.TokenKind.{TokenKind}
+use Rattle.lexer_core.specs.declared.token.TokenKind.TheVariants as kinds
 use Rattle.lexer_core.specs.declared.fault.Code.{Code}
 use Rattle.lexer_core.specs.declared.fault.Code.TheVariants as codes
 
@@ -64,60 +64,60 @@ mark_number marks.Greater = 9
 mark_number marks.GreaterEqual = 10
 
 -- whether a token is this keyword
-abbrev pub is_keyword : Keyword → Kind → Bool
+abbrev pub is_keyword : Keyword → TokenKind → Bool
 is_keyword k (kinds.Keyword j) = nat_eq (keyword_number k) (keyword_number j)
 is_keyword k _ = false
 
 -- whether it is some keyword
-abbrev pub is_any_keyword : Kind → Bool
+abbrev pub is_any_keyword : TokenKind → Bool
 is_any_keyword (kinds.Keyword k) = true
 is_any_keyword _ = false
 
 -- whether it is this mark
-abbrev pub is_mark : Mark → Kind → Bool
+abbrev pub is_mark : Mark → TokenKind → Bool
 is_mark m (kinds.Mark n) = nat_eq (mark_number m) (mark_number n)
 is_mark m _ = false
 
 -- whether it is a name
-abbrev pub is_name : Kind → Bool
-is_name (kinds.Name n) = true
-is_name _ = false
+abbrev pub is_name_token : TokenKind → Bool
+is_name_token (kinds.Name n) = true
+is_name_token _ = false
 
 -- a number or a text
-abbrev pub is_literal : Kind → Bool
+abbrev pub is_literal : TokenKind → Bool
 is_literal (kinds.Number n) = true
 is_literal kinds.Text = true
 is_literal _ = false
 
 -- a mark that compares
-abbrev pub is_test : Kind → Bool
+abbrev pub is_test : TokenKind → Bool
 is_test t =
     is_mark marks.Equal t || is_mark marks.NotEqual t || is_mark marks.Less t
     || is_mark marks.LessEqual t || is_mark marks.Greater t || is_mark marks.GreaterEqual t
 
 -- a word that names a privilege
-abbrev pub is_privilege : Kind → Bool
+abbrev pub is_privilege : TokenKind → Bool
 is_privilege t =
     is_keyword keywords.Select t || is_keyword keywords.Insert t || is_keyword keywords.Delete t
     || is_keyword keywords.Update t
 
 -- a number from 1
-abbrev pub is_at_least_one : Kind → Bool
+abbrev pub is_at_least_one : TokenKind → Bool
 is_at_least_one (kinds.Number (pos n)) = nat_le 1 n
 is_at_least_one _ = false
 
 -- whether a token is of the class
-abbrev pub fits : Class → Kind → Bool
+abbrev pub fits : Class → TokenKind → Bool
 fits (Key k) t = is_keyword k t
 fits (Sign m) t = is_mark m t
-fits AnyName t = is_name t
+fits AnyName t = is_name_token t
 fits AnyLiteral t = is_literal t
 fits AnyTest t = is_test t
 fits AtLeastOne t = is_at_least_one t
 fits AnyType t = is_keyword keywords.Integer t || is_keyword keywords.Text t
 
 -- whether two tokens say the same, where items of a list have to differ by their first tokens
-abbrev pub same : Kind → Kind → Bool
+abbrev pub same : TokenKind → TokenKind → Bool
 same (kinds.Name a) (kinds.Name b) = same_name a b
 same (kinds.Keyword a) t = is_keyword a t
 same _ _ = false
@@ -140,9 +140,9 @@ pub data Grammar : Type 0 where
   Case : Class → Grammar → Grammar → Grammar
   -- an item, after those that began with the tokens seen; then a separator and a further item, as
   -- often as one comes; then the rest
-  Items : Rule → List Kind → Grammar → Grammar → Grammar
+  Items : Rule → List TokenKind → Grammar → Grammar → Grammar
   -- the same behind an item
-  More : Rule → List Kind → Grammar → Grammar → Grammar
+  More : Rule → List TokenKind → Grammar → Grammar → Grammar
 
 -- the one, and then the other
 abbrev pub followed_by : Grammar → Grammar → Grammar
@@ -160,7 +160,7 @@ repeated_or_too_many repeated count limit =
     else None
 
 -- the same of an item that begins with this token, after those that began with the tokens seen
-abbrev pub item_fault : Rule → List Kind → Kind → Option Code
+abbrev pub item_fault : Rule → List TokenKind → TokenKind → Option Code
 item_fault r seen t =
     repeated_or_too_many (r.distinct && list_any (λ x. same x t) seen) (length seen) r.limit
 

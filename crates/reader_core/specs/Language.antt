@@ -16,8 +16,8 @@ use Rattle.base_core.specs.declared.condition.Comparison.{Comparison}
 use Rattle.base_core.specs.declared.condition.Comparison.TheVariants as comparisons
 use Rattle.lexer_core.specs.Lexing.{Lexeme, Says, AreTokens, IsLineFault}
 use Rattle.lexer_core.specs.Lexing as lexemes
-use Rattle.lexer_core.specs.declared.token.Kind.{Kind}
-use Rattle.lexer_core.specs.declared.token.Kind.TheVariants as kinds
+use Rattle.lexer_core.specs.declared.token.TokenKind.{TokenKind}
+use Rattle.lexer_core.specs.declared.token.TokenKind.TheVariants as kinds
 use Rattle.lexer_core.specs.declared.token.Token as tokens
 use Rattle.lexer_core.specs.declared.token.Mark.{Mark}
 use Rattle.lexer_core.specs.declared.token.Mark.TheVariants as marks
@@ -27,11 +27,13 @@ use Rattle.lexer_core.specs.declared.fault.ReadFault.{ReadFault}
 use Rattle.lexer_core.specs.declared.fault.ReadFault.TheVariants as faults
 use Rattle.reader_core.specs.declared.privilege.Privilege.{Privilege}
 use Rattle.reader_core.specs.declared.privilege.Privilege.TheVariants as privileges_of
-use Rattle.reader_core.specs.declared.privilege.Word.{Word}
-use Rattle.reader_core.specs.declared.privilege.Word.TheVariants as words
+use Rattle.reader_core.specs.declared.privilege.PrivilegeWord.{PrivilegeWord}
+use Rattle.reader_core.specs.declared.privilege.PrivilegeWord.TheVariants as words
+use Rattle.reader_core.specs.declared.separator.Separator.{Separator}
+use Rattle.reader_core.specs.declared.separator.Separator.TheVariants as separators
 use Rattle.reader_core.specs.declared.statement.Statement.{Statement}
 use Rattle.reader_core.specs.declared.statement.Statement.TheVariants as statements
-use Rattle.reader_core.specs.Grammar.{Grammar, End, One, Case, Items, Rule, Key, Sign, AnyName, AnyLiteral, AnyType, AnyTest, AtLeastOne}
+use Rattle.reader_core.specs.Grammar.{Grammar, Class, End, One, Case, Items, Rule, Key, Sign, AnyName, AnyLiteral, AnyType, AnyTest, AtLeastOne}
 use Rattle.reader_core.specs.Matches.{IsFault}
 use Rattle.reader_core.specs.Privileges.{word_of, word_keyword, are_different}
 
@@ -45,7 +47,7 @@ abbrev pub names_rule : ℕ → Rule
 names_rule n = comma_separated n true
 
 -- the first tokens of such items
-abbrev pub first_names : {A : Type 0} → (A → Name) → List A → List Kind
+abbrev pub first_names : {A : Type 0} → (A → Name) → List A → List TokenKind
 first_names name_of xs = map (λ x. kinds.Name (name_of x)) xs
 
 -- where the next token begins the first, that; otherwise the second
@@ -137,7 +139,7 @@ privilege_item =
     (One (Key keywords.Update) (optional in_brackets End))))
 
 -- what may stand behind a privilege's word
-abbrev pub behind_word : Word → Grammar → Grammar
+abbrev pub behind_word : PrivilegeWord → Grammar → Grammar
 behind_word words.Update k = optional in_brackets k
 behind_word _ k = k
 
@@ -197,6 +199,16 @@ statement = body finish
 -- ---- what statements say, token by token
 abbrev pub comma_lexeme : Lexeme
 comma_lexeme = lexemes.Sign marks.Comma
+
+-- the class of a separator
+abbrev pub separator_class : Separator → Class
+separator_class separators.Comma = Sign marks.Comma
+separator_class separators.And = Key keywords.And
+
+-- what a separator says
+abbrev pub separator_lexeme : Separator → Lexeme
+separator_lexeme separators.Comma = comma_lexeme
+separator_lexeme separators.And = lexemes.Key keywords.And
 
 -- the items, with a separator between each two
 abbrev pub listed : {A : Type 0} → Lexeme → (A → List Lexeme) → List A → List Lexeme
@@ -277,7 +289,7 @@ columns_say (Some names) =
     lexemes.Sign marks.Open ∷ (names_say names ++ lexemes.Sign marks.Close ∷ [])
 
 -- the word of a privilege
-abbrev pub word_says : Word → List Lexeme
+abbrev pub word_says : PrivilegeWord → List Lexeme
 word_says w = lexemes.Key (word_keyword w) ∷ []
 
 -- the columns that UPDATE names, if it does

@@ -1,7 +1,7 @@
 -- A grammar as a machine that takes token after token: what it may still be, and the leftmost
 -- fault.
 use Rattle.std.specs.Prelude.{◌≡◌, ℕ, Bool, true, false, if◌then◌else◌, List, [], ◌∷◌, ◌++◌, Option, Some, None}
-use Rattle.lexer_core.specs.declared.token.Kind.{Kind}
+use Rattle.lexer_core.specs.declared.token.TokenKind.{TokenKind}
 use Rattle.lexer_core.specs.declared.token.Token as tokens
 use Rattle.lexer_core.specs.declared.fault.Code.{Code}
 use Rattle.lexer_core.specs.declared.fault.Code.TheVariants as codes
@@ -16,12 +16,12 @@ can_end (Items r s i g) = false
 can_end (More r s i g) = can_end g
 
 -- each of the first tokens is as the list's rule wants it, after those seen
-abbrev pub AreFaultless : Rule → List Kind → List Kind → Type 0
+abbrev pub AreFaultless : Rule → List TokenKind → List TokenKind → Type 0
 AreFaultless r seen [] = Unit {0}
 AreFaultless r seen (t ∷ ts) = (item_fault r seen t ≡ None) × AreFaultless r (seen ++ t ∷ []) ts
 
 -- what may follow a token, the first of the grammar
-abbrev pub enter : Grammar → Grammar → Kind → Option Grammar
+abbrev pub enter : Grammar → Grammar → TokenKind → Option Grammar
 enter End k t = None
 enter (One c g) k t = if fits c t then Some (followed_by g k) else None
 enter (Case c a b) k t = if fits c t then Some (followed_by a k) else enter b k t
@@ -34,7 +34,7 @@ with_fault m None = None
 with_fault m (Some g) = Some (m, g)
 
 -- what a token makes of a grammar: its fault if it begins an item, and what may follow
-abbrev pub step : Grammar → Kind → Option (Option Code × Grammar)
+abbrev pub step : Grammar → TokenKind → Option (Option Code × Grammar)
 step End t = None
 step (One c g) t = if fits c t then Some (None, g) else None
 step (Case c a b) t = if fits c t then Some (None, a) else step b t

@@ -4,7 +4,7 @@ ghost use Rattle.lexer_core.specs.Lexing.{Lexeme, IsProper, kind_of};
 ghost use Rattle.lexer_core.specs.declared.fault.Code.{Code};
 ghost use Rattle.reader_core.specs.declared.statement.Statement.{Statement};
 ghost use Rattle.reader_core.specs.Matches.{TokenWithFault, Matches, IsWhole};
-ghost use Rattle.reader_core.specs.Choices.{Derives, IsPredictive, never};
+ghost use Rattle.reader_core.specs.Choices.{Derives, IsPredictive, no_token};
 ghost use Rattle.reader_core.specs.Language.{statement, SaysStatement, Spells, IsWellFormed, IsReadFault};
 
 /// No line spells two statements.
@@ -29,7 +29,7 @@ pub fn spelled_or_faulty()
 /// sentence by some choice (`Derives`) exactly where they are one by the choice that the next token
 /// makes (`Matches`), which is what faults are defined by.
 pub fn one_choice()
-    ensures apart { IsPredictive statement never }
+    ensures apart { IsPredictive statement no_token }
     ensures same { (ss : List TokenWithFault) → (Derives statement ss → Matches statement ss)
         × (Matches statement ss → Derives statement ss) }
 {}

@@ -42,9 +42,11 @@ pub mod laws;
 mod parsing;
 mod privilege;
 mod reading;
+mod separator;
 mod statement;
 
 pub use checkpoint::CheckpointNumber;
 pub use privilege::{MAX_PRIVILEGES, Privilege, Privileges};
 pub use reading::read;
+pub use separator::Separator;
 pub use statement::{MAX_ITEMS, MAX_USERS, Statement};

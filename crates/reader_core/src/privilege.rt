@@ -1,6 +1,6 @@
 //! Privileges as GRANT and REVOKE name them.
 ghost use Rattle.std.specs.Prelude.{◌≡◌, ◌<◌, ◌≤◌, true, length};
-ghost use Rattle.lexer_core.specs.declared.token.Kind.TheVariants as kinds;
+ghost use Rattle.lexer_core.specs.declared.token.TokenKind.TheVariants as kinds;
 ghost use Rattle.reader_core.specs.Grammar.{is_keyword};
 ghost use Rattle.reader_core.specs.Privileges.{word_of, word_keyword, are_different};
 
@@ -13,7 +13,7 @@ pub const MAX_PRIVILEGES: usize = 4;
 
 /// What a privilege is named by.
 #[derive(Clone, Copy, PartialEq, Eq)]
-pub(crate) enum Word {
+pub(crate) enum PrivilegeWord {
     Select,
     Insert,
     Delete,
@@ -30,18 +30,18 @@ pub enum Privilege {
 }
 
 impl Privilege {
-    pub(crate) fn word(&self) -> Word
+    pub(crate) fn word(&self) -> PrivilegeWord
         ensures { result ≡ word_of self.now }
     {
         match self {
-            Privilege::Select => Word::Select,
-            Privilege::Insert => Word::Insert,
-            Privilege::Delete => Word::Delete,
-            Privilege::Update(_) => Word::Update,
+            Privilege::Select => PrivilegeWord::Select,
+            Privilege::Insert => PrivilegeWord::Insert,
+            Privilege::Delete => PrivilegeWord::Delete,
+            Privilege::Update(_) => PrivilegeWord::Update,
         }
     }
 
-    pub(crate) fn has_word(&self, word: Word) -> bool
+    pub(crate) fn has_word(&self, word: PrivilegeWord) -> bool
         ensures { result ≡ is_keyword (word_keyword (word_of self.now))
             (kinds.Keyword (word_keyword word)) }
     {

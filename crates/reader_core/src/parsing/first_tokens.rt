@@ -1,15 +1,15 @@
 //! The first tokens of the items of lists.
 ghost use Rattle.std.specs.Prelude.{◌≡◌, ◌∷◌, ◌++◌, [], ℕ, List, None, Some, IfOk, map};
 ghost use Rattle.std.specs.List.{list_any};
-ghost use Rattle.lexer_core.specs.declared.token.Kind.{Kind};
-ghost use Rattle.lexer_core.specs.declared.token.Kind.TheVariants as kinds;
+ghost use Rattle.lexer_core.specs.declared.token.TokenKind.{TokenKind};
+ghost use Rattle.lexer_core.specs.declared.token.TokenKind.TheVariants as kinds;
 ghost use Rattle.reader_core.specs.Grammar.{Grammar, Items, More, One, AnyName, AnyTest, AnyLiteral, followed_by, item_fault, same};
 ghost use Rattle.reader_core.specs.Cursor.{Leads};
 ghost use Rattle.reader_core.specs.Privileges.{word_keyword, first_words};
 ghost use Rattle.reader_core.specs.Language.{first_names, name_says, names_rule, conditions_rule, condition_item, privileges_rule, privilege_item, behind_word, word_says};
 
 use crate::parsing::reader::Reader;
-use crate::privilege::{MAX_PRIVILEGES, Privilege, Word};
+use crate::privilege::{MAX_PRIVILEGES, Privilege, PrivilegeWord};
 use crate::statement::MAX_ITEMS;
 use base_core::{Condition, Name, Named};
 use lexer_core::ReadFault;
@@ -21,7 +21,7 @@ fn has_name<T: Named>(items: &[T], name: Name) -> bool
     items.iter().any(|item| item.name() == name)
 }
 
-fn has_word(privileges: &[Privilege], word: Word) -> bool
+fn has_word(privileges: &[Privilege], word: PrivilegeWord) -> bool
     ensures { result ≡ list_any (λ x. same x (kinds.Keyword (word_keyword word)))
         (first_words privileges.now) }
 {
@@ -63,7 +63,7 @@ impl Reader<'_> {
     }
 
     /// The word that begins a privilege, after these.
-    pub fn item_word(&mut self, before: &[Privilege]) -> Result<Word, ReadFault>
+    pub fn item_word(&mut self, before: &[Privilege]) -> Result<PrivilegeWord, ReadFault>
         ensures leads { Leads
             (λ k. Items privileges_rule (first_words before.now) privilege_item k)
             (λ w k. behind_word w (More privileges_rule

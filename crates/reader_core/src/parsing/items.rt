@@ -1,24 +1,30 @@
 //! The items of the language's lists.
-ghost use Rattle.std.specs.Prelude.{◌≡◌, ◌∷◌, ◌++◌, [], ◌<◌, None, Some, IfOk, map};
+ghost use Rattle.std.specs.Prelude.{◌≡◌, ◌∷◌, ◌++◌, [], ◌<◌, None, Some, IfOk, map, refl};
 ghost use Rattle.lexer_core.specs.Lexing.{kind_of};
 ghost use Rattle.reader_core.specs.Grammar.{Items, More, item_fault};
 ghost use Rattle.reader_core.specs.Cursor.{Leads, next_is};
 
 use crate::parsing::list::Item;
 use crate::parsing::reader::Reader;
-use crate::privilege::{Privilege, Word};
+use crate::privilege::{Privilege, PrivilegeWord};
+use crate::separator::Separator;
 use crate::statement::{MAX_ITEMS, MAX_USERS};
 use base_core::{Assignment, Column, Condition, Keyword, Name, User, Value};
 use lexer_core::{Code, Mark, ReadFault};
 use std::alloc::Global;
 
 impl Item for Column {
-    ghost use Rattle.lexer_core.specs.declared.token.Kind.TheVariants as kinds;
-    ghost use Rattle.reader_core.specs.Language.{names_rule, comma_lexeme, column_item, column_says};
+    ghost use Rattle.reader_core.specs.declared.separator.Separator.TheVariants as separators;
+    ghost use Rattle.lexer_core.specs.declared.token.TokenKind.TheVariants as kinds;
+    ghost use Rattle.reader_core.specs.Language.{names_rule, column_item, column_says};
 
     ghost rule = { names_rule 32 };
 
-    ghost separator = { comma_lexeme };
+    ghost SEPARATOR = { separators.Comma };
+
+    const SEPARATOR: Separator = Separator::Comma;
+
+    ghost separates = { refl };
 
     ghost grammar = { column_item };
 
@@ -35,20 +41,21 @@ impl Item for Column {
         let ty = reader.column_type()?;
         Ok(Column { name, ty })
     }
-
-    fn at_separator(reader: &Reader<'_>) -> bool {
-        reader.at_mark(Mark::Comma)
-    }
 }
 
 impl Item for Value {
+    ghost use Rattle.reader_core.specs.declared.separator.Separator.TheVariants as separators;
     ghost use Rattle.std.specs.Prelude.{false};
     ghost use Rattle.lexer_core.specs.Lexing.{kind_of};
-    ghost use Rattle.reader_core.specs.Language.{comma_separated, comma_lexeme, literal_item, value_lexeme, value_says};
+    ghost use Rattle.reader_core.specs.Language.{comma_separated, literal_item, value_lexeme, value_says};
 
     ghost rule = { comma_separated 32 false };
 
-    ghost separator = { comma_lexeme };
+    ghost SEPARATOR = { separators.Comma };
+
+    const SEPARATOR: Separator = Separator::Comma;
+
+    ghost separates = { refl };
 
     ghost grammar = { literal_item };
 
@@ -65,19 +72,20 @@ impl Item for Value {
         reader.advance();
         Ok(value)
     }
-
-    fn at_separator(reader: &Reader<'_>) -> bool {
-        reader.at_mark(Mark::Comma)
-    }
 }
 
 impl Item for Name {
-    ghost use Rattle.lexer_core.specs.declared.token.Kind.TheVariants as kinds;
-    ghost use Rattle.reader_core.specs.Language.{names_rule, comma_lexeme, name_item, name_says};
+    ghost use Rattle.reader_core.specs.declared.separator.Separator.TheVariants as separators;
+    ghost use Rattle.lexer_core.specs.declared.token.TokenKind.TheVariants as kinds;
+    ghost use Rattle.reader_core.specs.Language.{names_rule, name_item, name_says};
 
     ghost rule = { names_rule 32 };
 
-    ghost separator = { comma_lexeme };
+    ghost SEPARATOR = { separators.Comma };
+
+    const SEPARATOR: Separator = Separator::Comma;
+
+    ghost separates = { refl };
 
     ghost grammar = { name_item };
 
@@ -88,19 +96,20 @@ impl Item for Name {
     fn read(reader: &mut Reader<'_>, _alloc: Global, before: &[Name]) -> Result<Name, ReadFault> {
         reader.item_name(before, MAX_ITEMS)
     }
-
-    fn at_separator(reader: &Reader<'_>) -> bool {
-        reader.at_mark(Mark::Comma)
-    }
 }
 
 impl Item for User {
-    ghost use Rattle.lexer_core.specs.declared.token.Kind.TheVariants as kinds;
-    ghost use Rattle.reader_core.specs.Language.{names_rule, comma_lexeme, name_item, user_says};
+    ghost use Rattle.reader_core.specs.declared.separator.Separator.TheVariants as separators;
+    ghost use Rattle.lexer_core.specs.declared.token.TokenKind.TheVariants as kinds;
+    ghost use Rattle.reader_core.specs.Language.{names_rule, name_item, user_says};
 
     ghost rule = { names_rule 16 };
 
-    ghost separator = { comma_lexeme };
+    ghost SEPARATOR = { separators.Comma };
+
+    const SEPARATOR: Separator = Separator::Comma;
+
+    ghost separates = { refl };
 
     ghost grammar = { name_item };
 
@@ -112,19 +121,20 @@ impl Item for User {
         let name = reader.item_name(before, MAX_USERS)?;
         Ok(User(name))
     }
-
-    fn at_separator(reader: &Reader<'_>) -> bool {
-        reader.at_mark(Mark::Comma)
-    }
 }
 
 impl Item for Assignment {
-    ghost use Rattle.lexer_core.specs.declared.token.Kind.TheVariants as kinds;
-    ghost use Rattle.reader_core.specs.Language.{names_rule, comma_lexeme, set_item, set_says};
+    ghost use Rattle.reader_core.specs.declared.separator.Separator.TheVariants as separators;
+    ghost use Rattle.lexer_core.specs.declared.token.TokenKind.TheVariants as kinds;
+    ghost use Rattle.reader_core.specs.Language.{names_rule, set_item, set_says};
 
     ghost rule = { names_rule 32 };
 
-    ghost separator = { comma_lexeme };
+    ghost SEPARATOR = { separators.Comma };
+
+    const SEPARATOR: Separator = Separator::Comma;
+
+    ghost separates = { refl };
 
     ghost grammar = { set_item };
 
@@ -142,21 +152,22 @@ impl Item for Assignment {
         let value = reader.literal(alloc)?;
         Ok(Assignment { column, value })
     }
-
-    fn at_separator(reader: &Reader<'_>) -> bool {
-        reader.at_mark(Mark::Comma)
-    }
 }
 
 impl Item for Condition {
+    ghost use Rattle.reader_core.specs.declared.separator.Separator.TheVariants as separators;
     ghost use Rattle.lexer_core.specs.Lexing as lexemes;
-    ghost use Rattle.lexer_core.specs.declared.token.Kind.TheVariants as kinds;
+    ghost use Rattle.lexer_core.specs.declared.token.TokenKind.TheVariants as kinds;
     ghost use Rattle.base_core.specs.declared.keyword.Keyword.TheVariants as keywords;
     ghost use Rattle.reader_core.specs.Language.{conditions_rule, condition_item, condition_says};
 
     ghost rule = { conditions_rule };
 
-    ghost separator = { lexemes.Key keywords.And };
+    ghost SEPARATOR = { separators.And };
+
+    const SEPARATOR: Separator = Separator::And;
+
+    ghost separates = { refl };
 
     ghost grammar = { condition_item };
 
@@ -178,20 +189,21 @@ impl Item for Condition {
             literal,
         })
     }
-
-    fn at_separator(reader: &Reader<'_>) -> bool {
-        reader.at_keyword(Keyword::And)
-    }
 }
 
 impl Item for Privilege {
-    ghost use Rattle.lexer_core.specs.declared.token.Kind.TheVariants as kinds;
+    ghost use Rattle.reader_core.specs.declared.separator.Separator.TheVariants as separators;
+    ghost use Rattle.lexer_core.specs.declared.token.TokenKind.TheVariants as kinds;
     ghost use Rattle.reader_core.specs.Privileges.{word_of, word_keyword};
-    ghost use Rattle.reader_core.specs.Language.{privileges_rule, comma_lexeme, privilege_item, privilege_says, IsWellFormedPrivilege};
+    ghost use Rattle.reader_core.specs.Language.{privileges_rule, privilege_item, privilege_says, IsWellFormedPrivilege};
 
     ghost rule = { privileges_rule };
 
-    ghost separator = { comma_lexeme };
+    ghost SEPARATOR = { separators.Comma };
+
+    const SEPARATOR: Separator = Separator::Comma;
+
+    ghost separates = { refl };
 
     ghost grammar = { privilege_item };
 
@@ -208,9 +220,5 @@ impl Item for Privilege {
     ) -> Result<Privilege, ReadFault> {
         let word = reader.item_word(before)?;
         reader.privilege(alloc, word)
-    }
-
-    fn at_separator(reader: &Reader<'_>) -> bool {
-        reader.at_mark(Mark::Comma)
     }
 }

@@ -1,13 +1,15 @@
 //! Lists of items with a separator between each two.
 ghost use Rattle.std.specs.Prelude.{◌≡◌, ◌<◌, ◌∷◌, ◌++◌, [], List, None, Some, true, All, IfOk, length, map};
 ghost use Rattle.lexer_core.specs.Lexing.{Lexeme};
-ghost use Rattle.lexer_core.specs.declared.token.Kind.{Kind};
+ghost use Rattle.lexer_core.specs.declared.token.TokenKind.{TokenKind};
 ghost use Rattle.reader_core.specs.Grammar.{Grammar, Rule, Items, More, item_fault};
 ghost use Rattle.reader_core.specs.Recogniser.{AreFaultless};
 ghost use Rattle.reader_core.specs.Cursor.{Reads, Leads, next_is, next_lexeme};
-ghost use Rattle.reader_core.specs.Language.{listed};
+ghost use Rattle.reader_core.specs.declared.separator.Separator.{Separator};
+ghost use Rattle.reader_core.specs.Language.{listed, separator_class, separator_lexeme};
 
 use crate::parsing::reader::Reader;
+use crate::separator::Separator;
 use lexer_core::ReadFault;
 use std::alloc::Global;
 
@@ -16,12 +18,12 @@ pub trait Item: Drop + Sized {
     // How many there may be, whether they differ by their first tokens, and what stands between
     // them.
     ghost rule: { Rule };
-    // The separator as a token says it.
-    ghost separator: { Lexeme };
+    // What stands between two items.
+    ghost SEPARATOR: { Separator };
     // An item.
     ghost grammar: { Grammar };
     // The kind of its first token.
-    ghost first: { Self → Kind };
+    ghost first: { Self → TokenKind };
     // What it says, token by token.
     ghost says: { Self → List Lexeme };
     // What the language asks of an item by itself.
@@ -36,16 +38,16 @@ pub trait Item: Drop + Sized {
             item_fault rule (map first before.now) (first x) ≡ None) }
         ensures well_formed { IfOk result (λ x. well_formed x) };
 
-    /// Whether a separator comes next.
-    fn at_separator(reader: &Reader<'_>) -> bool
-        ensures next { result ≡ next_is rule.separator reader.now }
-        ensures lexeme { result ≡ true → next_lexeme reader.now ≡ Some separator };
+    const SEPARATOR: Separator;
+
+    // The rule has its class.
+    ghost separates: { rule.separator ≡ separator_class SEPARATOR };
 }
 
 /// One item, and more of them behind separators.
 pub fn list<T: Item>(reader: &mut Reader<'_>, alloc: Global) -> Result<Vec<T>, ReadFault>
     ensures reads { Reads (λ k. Items T.rule [] T.grammar k)
-        (λ v. listed T.separator T.says v.items) result reader.old reader.new }
+        (λ v. listed (separator_lexeme T.SEPARATOR) T.says v.items) result reader.old reader.new }
     ensures some { IfOk result (λ v. 0 < length v.items) }
     ensures faultless { IfOk result (λ v. AreFaultless T.rule [] (map T.first v.items)) }
     ensures well_formed { IfOk result (λ v. All T.well_formed v.items) }
@@ -54,7 +56,7 @@ pub fn list<T: Item>(reader: &mut Reader<'_>, alloc: Global) -> Result<Vec<T>, R
     loop {
         let item = T::read(reader, alloc, &items)?;
         items.push(item)?;
-        if !T::at_separator(reader) {
+        if !reader.at_separator(T::SEPARATOR) {
             return Ok(items);
         }
         reader.advance();

@@ -10,7 +10,7 @@ ghost use Rattle.reader_core.specs.Language.{optional, comma_lexeme, listed, nam
 
 use crate::parsing::list::list;
 use crate::parsing::reader::Reader;
-use crate::privilege::{Privilege, Privileges, Word};
+use crate::privilege::{Privilege, PrivilegeWord, Privileges};
 use crate::statement::{MAX_ITEMS, MAX_USERS};
 use base_core::{Condition, Distinct, Keyword, Limited, Name, User};
 use lexer_core::{Mark, ReadFault};
@@ -71,17 +71,17 @@ impl Reader<'_> {
     }
 
     /// The privilege of a word that was read.
-    pub fn privilege(&mut self, alloc: Global, word: Word) -> Result<Privilege, ReadFault>
+    pub fn privilege(&mut self, alloc: Global, word: PrivilegeWord) -> Result<Privilege, ReadFault>
         ensures reads { Reads (behind_word word) (λ p. columns_say (privilege_columns p))
             result self.old self.new }
         ensures word { IfOk result (λ p. word_of p ≡ word) }
         ensures well_formed { IfOk result (λ p. IsWellFormedPrivilege p) }
     {
         match word {
-            Word::Select => Ok(Privilege::Select),
-            Word::Insert => Ok(Privilege::Insert),
-            Word::Delete => Ok(Privilege::Delete),
-            Word::Update => {
+            PrivilegeWord::Select => Ok(Privilege::Select),
+            PrivilegeWord::Insert => Ok(Privilege::Insert),
+            PrivilegeWord::Delete => Ok(Privilege::Delete),
+            PrivilegeWord::Update => {
                 let columns = self.columns(alloc)?;
                 Ok(Privilege::Update(columns))
             }

@@ -3,16 +3,17 @@ ghost use Rattle.std.specs.Prelude.{◌≡◌, ◌≢◌, ◌≤◌, ◌∷◌, 
 ghost use Rattle.base_core.specs.declared.keyword.Keyword.TheVariants as keywords;
 ghost use Rattle.lexer_core.specs.Lexing as lexemes;
 ghost use Rattle.lexer_core.specs.Lexing.{AreSpelled};
-ghost use Rattle.lexer_core.specs.declared.token.Kind.TheVariants as kinds;
+ghost use Rattle.lexer_core.specs.declared.token.TokenKind.TheVariants as kinds;
 ghost use Rattle.reader_core.specs.Grammar.{One, Key, Sign, AnyName, AnyLiteral, AnyType, AnyTest, AtLeastOne, is_test, is_privilege, repeated_or_too_many};
 ghost use Rattle.reader_core.specs.Cursor.{Cursor, Reads, Faults, Checks, offset_at, next_kind, next_lexeme, next_is, next_is_keyword, next_is_privilege};
 ghost use Rattle.reader_core.specs.Privileges.{word_keyword};
-ghost use Rattle.reader_core.specs.Language.{name_says, type_lexeme, type_says, value_lexeme, value_says, comparison_mark, comparison_says, number_says};
+ghost use Rattle.reader_core.specs.Language.{name_says, type_lexeme, type_says, value_lexeme, value_says, comparison_mark, comparison_says, number_says, separator_class, separator_lexeme};
 
 use crate::checkpoint::CheckpointNumber;
-use crate::privilege::Word;
+use crate::privilege::PrivilegeWord;
+use crate::separator::Separator;
 use base_core::{ColType, Comparison, Keyword, Name, Value};
-use lexer_core::{Code, Kind, Mark, ReadFault, Token, unquoted};
+use lexer_core::{Code, Mark, ReadFault, Token, TokenKind, unquoted};
 use std::alloc::Global;
 use std::marker::Model;
 
@@ -31,15 +32,15 @@ fn comparison_of(mark: Mark) -> Option<Comparison>
     }
 }
 
-fn word_of(keyword: Keyword) -> Option<Word>
+fn word_of(keyword: Keyword) -> Option<PrivilegeWord>
     ensures { MatchOption result (is_privilege (kinds.Keyword keyword) ≡ false)
         (λ w. keyword ≡ word_keyword w) }
 {
     match keyword {
-        Keyword::Select => Some(Word::Select),
-        Keyword::Insert => Some(Word::Insert),
-        Keyword::Delete => Some(Word::Delete),
-        Keyword::Update => Some(Word::Update),
+        Keyword::Select => Some(PrivilegeWord::Select),
+        Keyword::Insert => Some(PrivilegeWord::Insert),
+        Keyword::Delete => Some(PrivilegeWord::Delete),
+        Keyword::Update => Some(PrivilegeWord::Update),
         _ => None,
     }
 }
@@ -74,7 +75,7 @@ impl<'a> Reader<'a> {
 }
 
 impl Reader<'_> {
-    pub fn peek(&self) -> Option<Kind>
+    pub fn peek(&self) -> Option<TokenKind>
         ensures { result ≡ next_kind self.now }
     {
         match self.rest {
@@ -109,7 +110,7 @@ impl Reader<'_> {
         match self.rest {
             [
                 Token {
-                    kind: Kind::Keyword(next),
+                    kind: TokenKind::Keyword(next),
                     ..
                 },
                 ..
@@ -125,12 +126,23 @@ impl Reader<'_> {
         match self.rest {
             [
                 Token {
-                    kind: Kind::Mark(next),
+                    kind: TokenKind::Mark(next),
                     ..
                 },
                 ..
             ] => *next == mark,
             _ => false,
+        }
+    }
+
+    pub fn at_separator(&self, separator: Separator) -> bool
+        ensures next { result ≡ next_is (separator_class separator) self.now }
+        ensures lexeme { result ≡ true
+            → next_lexeme self.now ≡ Some (separator_lexeme separator) }
+    {
+        match separator {
+            Separator::Comma => self.at_mark(Mark::Comma),
+            Separator::And => self.at_keyword(Keyword::And),
         }
     }
 
@@ -173,14 +185,14 @@ impl Reader<'_> {
         match self.rest {
             [
                 Token {
-                    kind: Kind::Keyword(Keyword::Integer),
+                    kind: TokenKind::Keyword(Keyword::Integer),
                     ..
                 },
                 ..
             ] => Ok(ColType::Integer),
             [
                 Token {
-                    kind: Kind::Keyword(Keyword::Text),
+                    kind: TokenKind::Keyword(Keyword::Text),
                     ..
                 },
                 ..
@@ -207,7 +219,7 @@ impl Reader<'_> {
         match self.rest {
             [
                 Token {
-                    kind: Kind::Name(name),
+                    kind: TokenKind::Name(name),
                     ..
                 },
                 ..
@@ -220,7 +232,7 @@ impl Reader<'_> {
     pub fn at_literal(&self) -> bool
         ensures { result ≡ next_is AnyLiteral self.now }
     {
-        matches!(self.peek(), Some(Kind::Number(_) | Kind::Text))
+        matches!(self.peek(), Some(TokenKind::Number(_) | TokenKind::Text))
     }
 
     /// The value of the literal that comes next, which stays where it is.
@@ -234,7 +246,7 @@ impl Reader<'_> {
         match self.rest {
             [
                 Token {
-                    kind: Kind::Number(number),
+                    kind: TokenKind::Number(number),
                     ..
                 },
                 ..
@@ -267,7 +279,7 @@ impl Reader<'_> {
     {
         let [
             Token {
-                kind: Kind::Mark(mark),
+                kind: TokenKind::Mark(mark),
                 ..
             },
             ..
@@ -298,7 +310,7 @@ impl Reader<'_> {
         match self.rest {
             [
                 Token {
-                    kind: Kind::Number(number),
+                    kind: TokenKind::Number(number),
                     ..
                 },
                 ..
@@ -325,7 +337,7 @@ impl Reader<'_> {
         match self.rest {
             [
                 Token {
-                    kind: Kind::Keyword(keyword),
+                    kind: TokenKind::Keyword(keyword),
                     ..
                 },
                 ..
@@ -335,7 +347,7 @@ impl Reader<'_> {
     }
 
     /// The word of a privilege that comes next, which stays where it is.
-    pub fn peek_word(&self) -> Result<Word, ReadFault>
+    pub fn peek_word(&self) -> Result<PrivilegeWord, ReadFault>
         ensures kind { IfOk result (λ w.
             next_kind self.now ≡ Some (kinds.Keyword (word_keyword w))) }
         ensures err { OnErr result ((result ≡ Err (ReadFault.At Code.Expected (offset_at self.now)))
@@ -343,7 +355,7 @@ impl Reader<'_> {
     {
         let [
             Token {
-                kind: Kind::Keyword(keyword),
+                kind: TokenKind::Keyword(keyword),
                 ..
             },
             ..

@@ -1,6 +1,7 @@
 use Rattle.std.proofs.Common.{arith}
 use Rattle.std.proofs.lemmas.List.Elements.{All-nil}
 use Rattle.printer_core.proofs.Writing.{nothing, each_on, all_on}
+use Rattle.reader_core.specs.Language.{separator_lexeme}
 use Rattle.printer_core.proofs.printed.write_behind.Goals as goal
 
 pub loop-item-init : goal.loop-item-init
@@ -8,6 +9,6 @@ loop-item-init g c = record { written = nothing c.args.page.now; well_formed = A
 
 pub loop-item-preserved : goal.loop-item-preserved
 loop-item-preserved g c = record {
-  written = each_on g.T.Printed.separator g.T.Printed.says g.T.Printed.well_formed c.args.items.now c.loop-item.item-index c.item-item.result (omega arith) c.item-item.is c.loop-item.invariant.written c.in_ok-write_separator.ensures c.in_ok-write.ensures.written;
-  well_formed = all_on g.T.Printed.separator g.T.Printed.says g.T.Printed.well_formed c.args.items.now c.loop-item.item-index c.item-item.result (omega arith) c.item-item.is c.loop-item.invariant.well_formed c.in_ok-write.ensures.well_formed;
+  written = each_on (separator_lexeme g.T.Printed.SEPARATOR) g.T.Printed.says g.T.Printed.well_formed c.args.items.now c.loop-item.item-index c.item-item.result (omega arith) c.item-item.is c.loop-item.invariant.written (rw c.SEPARATOR.ensures at c.in_ok-separator.ensures) c.in_ok-write.ensures.written;
+  well_formed = all_on (separator_lexeme g.T.Printed.SEPARATOR) g.T.Printed.says g.T.Printed.well_formed c.args.items.now c.loop-item.item-index c.item-item.result (omega arith) c.item-item.is c.loop-item.invariant.well_formed c.in_ok-write.ensures.well_formed;
 }

@@ -1,6 +1,6 @@
 use Rattle.std.proofs.Common.{ℕ, List, ◌∷◌, ◌++◌, [], map}
 use Rattle.base_core.specs.declared.condition.Assignment.{Assignment}
-use Rattle.lexer_core.specs.declared.token.Kind.TheVariants as kinds
+use Rattle.lexer_core.specs.declared.token.TokenKind.TheVariants as kinds
 use Rattle.lexer_core.specs.declared.token.Mark.TheVariants as marks
 use Rattle.reader_core.specs.Grammar.{Grammar, One, More, Sign, AnyLiteral, End}
 use Rattle.reader_core.specs.Language.{names_rule, set_item}

@@ -1,5 +1,5 @@
 use Rattle.std.proofs.Common.{◌++◌, ◌∷◌, [], map}
-use Rattle.lexer_core.specs.declared.token.Kind.TheVariants as kinds
+use Rattle.lexer_core.specs.declared.token.TokenKind.TheVariants as kinds
 use Rattle.reader_core.specs.Grammar.{One, More, AnyType, End}
 use Rattle.reader_core.specs.Language.{names_rule, column_item}
 use Rattle.base_core.specs.declared.value.Column.{Column}

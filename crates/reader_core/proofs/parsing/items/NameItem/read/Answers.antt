@@ -1,5 +1,5 @@
 use Rattle.std.proofs.Common.{◌∷◌, ◌++◌, [], map, sym, ap}
-use Rattle.lexer_core.specs.declared.token.Kind.TheVariants as kinds
+use Rattle.lexer_core.specs.declared.token.TokenKind.TheVariants as kinds
 use Rattle.reader_core.specs.Grammar.{Items, More, End}
 use Rattle.reader_core.specs.Language.{names_rule, name_item, name_says}
 use Rattle.reader_core.proofs.Choosing.{leads_so}

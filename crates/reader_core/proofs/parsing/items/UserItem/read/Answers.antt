@@ -1,5 +1,5 @@
 use Rattle.base_core.specs.declared.name.User.{User}
-use Rattle.lexer_core.specs.declared.token.Kind.TheVariants as kinds
+use Rattle.lexer_core.specs.declared.token.TokenKind.TheVariants as kinds
 use Rattle.reader_core.specs.Grammar.{End}
 use Rattle.reader_core.proofs.Exits.{exits}
 use Rattle.reader_core.proofs.Lists.{firsts_push}

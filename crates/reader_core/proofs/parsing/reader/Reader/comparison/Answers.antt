@@ -1,6 +1,6 @@
 use Rattle.std.proofs.Common.{refl}
 use Rattle.lexer_core.specs.Lexing as lexemes
-use Rattle.lexer_core.specs.declared.token.Kind.TheVariants as kinds
+use Rattle.lexer_core.specs.declared.token.TokenKind.TheVariants as kinds
 use Rattle.reader_core.specs.Grammar.{AnyTest}
 use Rattle.reader_core.specs.Language.{comparison_mark}
 use Rattle.reader_core.proofs.Taking.{kind_taken, missing_so, comparison_fits}

@@ -1,7 +1,7 @@
 use Rattle.std.proofs.Common.{refl}
 use Rattle.reader_core.specs.Grammar.{AnyName}
 use Rattle.lexer_core.specs.Lexing as lexemes
-use Rattle.lexer_core.specs.declared.token.Kind.TheVariants as kinds
+use Rattle.lexer_core.specs.declared.token.TokenKind.TheVariants as kinds
 use Rattle.reader_core.proofs.Taking.{kind_taken, missing_so}
 use Rattle.reader_core.proofs.Exits.{exits}
 use Rattle.reader_core.proofs.parsing.reader.Reader.name.Goals as goal
