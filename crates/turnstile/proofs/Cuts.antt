@@ -9,7 +9,7 @@ use Rattle.turnstile.specs.declared.view.Known.{Known}
 use Rattle.turnstile.specs.declared.view.View.{View}
 use Rattle.turnstile.specs.declared.view.Terms.{Terms}
 use Rattle.turnstile.specs.Logs.{StartsWith}
-use Rattle.turnstile.specs.Rule.{total, pass_count, turn_count, Apart, PassFits, ViewFits, Out, Turns, dealer}
+use Rattle.turnstile.specs.Rule.{total, pass_count, turn_count, tickets, ticket_count, Apart, PassFits, ViewFits, Out, Turns, dealer}
 use Rattle.turnstile.specs.Steps.{first_known, first_pass, other_passes, dealt, dealt_one, noted, spent_view, heard, gathered}
 use Rattle.turnstile.proofs.Lists.{total_set, total-append, total_snoc, seats_stay, starts_here, put, put_here, put_else, at_both, moved, moved_here, moved_else}
 use Rattle.turnstile.proofs.Keeps.{at_one, slot_stays, later}
@@ -30,6 +30,11 @@ module _ {E : Type 0} where
     apart_both xs ys ax.1 ay (λ m n k l e d. differ (suc m) n k l e d),
   )
 
+-- where no ticket can be, there is none
+no_ticket : (o : Option ℕ) → ((t : ℕ) → o ≡ Some t → ⊥) → tickets o ≡ 0
+no_ticket None never = refl
+no_ticket (Some t) never = absurd (never t refl)
+
 module _ {O E F : Type 0} (log : O → List E) (by : E → ℕ) (mark : O → ℕ) (fix : O → F) (terms : Terms F) where
   abbrev SeatView : Type 0
   SeatView = View O E F
@@ -44,19 +49,19 @@ module _ {O E F : Type 0} (log : O → List E) (by : E → ℕ) (mark : O → �
   Fits core ticket serving queue owner = ViewFits log by mark core ticket serving queue owner terms
 
   -- a view is cut in two
-  forks : (s : TableState) (r : Rule s) (id : ℕ) (v left right : SeatView) (owner' : ℕ → ℕ) → get_elem? s.views id ≡ some v → left.taken ≡ v.taken → pass_count left + pass_count right ≡ pass_count v → turn_count left + turn_count right ≡ turn_count v
+  forks : (s : TableState) (r : Rule s) (id : ℕ) (v left right : SeatView) (owner' : ℕ → ℕ) → get_elem? s.views id ≡ some v → left.taken ≡ v.taken → pass_count left + pass_count right ≡ pass_count v → turn_count left + turn_count right ≡ turn_count v → ticket_count left + ticket_count right ≡ ticket_count v
       → ((p j : ℕ) → r.owner p ≡ j → j ≢ id → owner' p ≡ j)
       → (Fits r.core r.ticket r.serving r.queue r.owner id v → Fits r.core r.ticket r.serving r.queue owner' id left)
       → (Fits r.core r.ticket r.serving r.queue r.owner id v → Fits r.core r.ticket r.serving r.queue owner' (length s.views) right)
       → Rule record { words = s.words; homes = s.homes; views = set s.views id left ++ right ∷ [] }
-  forks s r id v left right owner' at same whole drew others fits_left fits_right = let f = r.views id v at in let cut : List SeatView = set s.views id left in record {
+  forks s r id v left right owner' at same whole drew held others fits_left fits_right = let f = r.views id v at in let cut : List SeatView = set s.views id left in record {
     core = r.core;
     ticket = r.ticket;
     serving = r.serving;
     queue = r.queue;
     owner = owner';
     words = r.words;
-    order = r.order;
+    waiting = (let a = total_snoc ticket_count cut right in let b = total_set ticket_count s.views id v left at in let c = r.waiting in omega arith);
     bound = r.bound;
     slot = ⊎_elim (λ (h : s.homes ≡ some (Some r.core) ∷ []). inl h) (λ (o : Out r.core (r.queue r.serving) record { words = s.words; homes = s.homes; views = cut }). inr (o.0, o.1, at_longer cut (right ∷ []) _ _ o.2, o.3))
         (slot_stays log by mark fix terms r.core (r.queue r.serving) s s.words id v left at same r.slot);
@@ -75,7 +80,7 @@ module _ {O E F : Type 0} (log : O → List E) (by : E → ℕ) (mark : O → �
   -- the first pass of a seat at rest goes to a new seat
   deals_goes : (id : ℕ) (v : SeatView) (k : Known E) (ks : List (Known E)) → v.passes ≡ k ∷ ks → v.ticket ≡ None → Splits Rule id v (record v { passes = ks }) (dealer (k ∷ []) v.terms)
   deals_goes id v k ks has un s r at = let new : ℕ = length s.views in let apart : Apart (k ∷ ks) = subst Apart has (r.views id v at).apart in
-      forks s r id v (record v { passes = ks }) (dealer (k ∷ []) v.terms) (put r.owner k.number new) at refl (let h = ap length has in omega arith) (let h = ap (total (λ (z : Known E). z.turns)) has in omega arith)
+      forks s r id v (record v { passes = ks }) (dealer (k ∷ []) v.terms) (put r.owner k.number new) at refl (let h = ap length has in omega arith) (let h = ap (total (λ (z : Known E). z.turns)) has in omega arith) (omega arith)
       (λ p j e other. put_else r.owner k.number new p (λ same. other (sym e ∙ (ap r.owner same ∙ ((r.views id v at).passes 0 k (ap (λ z. get_elem? z 0) has)).owned))) ∙ e)
       (λ f. record {
         passes = λ m l e. let p = f.passes (suc m) l (ap (λ z. get_elem? z (suc m)) has ∙ e) in
@@ -104,7 +109,7 @@ module _ {O E F : Type 0} (log : O → List E) (by : E → ℕ) (mark : O → �
 
   -- a pass gives a note
   pub notes_goes : (id : ℕ) (v : SeatView) (k : Known E) → v.passes ≡ k ∷ [] → Splits Rule id v v (noted v)
-  notes_goes id v k only s r at = forks s r id v v (noted v) r.owner at refl (omega arith) (omega arith) (λ p j e other. e) (λ f. f)
+  notes_goes id v k only s r at = forks s r id v v (noted v) r.owner at refl (omega arith) (omega arith) (omega arith) (λ p j e other. e) (λ f. f)
       (λ f. let p = f.passes 0 k (ap (λ z. get_elem? z 0) only) in let is : k ≡ first_known v.passes = sym (ap first_known only) in record {
         passes = λ m l e. absurd (some-ne-none l (sym e));
         apart = tt;
@@ -117,10 +122,11 @@ module _ {O E F : Type 0} (log : O → List E) (by : E → ℕ) (mark : O → �
 
   -- two views are joined
   merges : (s : TableState) (r : Rule s) (id other : ℕ) (v w both : SeatView) (owner' : ℕ → ℕ) → get_elem? s.views id ≡ some v → ¬ (other ≡ id) → get_elem? (set s.views id both) other ≡ some w → both.taken ≡ v.taken → w.taken ≡ None
-      → pass_count both ≡ pass_count v + pass_count w → turn_count both ≡ turn_count v + turn_count w → ((p j : ℕ) → r.owner p ≡ j → j ≢ id → j ≢ other → owner' p ≡ j)
+      → pass_count both ≡ pass_count v + pass_count w → turn_count both ≡ turn_count v + turn_count w
+      → (Fits r.core r.ticket r.serving r.queue r.owner other w → ticket_count both ≡ ticket_count v + ticket_count w) → ((p j : ℕ) → r.owner p ≡ j → j ≢ id → j ≢ other → owner' p ≡ j)
       → (Fits r.core r.ticket r.serving r.queue r.owner id v → Fits r.core r.ticket r.serving r.queue r.owner other w → Fits r.core r.ticket r.serving r.queue owner' id both)
       → Rule record { words = s.words; homes = s.homes; views = set (set s.views id both) other spent_view }
-  merges s r id other v w both owner' at apart at_other same out whole drew others fits = let at_w : get_elem? s.views other ≡ some w = sym (set_else s.views id other both apart) ∙ at_other in
+  merges s r id other v w both owner' at apart at_other same out whole drew held others fits = let at_w : get_elem? s.views other ≡ some w = sym (set_else s.views id other both apart) ∙ at_other in
       let f = r.views id v at in let g = r.views other w at_w in let one : List SeatView = set s.views id both in record {
         core = r.core;
         ticket = r.ticket;
@@ -128,7 +134,7 @@ module _ {O E F : Type 0} (log : O → List E) (by : E → ℕ) (mark : O → �
         queue = r.queue;
         owner = owner';
         words = r.words;
-        order = r.order;
+        waiting = (let a = total_set ticket_count s.views id v both at in let b = total_set ticket_count one other w spent_view at_other in let c = r.waiting in let h = held g in omega arith);
         bound = r.bound;
         slot = slot_stays log by mark fix terms r.core (r.queue r.serving) record { words = s.words; homes = s.homes; views = one } s.words other w spent_view at_other (sym out)
             (slot_stays log by mark fix terms r.core (r.queue r.serving) s s.words id v both at same r.slot);
@@ -155,13 +161,14 @@ module _ {O E F : Type 0} (log : O → List E) (by : E → ℕ) (mark : O → �
 
   -- a seat is told what a note tells
   pub hears_goes : (id other : ℕ) (v w : SeatView) → w.passes ≡ [] → w.taken ≡ None → Joins Rule id v other w (heard v w) spent_view
-  hears_goes id other v w none_there out s r at apart at_other = merges s r id other v w (heard v w) r.owner at apart at_other refl out (let h = ap length none_there in omega arith) (let h = ap (total (λ (z : Known E). z.turns)) none_there in omega arith) (λ p j e _ _. e)
+  hears_goes id other v w none_there out s r at apart at_other = merges s r id other v w (heard v w) r.owner at apart at_other refl out (let h = ap length none_there in omega arith) (let h = ap (total (λ (z : Known E). z.turns)) none_there in omega arith)
+      (λ g. let h = no_ticket w.ticket (λ t e. let one = (g.ticket_is t e).3 in let l = ap length none_there in omega arith) in omega arith) (λ p j e _ _. e)
       (λ f g. record { passes = f.passes; apart = f.apart; told = g.told; told_mark = g.told_mark; ticket_is = f.ticket_is; taken_is = f.taken_is; terms_is = f.terms_is })
 
   -- a seat takes over another's passes
-  pub gathers_goes : (id other : ℕ) (v w : SeatView) → v.ticket ≡ None → w.taken ≡ None → Joins Rule id v other w (gathered v w) spent_view
-  gathers_goes id other v w un out s r at apart at_other = merges s r id other v w (gathered v w) (moved r.owner id other) at apart at_other refl out (let h = length-append w.passes v.passes in omega arith) (let h = total-append (λ z. z.turns) w.passes v.passes in omega arith)
-      (λ p j e _ ne. moved_else r.owner id other p (λ z. ne (sym e ∙ z)) ∙ e)
+  pub gathers_goes : (id other : ℕ) (v w : SeatView) → v.ticket ≡ None → w.ticket ≡ None → w.taken ≡ None → Joins Rule id v other w (gathered v w) spent_view
+  gathers_goes id other v w un un_too out s r at apart at_other = merges s r id other v w (gathered v w) (moved r.owner id other) at apart at_other refl out (let h = length-append w.passes v.passes in omega arith) (let h = total-append (λ z. z.turns) w.passes v.passes in omega arith)
+      (λ g. let h : ticket_count w ≡ 0 = ap tickets un_too in omega arith) (λ p j e _ ne. moved_else r.owner id other p (λ z. ne (sym e ∙ z)) ∙ e)
       (λ f g. record {
         passes = λ m k e. ⊎_elim
             (λ (t : (l : ℕ) × (get_elem? w.passes l ≡ some k)). let p = g.passes t.0 k t.1 in

@@ -16,7 +16,7 @@ use Rattle.turnstile.specs.declared.view.Known.{Known}
 use Rattle.turnstile.specs.declared.view.View.{View}
 use Rattle.turnstile.specs.declared.view.Terms.{Terms}
 use Rattle.turnstile.specs.Logs.{StartsWith, own}
-use Rattle.turnstile.specs.Rule.{total, pass_count, turn_count, Apart, PassFits, ViewFits, Out, Turns, fresh, fresh_from, dealer, opening_view}
+use Rattle.turnstile.specs.Rule.{total, pass_count, turn_count, ticket_count, Apart, PassFits, ViewFits, Out, Turns, fresh, fresh_from, dealer, opening_view}
 use Rattle.turnstile.specs.Passes.{Lock, Held, passes_from}
 use Rattle.turnstile.specs.Steps.{SeatState}
 use Rattle.turnstile.specs.Closed.{AreAll, turns_of, Kept, Closed}
@@ -99,7 +99,7 @@ module _ {O E F : Type 0} (log : O → List E) (by : E → ℕ) (mark : O → �
       queue = λ t. 0;
       owner = λ p. 0;
       words = refl;
-      order = le_refl terms.start;
+      waiting = (let no_tickets : total (ticket_count {O = O} {E = E} {F = F}) (opening_view terms ∷ []) ≡ 0 = refl in omega arith);
       bound = low;
       slot = inl refl;
       views = λ j v e. at_first (Fits core terms.start terms.start (λ t. 0) (λ p. 0)) (opening_view terms) j v record {

@@ -14,7 +14,7 @@ use Rattle.turnstile.specs.declared.view.Known.{Known}
 use Rattle.turnstile.specs.declared.view.View.{View}
 use Rattle.turnstile.specs.declared.view.Terms.{Terms}
 use Rattle.turnstile.specs.Logs.{StartsWith, own, Grown}
-use Rattle.turnstile.specs.Rule.{total, pass_count, turn_count, Apart, PassFits, ViewFits, Out, Slot, Turns}
+use Rattle.turnstile.specs.Rule.{total, pass_count, turn_count, tickets, ticket_count, Apart, PassFits, ViewFits, Out, Slot, Turns}
 use Rattle.turnstile.specs.Steps.{SeatState, counted, with_turn, with_ticket, with_core, with_count, counts, draws, called, known_after, view_after, ends, learned, learns}
 use Rattle.turnstile.proofs.Lists.{total_set, total_same, seats_stay, set_there, starts_later, starts_here, adds_start, own_others, bears_later, put, put_here, put_else}
 
@@ -133,7 +133,7 @@ module _ {O E F : Type 0} (log : O → List E) (by : E → ℕ) (mark : O → �
       queue = r.queue;
       owner = r.owner;
       words = ap (λ z. set z 0 found) r.words ∙ ap (λ z. z ∷ r.serving ∷ []) is;
-      order = r.order;
+      waiting = (let d = r.waiting in let t = total_same ticket_count s.views id me.0 w at refl in omega arith);
       bound = r.bound;
       slot = slot_stays r.core (r.queue r.serving) s (set s.words 0 found) id me.0 w at refl r.slot;
       views = seats_stay (Fits r.core r.ticket r.serving r.queue r.owner) (Fits r.core r.ticket r.serving r.queue r.owner) s.views id w r.views
@@ -147,11 +147,11 @@ module _ {O E F : Type 0} (log : O → List E) (by : E → ℕ) (mark : O → �
   )
 
   -- a compare_exchange of the ticket word
-  pub draws_goes : (n id : ℕ) (me : SeatState O E F) (old new : ℕ) → length me.0.passes ≡ 1 → me.0.taken ≡ None → old < 2 ^ 62 → new ≡ old + 1
+  pub draws_goes : (n id : ℕ) (me : SeatState O E F) (old new : ℕ) → length me.0.passes ≡ 1 → me.0.ticket ≡ None → me.0.taken ≡ None → old < 2 ^ 62 → new ≡ old + 1
       → Allows Rule n id me 0 (λ y. either (eqb y old) new y) (draws (step n 0 old new none) me)
-  draws_goes n id me old new one none_taken low is_new s r wide at _ = let found : ℕ = get_or s.words 0 0 in let is : found ≡ r.ticket = ap (λ z. get_or z 0 0) r.words in
+  draws_goes n id me old new one un none_taken low is_new s r wide at _ = let found : ℕ = get_or s.words 0 0 in let is : found ≡ r.ticket = ap (λ z. get_or z 0 0) r.words in
       let told = draws (step n 0 old new none) me in exchanged found old new (Goes s 0 id me told)
-      (λ hit. let w : SeatView = with_ticket me.0 old in let queue' : ℕ → ℕ = put r.queue old id in let f = r.views id me.0 at in let le = r.order in (
+      (λ hit. let w : SeatView = with_ticket me.0 old in let queue' : ℕ → ℕ = put r.queue old id in let f = r.views id me.0 at in let le = r.waiting in (
         w,
         keeps,
         tt,
@@ -162,7 +162,7 @@ module _ {O E F : Type 0} (log : O → List E) (by : E → ℕ) (mark : O → �
           queue = queue';
           owner = r.owner;
           words = ap (λ z. set z 0 new) r.words;
-          order = omega arith;
+          waiting = (let t = total_set ticket_count s.views id me.0 w at in let n : ticket_count me.0 ≡ 0 = ap tickets un in omega arith);
           bound = omega arith;
           slot = ⊎_elim (λ (h : s.homes ≡ some (Some r.core) ∷ []). inl h)
               (λ (o : Out r.core (r.queue r.serving) s). let b = out_ticket s r o in
@@ -208,7 +208,7 @@ module _ {O E F : Type 0} (log : O → List E) (by : E → ℕ) (mark : O → �
           queue = r.queue;
           owner = r.owner;
           words = ap (λ z. set z 1 found) r.words ∙ ap (λ z. r.ticket ∷ z ∷ []) is;
-          order = r.order;
+          waiting = (let d = r.waiting in let t = total_same ticket_count s.views id me.0 w at refl in omega arith);
           bound = r.bound;
           slot = inr (ap (λ z. set z 0 none) home, w, subst (λ z. get_elem? (set s.views id w) z ≡ some w) (sym here) (set_there s.views id me.0 w at), refl);
           views = seats_stay (Fits r.core r.ticket r.serving r.queue r.owner) (Fits r.core r.ticket r.serving r.queue r.owner) s.views id w r.views
@@ -248,7 +248,7 @@ module _ {O E F : Type 0} (log : O → List E) (by : E → ℕ) (mark : O → �
           queue = r.queue;
           owner = r.owner;
           words = ap (λ z. set z 1 ((found + 1) % 2 ^ 64)) r.words ∙ ap (λ z. r.ticket ∷ z ∷ []) next;
-          order = omega arith;
+          waiting = (let d = r.waiting in let t = total_set ticket_count s.views id me.0 w at in let n : ticket_count me.0 ≡ 1 = ap tickets tick in omega arith);
           bound = b;
           slot = inl (ap (put_back s.homes) carries ∙ ⊎_elim (λ (h : s.homes ≡ some (Some x) ∷ []). ap (λ z. set z 0 (some (Some y))) h) (λ (o : Out x (r.queue r.serving) s). ap (λ z. set z 0 (some (Some y))) o.0) r.slot);
           views = seats_stay (Fits x r.ticket r.serving r.queue r.owner) (Fits y r.ticket (r.serving + 1) r.queue r.owner) s.views id w r.views
@@ -294,7 +294,7 @@ module _ {O E F : Type 0} (log : O → List E) (by : E → ℕ) (mark : O → �
           queue = r.queue;
           owner = r.owner;
           words = ap (λ z. set z 0 found) r.words ∙ ap (λ z. z ∷ r.serving ∷ []) is;
-          order = r.order;
+          waiting = (let d = r.waiting in let t = total_same ticket_count s.views id me.0 w at refl in omega arith);
           bound = r.bound;
           slot = slot_stays r.core (r.queue r.serving) s (set s.words 0 found) id me.0 w at refl r.slot;
           views = seats_stay (Fits r.core r.ticket r.serving r.queue r.owner) (Fits r.core r.ticket r.serving r.queue r.owner) s.views id w r.views

@@ -1,20 +1,19 @@
 -- The steps of one call, put together.
 use Rattle.std.proofs.Common.{◌≡◌, ℕ, List, [], ◌∷◌, ◌++◌, map, sym, refl, ap, ◌∙◌, subst}
 use Rattle.std.specs.Prelude.{Option, Some, None, option_map}
-use Rattle.atomic_table.specs.Seated.{TableId}
 use Rattle.turnstile.specs.declared.view.Known.{Known}
 use Rattle.turnstile.specs.declared.view.Terms.{Terms}
 use Rattle.turnstile.specs.Logs.{own, gained, Grown}
 use Rattle.turnstile.specs.Steps.{SeatState, counted, with_turn, with_ticket, with_core, with_count, IsFresh, known_after, view_after, first_known}
-use Rattle.turnstile.specs.Passes.{Lock, Held}
+use Rattle.turnstile.specs.Passes.{Identity, Lock, Held}
 use Rattle.turnstile.specs.Places.{lock_at, terms_of, known_of, held_of, IsAtRest}
 use Rattle.turnstile.specs.Turned.{Turned}
 use Rattle.turnstile.proofs.Lists.{own_mine}
 
 -- the seat of what has this lock is of that table, and has its terms
-pub at_lock : {F : Type 0} (z y : TableId) (t : Option (Terms F)) (u : Terms F) → option_map (lock_at z) t ≡ Some (lock_at y u) → (z ≡ y) × (t ≡ Some u)
+pub at_lock : {F : Type 0} (z y : Identity) (t : Option (Terms F)) (u : Terms F) → option_map (lock_at z) t ≡ Some (lock_at y u) → (z ≡ y) × (t ≡ Some u)
 at_lock z y None u e = cc
-at_lock z y (Some t) u e = let same : lock_at z t ≡ lock_at y u = cc in (ap (λ l. l.table) same, ap (λ l. Some (terms_of l)) same)
+at_lock z y (Some t) u e = let same : lock_at z t ≡ lock_at y u = cc in (ap (λ l. l.identity) same, ap (λ l. Some (terms_of l)) same)
 
 pub at_rest : {O E F : Type 0} (m : SeatState O E F) (k : Known E) → m.0.passes ≡ k ∷ [] → m.0.ticket ≡ None → m.0.taken ≡ None → m.1 ≡ [] → IsAtRest m
 at_rest m k only un out carries = record { only = only ∙ ap (λ z. z ∷ []) (sym (ap first_known only)); no_ticket = un; none_taken = out; carries = carries }
@@ -36,7 +35,7 @@ module _ {O E F : Type 0} (m0 m1 : SeatState O E F) (t : ℕ) where
 
 module _ {O E F : Type 0} (log : O → List E) (by : E → ℕ) (mark : O → ℕ) (fix : O → F) where
   -- what the pass is told of a turn that drew the ticket t, found the object x and left it y
-  pub turned : {A R : Type 0} (acts : O → ℕ → A → R → O → Type 0) (lock : Lock F) (ask : A) (reply : R) (t : ℕ) (x y : O) (z z' : TableId) (m0 m3 : SeatState O E F) (terms : Option (Terms F)) (old : Held E F) → held_of z m0 ≡ old
+  pub turned : {A R : Type 0} (acts : O → ℕ → A → R → O → Type 0) (lock : Lock F) (ask : A) (reply : R) (t : ℕ) (x y : O) (z z' : Identity) (m0 m3 : SeatState O E F) (terms : Option (Terms F)) (old : Held E F) → held_of z m0 ≡ old
       → m3.0.passes ≡ known_after log mark y (with_turn t (known_of m0)) ∷ [] → terms ≡ Some (terms_of lock) → acts x (known_of m0).number ask reply y → Grown log by mark fix (known_of m0).number x y
       → IsFresh log by mark fix (with_turn t (known_of m0)) terms x → Turned log by mark fix acts lock ask reply old (held_of z' m3)
   turned acts lock ask reply t x y z z' m0 m3 terms old is only are acted grown fresh = let k = known_of m0 in let now : known_of m3 ≡ known_after log mark y (with_turn t k) = ap first_known only in

@@ -3,10 +3,14 @@ use Rattle.std.specs.Prelude.{◌≡◌, ℕ, zero, suc, List, [], ◌∷◌, Op
 use Rattle.atomic_table.specs.Seated.{TableId}
 use Rattle.turnstile.specs.Logs.{own}
 
+-- which turnstile it is: no two that stand at one time have the same
+abbrev pub Identity : Type 0
+Identity = TableId
+
 -- A turnstile: which one it is, how many passes it has, what its turns are counted from, and its
 -- object's fixed part.
 pub record Lock (F : Type 0) : Type 0 where
-  pub table : TableId
+  pub identity : Identity
   pub count : ℕ
   pub start : ℕ
   pub fixed : F

@@ -1,13 +1,12 @@
 -- What the seat of a pass and that of a note have, and what contracts see of them.
 use Rattle.std.specs.Prelude.{◌≡◌, [], ◌∷◌, Option, None, option_map}
-use Rattle.atomic_table.specs.Seated.{TableId}
 use Rattle.turnstile.specs.declared.view.Known.{Known}
 use Rattle.turnstile.specs.declared.view.Terms.{Terms}
 use Rattle.turnstile.specs.Steps.{SeatState, first_known}
-use Rattle.turnstile.specs.Passes.{Lock, Held, Told}
+use Rattle.turnstile.specs.Passes.{Identity, Lock, Held, Told}
 
-abbrev pub lock_at : {F : Type 0} → TableId → Terms F → Lock F
-lock_at z t = record { table = z; count = t.count; start = t.start; fixed = t.fixed }
+abbrev pub lock_at : {F : Type 0} → Identity → Terms F → Lock F
+lock_at z t = record { identity = z; count = t.count; start = t.start; fixed = t.fixed }
 
 abbrev pub terms_of : {F : Type 0} → Lock F → Terms F
 terms_of l = record { count = l.count; start = l.start; fixed = l.fixed }
@@ -31,10 +30,10 @@ module _ {O E F : Type 0} where
   abbrev pub known_of : SeatState O E F → Known E
   known_of m = first_known m.0.passes
 
-  abbrev pub held_of : TableId → SeatState O E F → Held E F
+  abbrev pub held_of : Identity → SeatState O E F → Held E F
   held_of z m = held_as (option_map (lock_at z) m.0.terms) (known_of m)
 
-  abbrev pub told_of : TableId → SeatState O E F → Told E F
+  abbrev pub told_of : Identity → SeatState O E F → Told E F
   told_of z m =
       record { lock = option_map (lock_at z) m.0.terms; seen = m.0.told; mark = m.0.told_mark }
 

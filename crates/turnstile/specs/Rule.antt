@@ -21,6 +21,14 @@ pass_count v = length v.passes
 abbrev pub turn_count : {O E F : Type 0} → View O E F → ℕ
 turn_count v = total (λ k. k.turns) v.passes
 
+-- how many tickets it has
+abbrev pub tickets : Option ℕ → ℕ
+tickets None = 0
+tickets (Some t) = 1
+
+abbrev pub ticket_count : {O E F : Type 0} → View O E F → ℕ
+ticket_count v = tickets v.ticket
+
 -- the passes have different numbers
 abbrev pub Apart : {E : Type 0} → List (Known E) → Type 0
 Apart [] = Unit {0}
@@ -79,7 +87,8 @@ pub record Turns {O E F : Type 0} (log : O → List E) (by : E → ℕ) (mark : 
   pub queue : ℕ → ℕ
   pub owner : ℕ → ℕ
   pub words : s.words ≡ ticket ∷ serving ∷ []
-  pub order : serving ≤ ticket
+  -- there is a seat with a ticket for each turn that is drawn and not ended
+  pub waiting : ticket ≡ serving + total ticket_count s.views
   pub bound : ticket ≤ 2 ^ 62
   pub drawn : ticket ≡ terms.start + total turn_count s.views
   pub slot : Slot core (queue serving) s

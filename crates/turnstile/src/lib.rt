@@ -16,39 +16,40 @@
 //! passes made, and no turns were drawn but theirs.
 //!
 //! ```text
-//! let (turnstile, mut passes) = Turnstile::build(alloc, Tally::new(alloc), 2)?;
+//! let (turnstile, mut passes) = Turnstile::build(alloc, Tally::new(alloc, 100), 2)?;
 //! let mut second = passes.pop()?;
 //! let mut first = passes.pop()?;
-//! turnstile.turn(&rt, &mut first, ());     // Ok(true): the tally is [0]
+//! turnstile.turn(&rt, &mut first, true);   // Ok(Some(0)): the entries are [0]
 //! let note = turnstile.note(&mut first);
 //! turnstile.meet(&mut second, note);       // the second pass has now seen [0]
-//! turnstile.turn(&rt, &mut second, ());    // Ok(true): the tally is [0, 1]
+//! turnstile.turn(&rt, &mut second, true);  // Ok(Some(1)): the entries are [0, 1]
 //! passes.push(first)?;
 //! passes.push(second)?;
-//! turnstile.close(passes)                  // Ok: the tally [0, 1]
+//! turnstile.close(passes)                  // Ok: the tally with the entries [0, 1]
 //! ```
 //!
 //! **How it works.** There are two words and one slot. The ticket word counts the turns drawn, the
 //! served word says which turn is served, and the slot has the object. A turn raises the ticket word by
 //! one, and what it found there is its ticket. It reads the served word until that is its ticket, and
-//! sleeps meanwhile, parked on that word. Then it takes the object out of the slot, lets it act, gives it
-//! back, raises the served word by one, and wakes all that are parked. The stretch between taking the
-//! object and giving it back is the event, and its entry joins the history as the served word rises. No
+//! sleeps meanwhile on its bell, one of a row of words that mean nothing to the rule. Then it takes the
+//! object out of the slot, lets it act, gives it back and raises the served word by one. Where the ticket
+//! word says that the next turn is drawn already, it rings that ticket's bell. The stretch between taking
+//! the object and giving it back is the event, and its entry joins the history as the served word rises. No
 //! other lock stands beside it, and between two calls a pass holds neither a ticket nor the object.
 //!
 //! Turns are counted from the start that the turnstile was made with, 0 by [`build`](Turnstile::build).
 //! Once the count is 2^62, each turn answers [`Worn`], and none does before.
 //!
 //! **Cost.** Only making a turnstile takes memory, beside what the object's acts take. A turn that
-//! nobody contends costs four atomic steps, two moves of the object and one wake, a call of the system.
-//! A turn that ends wakes all that wait, at most one thread for each other pass, and each of these
-//! reads the served word once: w threads that wait read it some w²/2 times until all have had their
-//! turn. A note costs one atomic step, a meeting two, and closing one for each pass.
+//! nobody contends costs six atomic steps and two moves of the object, and no call of the system. A turn
+//! that ends while others wait wakes the next in line alone. A note costs one atomic step, a meeting two,
+//! and closing one for each pass.
 //!
 //! **Not promised**: that a turn comes or ends, how long it waits, fairness, or any order between
 //! passes that never met. An act that does not return keeps all other turns waiting.
 #![tactic(auto)]
 
+mod bells;
 mod law;
 mod object;
 mod pass;

@@ -25,7 +25,8 @@ pub trait Object: Drop {
 
     ghost fixed: { Self → Self.Fixed };
 
-    // What an act may do: of the object before, the pass's number, what is asked, the reply and the object after.
+    // What an act may do: of the object before, the pass's number, what is asked, the reply and the object
+    // after.
     ghost acts: { Self → ℕ → Self.Ask → Self.Reply → Self → Type 0 };
 
     /// Does what is asked, for the pass of that number.
@@ -35,7 +36,8 @@ pub trait Object: Drop {
     fn fixed_part(&self) -> Self::Fixed
         ensures { result ≡ fixed self.now };
 
-    // The log is as before, or has one entry more, which bears the pass's number. The mark does not fall, and the fixed part stays.
+    // The log is as before, or has one entry more, which bears the pass's number. The mark does not fall,
+    // and the fixed part stays.
     ghost grows: { (x : Self) (p : ℕ) (a : Self.Ask) (r : Self.Reply) (y : Self)
         → acts x p a r y
         → Grown log by mark fixed p x y };

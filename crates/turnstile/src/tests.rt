@@ -1,23 +1,26 @@
-//! What no clause says: that calls answer at all, turns on two threads, and that passes come back.
-ghost use Rattle.std.specs.Prelude.{◌≡◌, Some};
+//! What no clause says: that calls answer at all, that those who wait are woken, and that passes come
+//! back. And what a caller can tell by a mark and a fixed part.
+ghost use Rattle.std.specs.Prelude.{◌≡◌, ◌<◌, Some, IfSome};
 
 use crate::{Pass, Tally, Turnstile};
 use std::sync::Wait;
 use std::test::Fail;
 use std::thread::{Threads, join};
 
+const MOST: u64 = 1 << 32;
+
 #[test]
 fn worn_where_all_turns_are_drawn(rt: HostRuntime) -> Result<(), Fail> {
     let (turnstile, mut passes) = Turnstile::build_at(
         rt.alloc(),
-        Tally::new(rt.alloc()),
+        Tally::new(rt.alloc(), MOST),
         1,
         (1 << 62) - 1,
     )?;
     let mut pass = passes.pop().ok_or("no pass")?;
-    assert!(rt; matches!(turnstile.turn(&rt, &mut pass, ()), Ok(true)));
-    assert!(rt; turnstile.turn(&rt, &mut pass, ()).is_err());
-    assert!(rt; turnstile.turn(&rt, &mut pass, ()).is_err());
+    assert!(rt; matches!(turnstile.turn(&rt, &mut pass, true), Ok(Some(0))));
+    assert!(rt; turnstile.turn(&rt, &mut pass, true).is_err());
+    assert!(rt; turnstile.turn(&rt, &mut pass, true).is_err());
     passes.push(pass)?;
     let Ok(tally) = turnstile.close(passes) else {
         panic!(rt; "not all passes")
@@ -27,12 +30,27 @@ fn worn_where_all_turns_are_drawn(rt: HostRuntime) -> Result<(), Fail> {
 }
 
 #[test]
-fn two_turns_answer(rt: HostRuntime) -> Result<(), Fail> {
-    let (turnstile, mut passes) = Turnstile::build_at(rt.alloc(), Tally::new(rt.alloc()), 1, 0)?;
+fn first_turn_worn(rt: HostRuntime) -> Result<(), Fail> {
+    let tally = Tally::new(rt.alloc(), MOST);
+    let (turnstile, mut passes) = Turnstile::build_at(rt.alloc(), tally, 1, 1 << 62)?;
     let mut pass = passes.pop().ok_or("no pass")?;
-    let first = turnstile.turn(&rt, &mut pass, ());
-    let second = turnstile.turn(&rt, &mut pass, ());
-    assert!(rt; matches!((first, second), (Ok(true), Ok(true))));
+    assert!(rt; turnstile.turn(&rt, &mut pass, true).is_err());
+    passes.push(pass)?;
+    let Ok(tally) = turnstile.close(passes) else {
+        panic!(rt; "not all passes")
+    };
+    assert!(rt; tally.entries().is_empty());
+    Ok(())
+}
+
+#[test]
+fn two_turns_answer(rt: HostRuntime) -> Result<(), Fail> {
+    let tally = Tally::new(rt.alloc(), MOST);
+    let (turnstile, mut passes) = Turnstile::build_at(rt.alloc(), tally, 1, 0)?;
+    let mut pass = passes.pop().ok_or("no pass")?;
+    let first = turnstile.turn(&rt, &mut pass, true);
+    let second = turnstile.turn(&rt, &mut pass, true);
+    assert!(rt; matches!((first, second), (Ok(Some(0)), Ok(Some(1)))));
     passes.push(pass)?;
     let Ok(tally) = turnstile.close(passes) else {
         panic!(rt; "not all passes")
@@ -41,33 +59,58 @@ fn two_turns_answer(rt: HostRuntime) -> Result<(), Fail> {
     Ok(())
 }
 
+// The numbers of two turns that are not entered, between which the second pass met the first's note.
+fn two_numbers<R: Wait>(
+    rt: &R,
+    turnstile: &Turnstile<Tally>,
+    first: &mut Pass<Tally>,
+    second: &mut Pass<Tally>,
+) -> Option<(u64, u64)>
+    requires first { first.old.lock ≡ Some turnstile.now }
+    requires second { second.old.lock ≡ Some turnstile.now }
+    ensures first { first.new.lock ≡ Some turnstile.now }
+    ensures second { second.new.lock ≡ Some turnstile.now }
+    ensures rise { IfSome result (λ n. n.0 < n.1) }
+    ensures below { IfSome result (λ n. n.1 < turnstile.now.fixed) }
+{
+    let earlier = turnstile.turn(rt, first, false).ok()??;
+    let note = turnstile.note(first);
+    turnstile.meet(second, note);
+    let later = turnstile.turn(rt, second, false).ok()??;
+    Some((earlier, later))
+}
+
 #[test]
 fn note_and_meet(rt: HostRuntime) -> Result<(), Fail> {
-    let (turnstile, mut passes) = Turnstile::build(rt.alloc(), Tally::new(rt.alloc()), 2)?;
+    let (turnstile, mut passes) = Turnstile::build(rt.alloc(), Tally::new(rt.alloc(), 3), 2)?;
     let mut second = passes.pop().ok_or("no pass")?;
     let mut first = passes.pop().ok_or("no pass")?;
-    assert!(rt; turnstile.turn(&rt, &mut first, ()).is_ok());
-    let note = turnstile.note(&mut first);
-    turnstile.meet(&mut second, note);
-    assert!(rt; turnstile.turn(&rt, &mut second, ()).is_ok());
     assert_eq!(rt; (first.number(), second.number()), (0, 1));
+    assert_eq!(rt;
+        two_numbers(&rt, &turnstile, &mut first, &mut second),
+        Some((0, 1))
+    );
+    assert!(rt; matches!(turnstile.turn(&rt, &mut second, true), Ok(Some(2))));
+    assert!(rt; matches!(turnstile.turn(&rt, &mut first, true), Ok(None)));
+    assert_eq!(rt; two_numbers(&rt, &turnstile, &mut first, &mut second), None);
     passes.push(second)?;
     passes.push(first)?;
     let Ok(tally) = turnstile.close(passes) else {
         panic!(rt; "not all passes")
     };
-    assert_eq!(rt; tally.entries(), [0, 1].as_slice());
+    assert_eq!(rt; tally.entries(), [1].as_slice());
     Ok(())
 }
 
 #[test]
 fn missing_pass_gives_all_back(rt: HostRuntime) -> Result<(), Fail> {
-    let (turnstile, mut passes) = Turnstile::build(rt.alloc(), Tally::new(rt.alloc()), 2)?;
+    let tally = Tally::new(rt.alloc(), MOST);
+    let (turnstile, mut passes) = Turnstile::build(rt.alloc(), tally, 2)?;
     let mut second = passes.pop().ok_or("no pass")?;
     let Err((turnstile, mut passes)) = turnstile.close(passes) else {
         panic!(rt; "closed without a pass")
     };
-    assert!(rt; turnstile.turn(&rt, &mut second, ()).is_ok());
+    assert!(rt; turnstile.turn(&rt, &mut second, true).is_ok());
     passes.push(second)?;
     let Ok(tally) = turnstile.close(passes) else {
         panic!(rt; "not all passes")
@@ -76,17 +119,18 @@ fn missing_pass_gives_all_back(rt: HostRuntime) -> Result<(), Fail> {
     Ok(())
 }
 
-// A hundred turns of one pass.
-fn hundred_turns<R: Wait>(
+// So many turns of one pass.
+fn some_turns<R: Wait>(
     rt: &R,
     turnstile: &Turnstile<Tally>,
     mut pass: Pass<Tally>,
+    count: u64,
 ) -> Pass<Tally>
     requires { pass.lock ≡ Some turnstile.now }
     ensures { result.lock ≡ Some turnstile.now }
 {
-    for _ in 0..100u64 {
-        let _entered = turnstile.turn(rt, &mut pass, ());
+    for _ in 0..count {
+        let _number = turnstile.turn(rt, &mut pass, true);
     }
     pass
 }
@@ -97,6 +141,7 @@ fn on_two_threads<R: Threads + Wait + Sync>(
     turnstile: &Turnstile<Tally>,
     first: Pass<Tally>,
     second: Pass<Tally>,
+    count: u64,
 ) -> (Pass<Tally>, Pass<Tally>)
     requires first { first.lock ≡ Some turnstile.now }
     requires second { second.lock ≡ Some turnstile.now }
@@ -108,20 +153,21 @@ fn on_two_threads<R: Threads + Wait + Sync>(
         || -> Pass<Tally>
             requires { first.lock ≡ Some turnstile.now }
             ensures { result.lock ≡ Some turnstile.entry.now }
-        { hundred_turns(rt, turnstile, first) },
+        { some_turns(rt, turnstile, first, count) },
         || -> Pass<Tally>
             requires { second.lock ≡ Some turnstile.now }
             ensures { result.lock ≡ Some turnstile.entry.now }
-        { hundred_turns(rt, turnstile, second) },
+        { some_turns(rt, turnstile, second, count) },
     )
 }
 
 #[test]
 fn two_threads_tally(rt: HostRuntime) -> Result<(), Fail> {
-    let (turnstile, mut passes) = Turnstile::build(rt.alloc(), Tally::new(rt.alloc()), 2)?;
+    let tally = Tally::new(rt.alloc(), MOST);
+    let (turnstile, mut passes) = Turnstile::build(rt.alloc(), tally, 2)?;
     let second = passes.pop().ok_or("no pass")?;
     let first = passes.pop().ok_or("no pass")?;
-    let (first, second) = on_two_threads(&rt, &turnstile, first, second);
+    let (first, second) = on_two_threads(&rt, &turnstile, first, second, 100);
     passes.push(second)?;
     passes.push(first)?;
     let Ok(tally) = turnstile.close(passes) else {
@@ -133,5 +179,64 @@ fn two_threads_tally(rt: HostRuntime) -> Result<(), Fail> {
         (tally.entries().len(), of_first, of_second),
         (200, 100, 100)
     );
+    Ok(())
+}
+
+type Pair = (Pass<Tally>, Pass<Tally>);
+
+// So do four passes, of two pairs.
+fn on_four_threads<R: Threads + Wait + Sync>(
+    rt: &R,
+    turnstile: &Turnstile<Tally>,
+    left: Pair,
+    right: Pair,
+    count: u64,
+) -> (Pair, Pair)
+    requires left { (left.0.lock ≡ Some turnstile.now) × (left.1.lock ≡ Some turnstile.now) }
+    requires right { (right.0.lock ≡ Some turnstile.now) × (right.1.lock ≡ Some turnstile.now) }
+    ensures left { (result.0.0.lock ≡ Some turnstile.now)
+        × (result.0.1.lock ≡ Some turnstile.now) }
+    ensures right { (result.1.0.lock ≡ Some turnstile.now)
+        × (result.1.1.lock ≡ Some turnstile.now) }
+{
+    join(
+        rt,
+        || -> Pair
+            requires { (left.0.lock ≡ Some turnstile.now) × (left.1.lock ≡ Some turnstile.now) }
+            ensures { (result.0.lock ≡ Some turnstile.entry.now)
+                × (result.1.lock ≡ Some turnstile.entry.now) }
+        { on_two_threads(rt, turnstile, left.0, left.1, count) },
+        || -> Pair
+            requires { (right.0.lock ≡ Some turnstile.now)
+                × (right.1.lock ≡ Some turnstile.now) }
+            ensures { (result.0.lock ≡ Some turnstile.entry.now)
+                × (result.1.lock ≡ Some turnstile.entry.now) }
+        { on_two_threads(rt, turnstile, right.0, right.1, count) },
+    )
+}
+
+// There are so many turns that threads sleep: where nobody wakes them, this test does not end.
+#[test]
+fn four_threads_wait_and_wake(rt: HostRuntime) -> Result<(), Fail> {
+    let tally = Tally::new(rt.alloc(), MOST);
+    let (turnstile, mut passes) = Turnstile::build(rt.alloc(), tally, 4)?;
+    let left = (
+        passes.pop().ok_or("no pass")?,
+        passes.pop().ok_or("no pass")?,
+    );
+    let right = (
+        passes.pop().ok_or("no pass")?,
+        passes.pop().ok_or("no pass")?,
+    );
+    let (left, right) = on_four_threads(&rt, &turnstile, left, right, 20_000);
+    passes.push(left.0)?;
+    passes.push(left.1)?;
+    passes.push(right.0)?;
+    passes.push(right.1)?;
+    let Ok(tally) = turnstile.close(passes) else {
+        panic!(rt; "not all passes")
+    };
+    let of_last = tally.entries().iter().filter(|e| **e == 3).count();
+    assert_eq!(rt; (tally.entries().len(), of_last), (80_000, 20_000));
     Ok(())
 }

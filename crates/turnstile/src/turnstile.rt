@@ -8,6 +8,7 @@ ghost use Rattle.turnstile.specs.Rule.{dealer, fresh, fresh_from};
 ghost use Rattle.turnstile.specs.Steps.{with_ticket, with_core, with_count, view_after, IsFresh};
 ghost use Rattle.turnstile.specs.Places.{terms_of, known_of, known_in, IsAtRest};
 
+use crate::bells::Bells;
 use crate::law::Law;
 use crate::object::Object;
 use crate::pass::{Note, Pass, Place};
@@ -35,6 +36,7 @@ const SERVING: usize = 1;
 #[derive(Drop)]
 pub struct Turnstile<O: Object> {
     table: Table<Option<O>, View<O, O::Entry, O::Fixed>, Terms<O::Fixed>, Law<O>, Global>,
+    bells: Bells,
     count: usize,
 }
 
@@ -90,18 +92,23 @@ impl<O: Object> Turnstile<O> {
             start,
             fixed: object.fixed_part(),
         };
+        let bells = Bells::new(alloc)?;
         let mut slots = Vec::new(alloc);
         slots.push(Some(object))?;
         let Ok((table, seat)) = Table::new(alloc, &[start, start], slots, &terms) else {
             return Err(NoMemory);
         };
-        let turnstile = Turnstile { table, count };
+        let turnstile = Turnstile {
+            table,
+            bells,
+            count,
+        };
         let passes = turnstile.deal_all(alloc, seat)?;
         Ok((turnstile, passes))
     }
 
     fn deal_all(&self, alloc: Global, mut seat: Place<O>) -> Result<Vec<Pass<O>>, NoMemory>
-        requires own { seat.table_id ≡ self.now.table }
+        requires own { seat.table_id ≡ self.now.identity }
         requires all { seat.me
             ≡ (dealer (fresh_from self.now.start 0 self.now.count) (Some (terms_of self.now)), []) }
         ensures { IfOk result (λ v. v.items ≡ new_passes self.now) }
@@ -115,7 +122,7 @@ impl<O: Object> Turnstile<O> {
 
     // A new pass, of the first number that the seat has.
     fn deal(&self, seat: &mut Place<O>, number: u64) -> Pass<O>
-        requires own { seat.old.table_id ≡ self.now.table }
+        requires own { seat.old.table_id ≡ self.now.identity }
         requires below { number < self.now.count }
         requires first { (n : _)
             × (seat.old.me
@@ -169,12 +176,13 @@ impl<O: Object> Turnstile<O> {
         let mut object = self.take(rt, &mut pass.seat, ticket);
         let reply = object.act(pass.number, ask);
         self.end(&mut pass.seat, object);
+        self.wake(ticket + 1);
         Ok(reply)
     }
 
     // Draws the next ticket, unless 2^62 were drawn.
     fn draw<R: Wait>(&self, rt: &R, seat: &mut Place<O>) -> Result<u64, Worn>
-        requires own { seat.old.table_id ≡ self.now.table }
+        requires own { seat.old.table_id ≡ self.now.identity }
         requires rest { IsAtRest seat.old.me }
         ensures own { seat.new.table_id ≡ seat.old.table_id }
         ensures ok { IfOk result (λ t. (seat.new.me ≡ (with_ticket seat.old.me.0 t, []))
@@ -198,9 +206,10 @@ impl<O: Object> Turnstile<O> {
         unreachable!()
     }
 
-    // Sleeps until the ticket is served, and takes the object.
+    // Waits until the ticket is served, and takes the object. Whoever ends the turn before raises the served
+    // word and then rings the bell: it is read before the served word, so that no ring is missed.
     fn take<R: Wait>(&self, rt: &R, seat: &mut Place<O>, ticket: u64) -> O
-        requires own { seat.old.table_id ≡ self.now.table }
+        requires own { seat.old.table_id ≡ self.now.identity }
         requires waits { (k : _)
             × (seat.old.me.0.passes ≡ k ∷ [])
             × (seat.old.me.0.ticket ≡ Some ticket)
@@ -213,6 +222,7 @@ impl<O: Object> Turnstile<O> {
             → IsFresh O.log O.by O.mark O.fixed k seat.old.me.0.terms result }
     {
         for _ in rt.forever() {
+            let rung = self.bells.rung(ticket);
             let serving = self.table.shared.load::<Take>(seat, SERVING);
             if serving == ticket {
                 match self.table.shared.exchange(seat, 0, None) {
@@ -220,16 +230,14 @@ impl<O: Object> Turnstile<O> {
                     None => unreachable!(),
                 }
             }
-            self.table
-                .shared
-                .park(rt, SERVING, (serving & 0xffff_ffff) as u32);
+            self.bells.sleep(rt, ticket, rung);
         }
         unreachable!()
     }
 
     // Gives the object back and ends the turn.
     fn end(&self, seat: &mut Place<O>, object: O)
-        requires own { seat.old.table_id ≡ self.now.table }
+        requires own { seat.old.table_id ≡ self.now.identity }
         requires has { (k : _)
             × (x : _)
             × (seat.old.me.0.passes ≡ k ∷ [])
@@ -244,7 +252,14 @@ impl<O: Object> Turnstile<O> {
             Some(_) => unreachable!(),
         }
         self.table.shared.fetch_add::<End>(seat, SERVING, 1);
-        self.table.shared.wake_all(SERVING);
+    }
+
+    // Wakes the one that waits for the next turn, which is served now, where it was drawn already. Whoever
+    // draws it later reads the served word after that, and does not sleep.
+    fn wake(&self, next: u64) {
+        if self.table.shared.peek(TICKET) != next {
+            self.bells.ring(next);
+        }
     }
 
     /// What the pass has seen, for another pass of this turnstile to meet.
@@ -290,7 +305,11 @@ impl<O: Object> Turnstile<O> {
             return Err((self, passes));
         }
         let seat = self.gather(passes);
-        let Turnstile { table, count: _ } = self;
+        let Turnstile {
+            table,
+            bells: _,
+            count: _,
+        } = self;
         let mut closed = table.close_with(seat);
         let object = closed.take(0);
         closed.free();
@@ -304,7 +323,7 @@ impl<O: Object> Turnstile<O> {
     fn gather(&self, mut passes: Vec<Pass<O>>) -> Place<O>
         requires own { All (λ p. p.lock ≡ Some self.now) passes.items }
         requires some { 0 < length passes.items }
-        ensures own { result.table_id ≡ self.now.table }
+        ensures own { result.table_id ≡ self.now.identity }
         ensures all { (result.me.0.passes ≡ map known_in passes.items)
             × (result.me.0.ticket ≡ None)
             × (result.me.0.taken ≡ None)

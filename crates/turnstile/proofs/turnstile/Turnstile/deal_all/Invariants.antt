@@ -6,5 +6,5 @@ use Rattle.turnstile.specs.Places.{terms_of}
 use Rattle.turnstile.proofs.turnstile.Turnstile.deal_all.Given as goal
 
 abbrev pub invariant-loop-number : goal.invariant-loop-number
-invariant-loop-number g l = let lock = l.self in (l.seat.table_id ≡ lock.table) × (l.seat.me ≡ (dealer (fresh_from lock.start l.number (lock.count - l.number)) (Some (terms_of lock)), []))
+invariant-loop-number g l = let lock = l.self in (l.seat.table_id ≡ lock.identity) × (l.seat.me ≡ (dealer (fresh_from lock.start l.number (lock.count - l.number)) (Some (terms_of lock)), []))
     × (l.passes.items ++ passes_from lock l.number (lock.count - l.number) ≡ new_passes lock)

@@ -21,7 +21,7 @@ end-requires-clause-has g c = let k = known_of c.pass.inside.seat.me in let x = 
 
 pub returns-clause-done : goal.returns-clause-done
 returns-clause-done g c = let m0 = c.pass.inside.seat.me in let t = c.in_ok-ticket.ticket in let k = known_of m0 in let x = c.take-object.result in let y = c.act-reply.new.self in let drew = c.in_ok-ticket.ensures.ok.0 in
-    let lock = c.args.self.now in let of = at_lock _ lock.table _ (terms_of lock) (ap (λ p. p.lock) c.pass.view_is ∙ c.requires) in
+    let lock = c.args.self.now in let of = at_lock _ lock.identity _ (terms_of lock) (ap (λ p. p.lock) c.pass.view_is ∙ c.requires) in
     let acted = subst (λ z. g.O.Object.acts x z c.args.ask c.act-reply.result y) (sym c.pass.invariant.1) c.act-reply.ensures in
     turned g.O.Object.log g.O.Object.by g.O.Object.mark g.O.Object.fixed g.O.Object.acts lock c.args.ask c.act-reply.result t x y c.pass.inside.seat.table_id c.end.new.seat.table_id m0 c.end.new.seat.me c.draw.new.seat.me.0.terms c.args.pass.now
     c.pass.view_is
