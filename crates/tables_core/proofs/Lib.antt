@@ -2,3 +2,4 @@ pub mod RowLemmas
 pub mod ContentsLemmas
 pub mod NumberLemmas
 pub mod FittingLemmas
+pub mod ColumnLemmas

@@ -10,9 +10,9 @@ use Rattle.base_core.specs.declared.value.Column.{Column}
 use Rattle.base_core.specs.declared.condition.Condition.{Condition}
 use Rattle.base_core.specs.declared.condition.Assignment.{Assignment}
 use Rattle.tables_core.specs.Contents.{satisfies, assigned_row, updated_row, empty_table, with_row, without_chosen_rows, with_updated_rows}
-use Rattle.tables_core.specs.Laws.{IsNumbered, KeepsNumbered}
+use Rattle.tables_core.specs.Laws.{HasRisingNumbers, KeepsNumbered}
 
-pub IsNumbered-opened : (owner : User) (columns : List Column) → IsNumbered (empty_table owner columns)
+pub IsNumbered-opened : (owner : User) (columns : List Column) → HasRisingNumbers (empty_table owner columns)
 IsNumbered-opened owner columns = record {
   rising = λ i j d less within. absurd (omega arith);
   fresh = λ k d within. absurd (omega arith);

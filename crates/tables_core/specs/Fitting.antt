@@ -1,7 +1,8 @@
--- Rows that fit their table's columns.
-use Rattle.std.specs.Prelude.{◌≡◌, Bool, true, false, ◌&&◌, List, [], ◌∷◌, slice_get, option_and_then}
+-- Tables that are well typed: columns with different names, and rows that fit them.
+use Rattle.std.specs.Prelude.{◌≡◌, Bool, true, List, map, slice_get, option_and_then}
 use Rattle.std.specs.Option.{option_map_or}
-use Rattle.std.specs.List.{AllByRecursion}
+use Rattle.std.specs.List.{AllByRecursion, AllZip}
+use Rattle.base_core.specs.Distinct.{are_distinct}
 use Rattle.base_core.specs.Values.{has_type}
 use Rattle.base_core.specs.Filter.{column_index}
 use Rattle.base_core.specs.declared.value.Value.{Value}
@@ -9,12 +10,13 @@ use Rattle.base_core.specs.declared.value.Column.{Column}
 use Rattle.base_core.specs.declared.condition.Assignment.{Assignment}
 use Rattle.tables_core.specs.Contents.{Contents}
 
--- whether the values fit the columns: as many as there are, each of its column's type
-abbrev pub fits : List Column → List Value → Bool
-fits [] [] = true
-fits [] (value ∷ values) = false
-fits (column ∷ columns) [] = false
-fits (column ∷ columns) (value ∷ values) = has_type value column.ty && fits columns values
+-- no two of the columns have one name
+abbrev pub ColumnsDiffer : List Column → Type 0
+ColumnsDiffer columns = are_distinct (map (λ c. c.name) columns) ≡ true
+
+-- the values fit the columns: as many as there are, each of its column's type
+abbrev pub ValuesFit : List Column → List Value → Type 0
+ValuesFit columns values = AllZip (λ column value. has_type value column.ty ≡ true) columns values
 
 -- whether the column of the assignment's name, if there is one, may hold its value
 abbrev pub assignment_fits : List Column → Assignment → Bool
@@ -29,4 +31,9 @@ AssignmentsFit columns sets = AllByRecursion (λ set. assignment_fits columns se
 
 -- each row of the table fits its columns
 abbrev pub RowsFit : Contents → Type 0
-RowsFit t = AllByRecursion (λ numbered. fits t.columns numbered.1.values ≡ true) t.rows
+RowsFit t = AllByRecursion (λ numbered. ValuesFit t.columns numbered.1.values) t.rows
+
+-- a table is well typed: its columns have different names, and its rows fit them
+pub record IsWellTyped (t : Contents) : Type 0 where
+  pub columns : ColumnsDiffer t.columns
+  pub rows : RowsFit t

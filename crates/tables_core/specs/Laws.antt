@@ -28,10 +28,10 @@ NamesAfterChange = (tables : List (Name × Contents)) (name : Name) (change : Co
     → keys_of (with_change name change tables) ≡ keys_of tables
 
 -- the numbers of the rows rise, so that no two are the same, and the next number is above them all
-pub record IsNumbered (t : Contents) : Type 0 where
+pub record HasRisingNumbers (t : Contents) : Type 0 where
   pub rising : AllPairs (λ earlier later. earlier.0 < later.0) t.rows
   pub fresh : All (λ numbered. numbered.0 < t.inserted) t.rows
 
 -- a change keeps the rows so numbered
 abbrev pub KeepsNumbered : (Contents → Contents) → Type 0
-KeepsNumbered change = (t : Contents) → IsNumbered t → IsNumbered (change t)
+KeepsNumbered change = (t : Contents) → HasRisingNumbers t → HasRisingNumbers (change t)

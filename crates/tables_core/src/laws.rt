@@ -1,13 +1,13 @@
 //! Laws of what tables hold, each a contract.
-ghost use Rattle.std.specs.Prelude.{◌≡◌, true, List};
+ghost use Rattle.std.specs.Prelude.{List};
 ghost use Rattle.base_core.specs.declared.name.User.{User};
 ghost use Rattle.base_core.specs.declared.value.Row.{Row};
 ghost use Rattle.base_core.specs.declared.value.Column.{Column};
 ghost use Rattle.base_core.specs.declared.condition.Condition.{Condition};
 ghost use Rattle.base_core.specs.declared.condition.Assignment.{Assignment};
-ghost use Rattle.tables_core.specs.Fitting.{fits, AssignmentsFit, RowsFit};
+ghost use Rattle.tables_core.specs.Fitting.{ValuesFit, AssignmentsFit, RowsFit};
 ghost use Rattle.tables_core.specs.Contents.{Contents, empty_table, with_row, without_chosen_rows, with_updated_rows};
-ghost use Rattle.tables_core.specs.Laws.{LookUpAfterChange, LookUpAfterNew, NamesAfterChange, IsNumbered, KeepsNumbered};
+ghost use Rattle.tables_core.specs.Laws.{LookUpAfterChange, LookUpAfterNew, NamesAfterChange, HasRisingNumbers, KeepsNumbered};
 
 /// What look-ups find after a change to one table, and after a new one; and that a change to one
 /// table leaves the names in their order.
@@ -21,7 +21,7 @@ pub fn look_ups_after_changes()
 /// each change. So no two rows of a table have one number.
 pub fn numbers_rise()
     ensures opened { (owner : User) (columns : List Column)
-        → IsNumbered (empty_table owner columns) }
+        → HasRisingNumbers (empty_table owner columns) }
     ensures inserted { (row : Row) → KeepsNumbered (with_row row) }
     ensures deleted { (conditions : List Condition)
         → KeepsNumbered (without_chosen_rows conditions) }
@@ -34,7 +34,7 @@ pub fn numbers_rise()
 pub fn rows_fit()
     ensures opened { (owner : User) (columns : List Column) → RowsFit (empty_table owner columns) }
     ensures inserted { (t : Contents) (row : Row)
-        → fits t.columns row.values ≡ true
+        → ValuesFit t.columns row.values
         → RowsFit t
         → RowsFit (with_row row t) }
     ensures deleted { (t : Contents) (conditions : List Condition)

@@ -9,10 +9,15 @@
 //! `specs/Contents.antt` says, each look-up answers by the list, and a call that answers
 //! [`NoMemory`](base_core::NoMemory) leaves the list as it was.
 //!
-//! The calls check neither that columns exist nor that types fit: a condition on a column that the
-//! table hasn't, or on a value of another type than its literal, is not met, a name that is no
-//! column is left out of what is selected, an assignment to it changes nothing, and values are kept
-//! as they are given. Callers that refuse such names and values look the column up first, by
+//! No two tables have one name, the columns of each have different names, and its rows fit them, as
+//! many values as columns and each of its column's type (`specs/Fitting.antt`). So columns, rows and
+//! assignments must be so where they are given: [`columns_differ`], [`Tables::takes_row`] and
+//! [`Tables::takes_assignments`] tell whether they are.
+//!
+//! No call checks that columns exist, or that the literals of a filter have their types: a
+//! condition on a column that the table hasn't, or on a value of another type than its literal, is
+//! not met, a name that is no column is left out of what is selected, and an assignment to it
+//! changes nothing. Callers that refuse such names and literals look the column up first, by
 //! [`Tables::column`].
 //!
 //! ```text
@@ -26,17 +31,20 @@
 //! A table is found by its name in constant time, by a hash, however many tables there are. So
 //! `len`, `is_empty`, `name_at`, `at`, `owner`, `columns`, `row_count` and `inserted` take constant
 //! time, and `create` and `insert` too, but for a growth now and then that moves what is there.
-//! `column` goes over the table's columns. `select` and `delete` go once over the rows of the table
-//! and `update` twice, with the filter at each row; to that `select` adds the copies of the values
-//! that it gives, and `update` one copy of the assignments for each chosen row. `create`, `insert`,
-//! `select` and `update` take memory, and no other call does.
+//! `column` and `takes_row` go over the table's columns, `takes_assignments` does so for each
+//! assignment, and `columns_differ` for each column. `select` and `delete` go once over the rows of
+//! the table and `update` twice, with the filter at each row; to that `select` adds the copies of the
+//! values that it gives, and `update` one copy of the assignments for each chosen row. `create`,
+//! `insert`, `select` and `update` take memory, and no other call does.
 #![tactic(auto)]
 
+mod columns;
 mod laws;
 mod rows;
 mod table;
 mod tables;
 
+pub use columns::columns_differ;
 pub use laws::{look_ups_after_changes, numbers_rise, rows_fit};
 pub use rows::NumberedRow;
 pub use tables::{TableView, Tables};

@@ -1,6 +1,9 @@
 //! Work on the rows of one table.
-ghost use Rattle.std.specs.Prelude.{◌≡◌, IfOk, OnOk, OnErr, replicate, count_by, map, filter, not};
+ghost use Rattle.std.specs.Prelude.{◌≡◌, ◌↔◌, IfOk, OnOk, OnErr, IsTrue, replicate, count_by, map, filter, not};
+ghost use Rattle.std.specs.List.{list_all, zip};
+ghost use Rattle.base_core.specs.Values.{has_type};
 ghost use Rattle.tables_core.specs.Contents.{satisfies, projected_values, assigned_values, updated_row};
+ghost use Rattle.tables_core.specs.Fitting.{ValuesFit, assignment_fits};
 
 use base_core::{
     Assignment, Column, Condition, Name, NoMemory, Row, Sequence, Twin, Value, cell, column_index,
@@ -10,6 +13,43 @@ use std::alloc::Global;
 
 /// A row, and how many rows were inserted into its table before it.
 pub type NumberedRow = (u64, Row);
+
+/// Whether the values fit the columns: as many as there are, each of its column's type.
+pub fn fits(columns: &[Column], values: &[Value]) -> bool
+    ensures { IsTrue result ↔ ValuesFit columns.now values.now }
+{
+    columns.len() == values.len() && have_types(columns, values)
+}
+
+/// Whether the values are of their columns' types, as far as both go.
+fn have_types(columns: &[Column], values: &[Value]) -> bool
+    ensures { result ≡ list_all (λ pair. has_type pair.1 pair.0.ty) (zip columns.now values.now) }
+{
+    columns
+        .iter()
+        .zip(values)
+        .all(|(column, value)| value.has_type(column.ty))
+}
+
+/// Whether the column of the assignment's name, if there is one, may hold its value.
+fn assignment_fits(columns: &[Column], set: &Assignment) -> bool
+    ensures { result ≡ assignment_fits columns.now set.now }
+{
+    let Some(index) = column_index(columns, set.column) else {
+        return true;
+    };
+    match columns.get(index) {
+        Some(column) => set.value.has_type(column.ty),
+        None => true,
+    }
+}
+
+/// Whether each of the assignments fits the columns.
+pub fn assignments_fit(columns: &[Column], sets: &[Assignment]) -> bool
+    ensures { result ≡ list_all (assignment_fits columns.now) sets.now }
+{
+    sets.iter().all(|set| assignment_fits(columns, set))
+}
 
 /// Whether the filter chooses a row of these columns.
 pub fn chooses(columns: &[Column], filter: &[Condition], numbered: &NumberedRow) -> bool

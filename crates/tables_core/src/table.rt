@@ -1,9 +1,10 @@
 //! One table.
-ghost use Rattle.std.specs.Prelude.{◌≡◌, ◌<◌, ◌^◌, IfOk, OnOk, OnErr, length};
+ghost use Rattle.std.specs.Prelude.{◌≡◌, ◌<◌, ◌^◌, ◌↔◌, IfOk, OnOk, OnErr, IsTrue, length};
 ghost use Rattle.tables_core.specs.Contents.{empty_table, with_row, without_chosen_rows, with_updated_rows, selected_rows};
+ghost use Rattle.tables_core.specs.Fitting.{ColumnsDiffer, ValuesFit, AssignmentsFit, IsWellTyped};
 
 use crate::rows::{self, NumberedRow};
-use base_core::{Assignment, Column, Condition, Name, NoMemory, Row, Sequence, User};
+use base_core::{Assignment, Column, Condition, Name, NoMemory, Row, Sequence, User, Value};
 use std::alloc::Global;
 use std::marker::Model;
 
@@ -26,11 +27,21 @@ impl Model for Table {
       inserted = t.inserted;
       rows = t.rows.items;
     } };
+
+    ghost use Rattle.tables_core.specs.Fitting.{IsWellTyped};
+
+    ghost invariant = { λ t. IsWellTyped (record {
+      owner = t.owner;
+      columns = t.columns;
+      inserted = t.inserted;
+      rows = t.rows.items;
+    }) };
 }
 
 impl Table {
     /// A table without rows. It takes no memory.
     pub fn new(alloc: Global, owner: User, columns: Sequence<Column>) -> Table
+        requires { ColumnsDiffer columns }
         ensures { result ≡ empty_table owner columns }
     {
         Table {
@@ -67,14 +78,30 @@ impl Table {
 
     /// The rows, in the order of their numbers.
     pub fn rows(&self) -> &[NumberedRow]
-        ensures { result.now ≡ self.now.rows }
+        ensures rows { result.now ≡ self.now.rows }
+        ensures typed { IsWellTyped self.now }
     {
         &self.rows
     }
 
+    /// Whether the values fit the columns.
+    pub fn takes_row(&self, values: &[Value]) -> bool
+        ensures { IsTrue result ↔ ValuesFit self.now.columns values.now }
+    {
+        rows::fits(self.columns.as_slice(), values)
+    }
+
+    /// Whether each of the assignments fits the columns.
+    pub fn takes_assignments(&self, sets: &[Assignment]) -> bool
+        ensures { IsTrue result ↔ AssignmentsFit self.now.columns sets.now }
+    {
+        rows::assignments_fit(self.columns.as_slice(), sets)
+    }
+
     /// Appends a row under the next number.
     pub fn insert(&mut self, row: Row) -> Result<(), NoMemory>
-        requires { self.old.inserted < 2 ^ 63 }
+        requires few { self.old.inserted < 2 ^ 63 }
+        requires fits { ValuesFit self.old.columns row.values }
         ensures ok { OnOk result (self.new ≡ with_row row self.old) }
         ensures no_memory { OnErr result (self.new ≡ self.old) }
     {
@@ -110,6 +137,7 @@ impl Table {
         sets: &[Assignment],
         filter: &[Condition],
     ) -> Result<(), NoMemory>
+        requires { AssignmentsFit self.old.columns sets.now }
         ensures ok { OnOk result (self.new ≡ with_updated_rows sets.now filter.now self.old) }
         ensures no_memory { OnErr result (self.new ≡ self.old) }
     {

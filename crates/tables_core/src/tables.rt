@@ -1,11 +1,17 @@
 //! All tables, by name.
-ghost use Rattle.std.specs.Prelude.{◌≡◌, ◌<◌, ◌^◌, ◌↔◌, ◌++◌, ◌∷◌, [], IfOk, OnOk, OnErr, IsTrue, IsSome, IsSomeAnd, Some, None, slice_get, length, option_map};
+ghost use Rattle.std.specs.Prelude.{IfSome, ◌≡◌, ◌<◌, ◌^◌, ◌↔◌, ◌++◌, ◌∷◌, [], IfOk, OnOk, OnErr, IsTrue, IsSome, IsSomeAnd, Some, None, slice_get, length, option_map};
 ghost use Rattle.std.specs.Option.{option_copied, option_map_or};
+ghost use Rattle.std.specs.List.{IsDistinct};
+ghost use Rattle.std.specs.Map.{keys_of};
+ghost use Rattle.base_core.specs.Words.{same_name};
 ghost use Rattle.tables_core.specs.Contents.{empty_table, with_row, without_chosen_rows, with_updated_rows, selected_rows, table_of, column_of, with_change};
+ghost use Rattle.tables_core.specs.Fitting.{ColumnsDiffer, ValuesFit, AssignmentsFit, IsWellTyped};
 
 use crate::rows::NumberedRow;
 use crate::table::Table;
-use base_core::{Assignment, Column, Condition, Name, NoMemory, Row, Sequence, User, column_index};
+use base_core::{
+    Assignment, Column, Condition, Name, NoMemory, Row, Sequence, User, Value, column_index,
+};
 use indexmap::IndexMap;
 use std::alloc::Global;
 use std::marker::Model;
@@ -50,9 +56,10 @@ impl Tables {
         }
     }
 
-    /// How many tables there are.
+    /// How many tables there are. No two of them have one name.
     pub fn len(&self) -> usize
-        ensures { result ≡ length self.now }
+        ensures count { result ≡ length self.now }
+        ensures names { IsDistinct same_name (keys_of self.now) }
     {
         self.tables.len()
     }
@@ -74,9 +81,10 @@ impl Tables {
     }
 
     /// The table at this place in the order of creation, counted from 0. None from the number of
-    /// tables on. With it all tables can be gone through, row by row.
+    /// tables on. With it all tables can be gone through, row by row. Its columns have different
+    /// names, and its rows fit them.
     pub fn at(&self, index: usize) -> Option<TableView<'_>>
-        ensures { option_map
+        ensures shown { option_map
             (λ v. (
               v.name,
               record {
@@ -88,6 +96,7 @@ impl Tables {
             ))
             result
             ≡ slice_get self.now index }
+        ensures typed { IfSome (slice_get self.now index) (λ t. IsWellTyped t.1) }
     {
         let (name, table) = self.tables.get_index(index)?;
         Some(TableView {
@@ -143,7 +152,32 @@ impl Tables {
         }
     }
 
-    /// Adds a table without rows, behind the others. Its name must be new. `NoMemory` where a
+    /// Whether there is a table of this name, and the values fit its columns: as many as there are,
+    /// each of its column's type.
+    pub fn takes_row(&self, name: Name, values: &[Value]) -> bool
+        ensures { IsTrue result
+            ↔ IsSomeAnd (table_of self.now name) (λ t. ValuesFit t.columns values.now) }
+    {
+        match self.tables.get(&name) {
+            Some(table) => table.takes_row(values),
+            None => false,
+        }
+    }
+
+    /// Whether there is a table of this name, and each value that is assigned to one of its columns
+    /// is of that column's type.
+    pub fn takes_assignments(&self, name: Name, sets: &[Assignment]) -> bool
+        ensures { IsTrue result
+            ↔ IsSomeAnd (table_of self.now name) (λ t. AssignmentsFit t.columns sets.now) }
+    {
+        match self.tables.get(&name) {
+            Some(table) => table.takes_assignments(sets),
+            None => false,
+        }
+    }
+
+    /// Adds a table without rows, behind the others. Its name must be new, and its columns must have
+    /// different names, as [`columns_differ`](crate::columns_differ) tells. `NoMemory` where a
     /// request for memory was refused.
     pub fn create(
         &mut self,
@@ -151,7 +185,8 @@ impl Tables {
         owner: User,
         columns: Sequence<Column>,
     ) -> Result<(), NoMemory>
-        requires { table_of self.old name ≡ None }
+        requires new { table_of self.old name ≡ None }
+        requires differ { ColumnsDiffer columns }
         ensures ok { OnOk result (self.new ≡ self.old ++ (name, empty_table owner columns) ∷ []) }
         ensures no_memory { OnErr result (self.new ≡ self.old) }
     {
@@ -161,10 +196,11 @@ impl Tables {
     }
 
     /// Appends a row to a table, under the number of rows inserted before it. The table must be
-    /// there, with fewer than 2^63 rows ever inserted. `NoMemory` where a request for memory was
-    /// refused.
+    /// there, with fewer than 2^63 rows ever inserted, and the row must fit its columns, as
+    /// [`takes_row`](Tables::takes_row) tells. `NoMemory` where a request for memory was refused.
     pub fn insert(&mut self, name: Name, row: Row) -> Result<(), NoMemory>
-        requires { IsSomeAnd (table_of self.old name) (λ t. t.inserted < 2 ^ 63) }
+        requires few { IsSomeAnd (table_of self.old name) (λ t. t.inserted < 2 ^ 63) }
+        requires fits { IsSomeAnd (table_of self.old name) (λ t. ValuesFit t.columns row.values) }
         ensures ok { OnOk result (self.new ≡ with_change name (with_row row) self.old) }
         ensures no_memory { OnErr result (self.new ≡ self.old) }
     {
@@ -195,15 +231,16 @@ impl Tables {
     }
 
     /// Makes the assignments, one after the other, in each row that the filter chooses. Rows keep
-    /// their places and numbers. The table must be there. `NoMemory` where a request for memory was
-    /// refused: then no row has changed.
+    /// their places and numbers. The table must be there, and the assignments must fit its columns,
+    /// as [`takes_assignments`](Tables::takes_assignments) tells. `NoMemory` where a request for
+    /// memory was refused: then no row has changed.
     pub fn update(
         &mut self,
         name: Name,
         sets: &[Assignment],
         filter: &[Condition],
     ) -> Result<(), NoMemory>
-        requires { IsSome (table_of self.old name) }
+        requires { IsSomeAnd (table_of self.old name) (λ t. AssignmentsFit t.columns sets.now) }
         ensures ok { OnOk result
             (self.new ≡ with_change name (with_updated_rows sets.now filter.now) self.old) }
         ensures no_memory { OnErr result (self.new ≡ self.old) }
