@@ -5,7 +5,7 @@ use Rattle.lexer_core.specs.Lexing.{AreTokens, AreSpelled, IsLineFault, long_lin
 use Rattle.lexer_core.specs.Text.{written_all}
 use Rattle.lexer_core.specs.declared.fault.Code.{Code}
 use Rattle.lexer_core.specs.declared.token.Token as tokens
-use Rattle.lexer_core.specs.declared.token.Kind.{Kind}
+use Rattle.lexer_core.specs.declared.token.TokenKind.{TokenKind}
 use Rattle.lexer_core.proofs.Spelled.{tokens_heard}
 use Rattle.reader_core.specs.Matches.{IsWrongHere}
 use Rattle.reader_core.specs.Grammar.{Grammar}
@@ -33,7 +33,7 @@ heard-at : (line : List ℕ) (before rest : List tokens.Token) (t : tokens.Token
 heard-at line [] rest t h = omega (arith, h.0.some, h.0.within)
 heard-at line (b ∷ before) rest t h = heard-at line before rest t h.1
 
-ungrammatical-small : (line : List ℕ) (g : Grammar) (kinds : List Kind) (ts before rest : List tokens.Token) (code : Code) (offset : ℕ) → AreTokens line ts → ts ≡ before ++ rest
+ungrammatical-small : (line : List ℕ) (g : Grammar) (kinds : List TokenKind) (ts before rest : List tokens.Token) (code : Code) (offset : ℕ) → AreTokens line ts → ts ≡ before ++ rest
     → IsWrongHere g kinds (length line) rest (code, offset) → offset ≤ 8192
 ungrammatical-small line g kinds ts before [] code offset are split wrong = omega (arith, are.short, ap (λ f. f.1) wrong.1)
 ungrammatical-small line g kinds ts before (t ∷ rest) code offset are split wrong = omega (arith, are.short, wrong.1, heard-at line before rest t (subst (AreSpelled line) split (tokens_heard line ts are)))

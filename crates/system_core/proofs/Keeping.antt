@@ -17,6 +17,7 @@ use Rattle.reader_core.specs.declared.privilege.Privilege.{Privilege}
 use Rattle.reader_core.specs.declared.statement.Statement.{Statement}
 use Rattle.reader_core.specs.declared.statement.Statement.TheVariants as statements
 use Rattle.tables_core.specs.Contents.{Contents, table_of}
+use Rattle.tables_core.specs.Fitting.{ValuesFit, AssignmentsFit}
 use Rattle.grants_core.specs.declared.grant.Grant.{Grant}
 use Rattle.grants_core.specs.declared.grant.Change.{Change}
 use Rattle.grants_core.specs.Owners.{with_owner}
@@ -34,6 +35,7 @@ use Rattle.system_core.specs.Journal.{contents, tables_with, tables_after, chang
 use Rattle.system_core.specs.Carrying.{CanCarry, HasFewColumns, MayLeave, rights_after, most_grants}
 use Rattle.system_core.specs.Standing.{KeepsJournal, AgreeOn, inserted_of}
 use Rattle.monitor_core.proofs.Passing.{require-Ok, passed, not-some, some_is, each-Ok}
+use Rattle.system_core.proofs.Fitting.{ValuesFit-allowed, AssignmentsFit-allowed}
 use Rattle.system_core.proofs.TableLemmas.{IsNew, is_table-after, is_table-old, narrow-after, inserted-after}
 use Rattle.system_core.proofs.Counting.{row_total-after}
 use Rattle.system_core.proofs.Agreeing.{atoms-table, All-atoms, verdict-agree}
@@ -104,11 +106,15 @@ module _ (limits : Limits) (journal : List Entry) (tables : List (Name × Conten
   can user (statements.Insert table values) change ok =
       let here = stands (state_of limits journal) table (passed (checks (state_of limits journal) user (statements.Insert table values)) ok).0 in
       let bound : here.0.inserted ≤ length journal = subst (λ (o : Option Contents). option_map_or (λ t. t.inserted) o 0 ≤ length journal) here.1 (h.sound.inserted table) in
-      let P : Option Contents → Type 0 = λ o. IsSomeAnd o (λ t. t.inserted < 2 ^ 63) in
+      let Few : Option Contents → Type 0 = λ o. IsSomeAnd o (λ t. t.inserted < 2 ^ 63) in
+      let Fit : Option Contents → Type 0 = λ o. IsSomeAnd o (λ t. ValuesFit t.columns values) in
       let small : here.0.inserted < 2 ^ 63 = omega (arith, bound, h.sound.few, limits.changes_within) in
-      subst P (sym here.1) small
+      (subst Few (sym here.1) small, subst Fit (sym here.1) (ValuesFit-allowed (state_of limits journal) user table here.0 here.1 values ok))
   can user (statements.Delete table filter) change ok = there (state_of limits journal) table (passed (checks (state_of limits journal) user (statements.Delete table filter)) ok).0
-  can user (statements.Update table sets filter) change ok = there (state_of limits journal) table (passed (checks (state_of limits journal) user (statements.Update table sets filter)) ok).0
+  can user (statements.Update table sets filter) change ok =
+      let here = stands (state_of limits journal) table (passed (checks (state_of limits journal) user (statements.Update table sets filter)) ok).0 in
+      let Fit : Option Contents → Type 0 = λ o. IsSomeAnd o (λ t. AssignmentsFit t.columns sets) in
+      subst Fit (sym here.1) (AssignmentsFit-allowed (state_of limits journal) user table here.0 here.1 sets filter ok)
   can user (statements.Grant privileges table users option) change ok =
       let at : State = record { tables = contents journal; rights = rights; limits = limits; moment = length journal } in
       let here : verdict at user (statements.Grant privileges table users option) ≡ Ok tt = verdict-agree (contents journal) limits (length journal) rights (rights_at journal) user (statements.Grant privileges table users option) h.agree ∙ ok in

@@ -4,6 +4,8 @@ pub mod Growing
 pub mod Counting
 pub mod Keeping
 pub mod Owning
+pub mod Fitting
+pub mod Sound
 pub mod Judged
 pub mod Rising
 pub mod Imaging
@@ -13,4 +15,5 @@ pub mod Exported
 pub mod Exporting
 pub mod Replaying
 mod Running
+pub mod Entered
 pub mod Unworn

@@ -6,6 +6,7 @@ use Rattle.base_core.specs.declared.privilege.Atom.{Atom}
 use Rattle.reader_core.specs.declared.statement.Statement.{Statement}
 use Rattle.reader_core.specs.declared.statement.Statement.TheVariants as statements
 use Rattle.tables_core.specs.Contents.{Contents, table_of}
+use Rattle.tables_core.specs.Fitting.{ValuesFit, AssignmentsFit}
 use Rattle.grants_core.specs.declared.grant.Change.{Change}
 use Rattle.grants_core.specs.declared.grant.Change.TheVariants as change
 use Rattle.grants_core.specs.Owners.{was_granted}
@@ -41,9 +42,10 @@ CanCarry tables rights moment user (statements.CreateTable table columns) =
     (table_of tables table ≡ None) × (was_granted rights.owners table ≡ false)
 CanCarry tables rights moment user (statements.Insert table values) =
     IsSomeAnd (table_of tables table) (λ t. t.inserted < 2 ^ 63)
+    × IsSomeAnd (table_of tables table) (λ t. ValuesFit t.columns values)
 CanCarry tables rights moment user (statements.Delete table filter) = IsSome (table_of tables table)
 CanCarry tables rights moment user (statements.Update table sets filter) =
-    IsSome (table_of tables table)
+    IsSomeAnd (table_of tables table) (λ t. AssignmentsFit t.columns sets)
 CanCarry tables rights moment user (statements.Grant privileges table users option) =
     CanGrant rights moment user (atoms_at tables table privileges)
     × (length (columns_of tables table) ≤ most_columns)

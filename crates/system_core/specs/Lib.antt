@@ -3,6 +3,7 @@ pub mod Exports
 pub mod World
 pub mod Judging
 pub mod Step
+pub mod Entering
 pub mod Carrying
 pub mod Standing
 pub use Rattle.base_core.specs.Words
@@ -11,8 +12,10 @@ pub use Rattle.base_core.specs.Users
 pub use Rattle.base_core.specs.Values
 pub use Rattle.base_core.specs.Lacks
 pub use Rattle.tables_core.specs.Contents
+pub use Rattle.tables_core.specs.Fitting
 pub use Rattle.monitor_core.specs.Atoms
 pub use Rattle.monitor_core.specs.Verdict
+pub use Rattle.grants_core.specs.Owners
 pub use Rattle.grants_core.specs.Content
 pub use Rattle.grants_core.specs.History
 pub use Rattle.reader_core.specs.Language

@@ -1,12 +1,23 @@
 //! Laws of the core, each the contract of a function that does nothing.
-ghost use Rattle.std.specs.Prelude.{◌≡◌, ℕ, Err};
+ghost use Rattle.std.specs.Prelude.{◌≡◌, ℕ, List, All, Err, option_map};
+ghost use Rattle.std.specs.List.{IsDistinct};
+ghost use Rattle.std.specs.Map.{keys_of, values_of};
+ghost use Rattle.base_core.specs.Words.{same_name};
+ghost use Rattle.base_core.specs.declared.name.Name.{Name};
 ghost use Rattle.base_core.specs.declared.name.User.{User};
 ghost use Rattle.base_core.specs.declared.value.Moment.{Moment};
 ghost use Rattle.base_core.specs.declared.lack.Lack.{Lack};
+ghost use Rattle.base_core.specs.declared.limits.Limits.{Limits};
 ghost use Rattle.reader_core.specs.declared.statement.Statement.{Statement};
+ghost use Rattle.tables_core.specs.Contents.{table_of};
+ghost use Rattle.tables_core.specs.Fitting.{RowsFit};
+ghost use Rattle.grants_core.specs.Owners.{owner_of};
+ghost use Rattle.system_core.specs.Journal.{contents, rights_at, IsLawful};
 ghost use Rattle.system_core.specs.World.{World};
 ghost use Rattle.system_core.specs.Judging.{verdict_of, judged_at};
 ghost use Rattle.system_core.specs.Step.{lack_reply, Step};
+ghost use Rattle.system_core.specs.Entering.{entered, Enters};
+ghost use Rattle.system_core.specs.declared.machine.event.Entry.{Entry};
 ghost use Rattle.system_core.specs.declared.machine.event.Event.{Event};
 ghost use Rattle.system_core.specs.declared.machine.event.Reply.{Reply};
 
@@ -24,10 +35,34 @@ pub fn lacks_are_answered()
         → ⊥ }
 {}
 
+/// A step enters a statement that was done in the journal, by its pass and user, and else nothing. No
+/// checkpoint is unbegun, and chunk and limits stay.
+pub fn steps_enter_what_was_done()
+    ensures { (old new : World) (event : Event) (reply : Reply)
+        → Step old event reply new
+        → Enters (entered event reply) old new }
+{}
+
 /// No step answers that turns are worn: that answer is a turn lock's.
 pub fn worn_is_never_answered()
     ensures { (old new : World) (event : Event) (reply : Reply) (at : Moment)
         → Step old event reply new
         → reply ≡ Reply.Refused at Lack.Worn
         → ⊥ }
+{}
+
+/// In the tables of a lawful journal the rows of each fit its columns, as many values as columns
+/// and each of its column's type. No two tables have one name. And the owner that the rights name
+/// of a name is the owner of the table of that name: where there is no such table, there is none.
+pub fn tables_are_sound()
+    ensures rows { (limits : Limits) (journal : List Entry)
+        → IsLawful limits journal
+        → All RowsFit (values_of (contents journal)) }
+    ensures names { (limits : Limits) (journal : List Entry)
+        → IsLawful limits journal
+        → IsDistinct same_name (keys_of (contents journal)) }
+    ensures owners { (limits : Limits) (journal : List Entry) (name : Name)
+        → IsLawful limits journal
+        → owner_of (rights_at journal).owners name
+        ≡ option_map (λ t. t.owner) (table_of (contents journal) name) }
 {}

@@ -4,6 +4,7 @@ ghost use Rattle.std.specs.List.{flat_map};
 ghost use Rattle.export_core.specs.Ticket.{header_line};
 ghost use Rattle.script_core.specs.Texts.{joined, kind_text, type_text, what_text, about_atom, stamped, lack_text, refusal_text, checkpoint_line, reply_text, fault_text, is_list};
 ghost use Rattle.script_core.specs.declared.replies.buffer.TheConstants.{REPLY_BYTES};
+ghost use Rattle.script_core.specs.declared.replies.wording.TheConstants.{KIND_BYTES, ABOUT_ATOM_BYTES, NO_SELECT_BYTES, LACK_BYTES};
 
 use crate::replies::buffer::ReplyBuffer;
 use base_core::{Atom, ColType, Kind, Lack, Moment, Name, NoMemory, Row, User, What};
@@ -11,6 +12,18 @@ use export_core::{Ticket, write_record, write_rows};
 use lexer_core::Code;
 use std::alloc::Global;
 use system_core::{Checkpoint, Reply};
+
+/// The most bytes of a privilege: `UPDATE(`, a name and `)`.
+const KIND_BYTES: usize = 38;
+
+/// The most bytes of a user, a privilege and its table, without what is said of them.
+const ABOUT_ATOM_BYTES: usize = 102;
+
+/// The most bytes of a user, SELECT and a table, without what is said of them.
+const NO_SELECT_BYTES: usize = 71;
+
+/// The most bytes of what is missing: it names two users, a privilege and its table.
+const LACK_BYTES: usize = 148;
 
 fn type_text(ty: ColType) -> &'static [u8]
     ensures text { result.now ≡ type_text ty }
@@ -35,9 +48,9 @@ fn what_text(what: What) -> &'static [u8]
 }
 
 fn push_kind(text: &mut ReplyBuffer, kind: &Kind)
-    requires { length text.old + 38 ≤ REPLY_BYTES }
+    requires { length text.old + KIND_BYTES ≤ REPLY_BYTES }
     ensures text { text.new ≡ text.old ++ kind_text kind.now }
-    ensures short { length text.new ≤ length text.old + 38 }
+    ensures short { length text.new ≤ length text.old + KIND_BYTES }
 {
     match kind {
         Kind::Select => text.push(b"SELECT"),
@@ -72,9 +85,9 @@ fn push_number_in(text: &mut ReplyBuffer, before: &[u8], number: u64, behind: &[
 
 /// A user, what is said of him, a privilege, and its table.
 fn push_about_atom(text: &mut ReplyBuffer, user: &User, said: &[u8], atom: &Atom)
-    requires { length text.old + length said.now + 102 ≤ REPLY_BYTES }
+    requires { length text.old + length said.now + ABOUT_ATOM_BYTES ≤ REPLY_BYTES }
     ensures text { text.new ≡ text.old ++ about_atom user.now said.now atom.now }
-    ensures short { length text.new ≤ length text.old + length said.now + 102 }
+    ensures short { length text.new ≤ length text.old + length said.now + ABOUT_ATOM_BYTES }
 {
     text.push_name(&user.0);
     text.push(said);
@@ -85,10 +98,10 @@ fn push_about_atom(text: &mut ReplyBuffer, user: &User, said: &[u8], atom: &Atom
 
 /// A user, what is said of him, and the table that he may not select.
 fn push_no_select(text: &mut ReplyBuffer, user: &User, said: &[u8], table: &Name)
-    requires { length text.old + length said.now + 71 ≤ REPLY_BYTES }
+    requires { length text.old + length said.now + NO_SELECT_BYTES ≤ REPLY_BYTES }
     ensures text { text.new ≡ text.old
         ++ joined (user.now.0 ∷ said.now ∷ codes " SELECT on " ∷ table.now ∷ []) }
-    ensures short { length text.new ≤ length text.old + length said.now + 71 }
+    ensures short { length text.new ≤ length text.old + length said.now + NO_SELECT_BYTES }
 {
     text.push_name(&user.0);
     text.push(said);
@@ -97,18 +110,18 @@ fn push_no_select(text: &mut ReplyBuffer, user: &User, said: &[u8], table: &Name
 }
 
 fn push_no_column(text: &mut ReplyBuffer, table: &Name, column: &Name)
-    requires { length text.old + 148 ≤ REPLY_BYTES }
+    requires { length text.old + LACK_BYTES ≤ REPLY_BYTES }
     ensures text { text.new ≡ text.old ++ lack_text (Lack.NoColumn table.now column.now) }
-    ensures short { length text.new ≤ length text.old + 148 }
+    ensures short { length text.new ≤ length text.old + LACK_BYTES }
 {
     push_name_in(text, b"no column ", column, b" in ");
     text.push_name(table);
 }
 
 fn push_no_grant(text: &mut ReplyBuffer, by: &User, to: &User, atom: &Atom)
-    requires { length text.old + 148 ≤ REPLY_BYTES }
+    requires { length text.old + LACK_BYTES ≤ REPLY_BYTES }
     ensures text { text.new ≡ text.old ++ lack_text (Lack.NoGrant by.now to.now atom.now) }
-    ensures short { length text.new ≤ length text.old + 148 }
+    ensures short { length text.new ≤ length text.old + LACK_BYTES }
 {
     push_about_atom(text, by, b" granted no ", atom);
     text.push(b" to ");
@@ -116,36 +129,36 @@ fn push_no_grant(text: &mut ReplyBuffer, by: &User, to: &User, atom: &Atom)
 }
 
 fn push_no_table_then(text: &mut ReplyBuffer, table: &Name, number: u64)
-    requires { length text.old + 148 ≤ REPLY_BYTES }
+    requires { length text.old + LACK_BYTES ≤ REPLY_BYTES }
     ensures text { text.new ≡ text.old ++ lack_text (Lack.NoTableThen table.now number) }
-    ensures short { length text.new ≤ length text.old + 148 }
+    ensures short { length text.new ≤ length text.old + LACK_BYTES }
 {
     push_name_in(text, b"no table ", table, b" at checkpoint ");
     text.push_number(number);
 }
 
 fn push_wrong_count(text: &mut ReplyBuffer, given: usize, wanted: usize)
-    requires { length text.old + 148 ≤ REPLY_BYTES }
+    requires { length text.old + LACK_BYTES ≤ REPLY_BYTES }
     ensures text { text.new ≡ text.old ++ lack_text (Lack.WrongCount given wanted) }
-    ensures short { length text.new ≤ length text.old + 148 }
+    ensures short { length text.new ≤ length text.old + LACK_BYTES }
 {
     text.push_number(given as u64);
     push_number_in(text, b" values for ", wanted as u64, b" columns");
 }
 
 fn push_wrong_type(text: &mut ReplyBuffer, column: &Name, wanted: ColType)
-    requires { length text.old + 148 ≤ REPLY_BYTES }
+    requires { length text.old + LACK_BYTES ≤ REPLY_BYTES }
     ensures text { text.new ≡ text.old ++ lack_text (Lack.WrongType column.now wanted) }
-    ensures short { length text.new ≤ length text.old + 148 }
+    ensures short { length text.new ≤ length text.old + LACK_BYTES }
 {
     push_name_in(text, b"column ", column, b" takes ");
     text.push(type_text(wanted));
 }
 
 fn push_full(text: &mut ReplyBuffer, what: What)
-    requires { length text.old + 148 ≤ REPLY_BYTES }
+    requires { length text.old + LACK_BYTES ≤ REPLY_BYTES }
     ensures text { text.new ≡ text.old ++ lack_text (Lack.Full what) }
-    ensures short { length text.new ≤ length text.old + 148 }
+    ensures short { length text.new ≤ length text.old + LACK_BYTES }
 {
     text.push(b"full: ");
     text.push(what_text(what));
@@ -153,9 +166,9 @@ fn push_full(text: &mut ReplyBuffer, what: What)
 
 /// Appends what is missing, without the moment.
 fn push_lack(text: &mut ReplyBuffer, lack: &Lack)
-    requires { length text.old + 148 ≤ REPLY_BYTES }
+    requires { length text.old + LACK_BYTES ≤ REPLY_BYTES }
     ensures text { text.new ≡ text.old ++ lack_text lack.now }
-    ensures short { length text.new ≤ length text.old + 148 }
+    ensures short { length text.new ≤ length text.old + LACK_BYTES }
 {
     match lack {
         Lack::NoTable(table) => push_name_in(text, b"no table ", table, b""),
@@ -179,7 +192,7 @@ fn push_lack(text: &mut ReplyBuffer, lack: &Lack)
 
 /// A word, the moment, and what is missing.
 fn push_stamped(text: &mut ReplyBuffer, word: &[u8], at: Moment, lack: &Lack)
-    requires { length text.old + length word.now + 171 ≤ REPLY_BYTES }
+    requires { length text.old + length word.now + LACK_BYTES + 23 ≤ REPLY_BYTES }
     ensures { text.new ≡ text.old ++ stamped word.now at.0 lack.now }
 {
     push_number_in(text, word, at.0, b": ");

@@ -44,7 +44,7 @@ impl Model for System {
     ghost invariant = { λ s. KeepsCheckpoints s.chunk s.ledger s.capture s.catalogue };
 }
 
-fn turn_away(at: Moment, lack: Lack) -> Reply
+fn lack_reply(at: Moment, lack: Lack) -> Reply
     ensures { result ≡ lack_reply at lack }
 {
     if lack.is_denial() {
@@ -186,7 +186,7 @@ impl System {
         let (tables, rights) = (self.ledger.tables(), self.ledger.rights());
         let number = match self.capture.begin(tables, rights, at, limit) {
             Ok(number) => number,
-            Err(lack) => return turn_away(at, lack),
+            Err(lack) => return lack_reply(at, lack),
         };
         Reply::Begun { number, at }
     }
@@ -205,10 +205,10 @@ impl System {
         let at = self.ledger.moment();
         let rights = self.ledger.rights();
         let Some(image) = self.catalogue.find(number) else {
-            return turn_away(at, Lack::NoCheckpoint(number));
+            return lack_reply(at, Lack::NoCheckpoint(number));
         };
         if let Err(lack) = may_export(image, rights, &user, &only) {
-            return turn_away(judged_at(image.point, at, &lack), lack);
+            return lack_reply(judged_at(image.point, at, &lack), lack);
         }
         match Ticket::issue(self.alloc, image, user, rights, only, at) {
             Ok(ticket) => Reply::Export(ticket),
@@ -242,7 +242,7 @@ impl System {
             (verdict_of self.old entry.user entry.statement) result self.new }
     {
         match self.ledger.judged(entry.user, &entry.statement) {
-            Err(lack) => turn_away(self.ledger.moment(), lack),
+            Err(lack) => lack_reply(self.ledger.moment(), lack),
             Ok(allowed) => {
                 if allowed.change {
                     self.change(entry)

@@ -8,7 +8,7 @@ pub returns-in-Err : goal.returns-in-Err
 returns-in-Err c =
     let now : Moment = record { 0 = length c.self.inside.ledger.journal } in
     let at : c.moment-at.result ≡ now = ap (λ (n : ℕ). record { 0 = n }) c.moment-at.ensures.moment in
-    rw (← c.self.view_is, c.turn_away.ensures, at, c.in-Err.ensures.unchanged)
+    rw (← c.self.view_is, c.lack_reply.ensures, at, c.in-Err.ensures.unchanged)
     (begin-refused c.self.inside.chunk c.self.inside.ledger c.self.inside.capture c.self.inside.catalogue c.begin.result c.in-Err.lack c.in-Err.is (rw c.limits.ensures at c.begin.ensures.lack) (rw c.limits.ensures at c.begin.ensures.memory))
 
 pub invariant_of-self-2 : goal.invariant_of-self-2

@@ -27,8 +27,8 @@ returns-in_default c =
     let now : c.moment-at.result ≡ moment_of w = ap (λ (n : ℕ). record { 0 = n }) c.moment-at.ensures.moment in
     let By : World → Reply → Type 0 = λ v r. (pass : ℕ) → Responds v (entry pass c.args.user (statements.Export c.args.number c.args.only)) (first_lack (checkpoint_checks v c.args.user (statements.Export c.args.number c.args.only))) r v in
     let none : newest s.catalogue c.args.number ≡ None = sym c.find.ensures ∙ ap (λ o. option_map arc_value (option_copied o)) c.in_default.is in
-    subst (λ (v : World). By v c.turn_away.result) c.self.view_is
-    (subst (λ (r : Reply). By w r) (sym (c.turn_away.ensures ∙ ap (λ m. lack_reply m (lacks.NoCheckpoint c.args.number)) now))
+    subst (λ (v : World). By v c.lack_reply.result) c.self.view_is
+    (subst (λ (r : Reply). By w r) (sym (c.lack_reply.ensures ∙ ap (λ m. lack_reply m (lacks.NoCheckpoint c.args.number)) now))
     (export-unkept s.chunk s.ledger s.capture s.catalogue c.args.user c.args.number c.args.only none))
 
 -- it may not be exported to the user
@@ -49,8 +49,8 @@ returns-in-Err c =
     ∙ checked s.ledger.limits s.ledger.journal c.rights-rights.ensures.lawful image of c.args.number bears c.rights-rights.result.now c.rights-rights.ensures.rights c.args.user c.args.only stands) in
     let at : c.judged_at.result ≡ moment_for image.point (moment_of w) c.in-Err.lack =
     c.judged_at.ensures ∙ ap (λ m. moment_for c.deref-in-Err.result.now.point m c.in-Err.lack) now ∙ ap (λ (i : Image). moment_for i.point (moment_of w) c.in-Err.lack) c.deref-in-Err.ensures in
-    subst (λ (v : World). By v c.turn_away-in-Err.result) c.self.view_is
-    (subst (λ (r : Reply). By w r) (sym (c.turn_away-in-Err.ensures ∙ ap (λ m. lack_reply m c.in-Err.lack) at))
+    subst (λ (v : World). By v c.lack_reply-in-Err.result) c.self.view_is
+    (subst (λ (r : Reply). By w r) (sym (c.lack_reply-in-Err.ensures ∙ ap (λ m. lack_reply m c.in-Err.lack) at))
     (export-denied s.chunk s.ledger s.capture s.catalogue c.args.user c.args.number c.args.only image c.in-Err.lack found (check ∙ c.in-Err.is)))
 
 -- it is exported

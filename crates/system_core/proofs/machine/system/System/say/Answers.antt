@@ -16,9 +16,9 @@ returns-in-Err c =
     let lacks : verdict_at w.limits w.journal c.args.entry.user c.args.entry.statement ≡ Err c.in-Err.lack = lack-allowed _ c.args.entry.statement c.in-Err.lack (sym c.judged.ensures ∙ c.in-Err.is) in
     let now : c.moment.result ≡ judged_at w c.args.entry.statement c.in-Err.lack = ap (λ (n : ℕ). record { 0 = n }) c.moment.ensures.moment ∙ sym (judged-now w c.args.entry.user c.args.entry.statement c.in-Err.lack lacks) in
     let failed : verdict_of w c.args.entry.user c.args.entry.statement ≡ Err c.in-Err.lack = failed-first (verdict_at w.limits w.journal c.args.entry.user c.args.entry.statement) (checkpoint_checks w c.args.entry.user c.args.entry.statement) c.in-Err.lack lacks in
-    let By : Check → Type 0 = λ check. Responds w c.args.entry check c.turn_away.result w in
-    let At : World → Type 0 = λ v. Responds v c.args.entry (verdict_of v c.args.entry.user c.args.entry.statement) c.turn_away.result v in
-    subst At c.self.view_is (subst By (sym failed) (c.turn_away.ensures ∙ ap (λ (m : Moment). lack_reply m c.in-Err.lack) now, refl))
+    let By : Check → Type 0 = λ check. Responds w c.args.entry check c.lack_reply.result w in
+    let At : World → Type 0 = λ v. Responds v c.args.entry (verdict_of v c.args.entry.user c.args.entry.statement) c.lack_reply.result v in
+    subst At c.self.view_is (subst By (sym failed) (c.lack_reply.ensures ∙ ap (λ (m : Moment). lack_reply m c.in-Err.lack) now, refl))
 
 pub returns-then-allowed : goal.returns-then-allowed
 returns-then-allowed c =

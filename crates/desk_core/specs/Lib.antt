@@ -1,0 +1,9 @@
+pub mod Acting
+pub mod Turns
+pub use Rattle.base_core.specs.Full
+pub use Rattle.turnstile.specs.Logs
+pub use Rattle.turnstile.specs.Passes
+pub use Rattle.turnstile.specs.Closed
+pub use Rattle.system_core.specs.World
+pub use Rattle.system_core.specs.Step
+pub use Rattle.system_core.specs.Entering
