@@ -1,17 +1,11 @@
-//! The worked examples that cross crates: what a script must write, byte for byte, and what the core
-//! must answer; and tests of the libraries by their public calls. They stand in a crate above the
-//! libraries so that none of these is proved once more for its tests. There is nothing here but tests.
+//! Tests of the libraries by their public calls, and of the core with limits and events that no script
+//! has. They stand in a crate above the libraries so that none of these is proved once more for its
+//! tests. There is nothing here but tests; the worked examples are sessions of the built program.
 #![tactic(auto)]
 
 #[cfg(test)]
 mod calls;
 #[cfg(test)]
-mod checkpoints;
-#[cfg(test)]
-mod examples;
-#[cfg(test)]
-mod grants;
+mod desk;
 #[cfg(test)]
 mod libraries;
-#[cfg(test)]
-mod scripts;

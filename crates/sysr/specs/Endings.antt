@@ -4,11 +4,11 @@ use Rattle.lines_core.specs.declared.serving.SessionFault.{SessionFault}
 use Rattle.lines_core.specs.declared.serving.SessionFault.TheVariants as faults
 
 -- what is told of a fault that ended the answering of lines
-abbrev pub fault_text : SessionFault → List ℕ
-fault_text faults.Read = codes "sysr: read fault"
-fault_text faults.Write = codes "sysr: write fault"
-fault_text faults.Bound = codes "sysr: bound reached"
-fault_text faults.NoMemory = codes "sysr: no memory"
+abbrev pub session_fault_text : SessionFault → List ℕ
+session_fault_text faults.Read = codes "sysr: read fault"
+session_fault_text faults.Write = codes "sysr: write fault"
+session_fault_text faults.Bound = codes "sysr: bound reached"
+session_fault_text faults.NoMemory = codes "sysr: no memory"
 
 -- the last line of an audit, by the number of grants in force where the rights are those of the journal
 abbrev pub audit_line : Option ℕ → List ℕ

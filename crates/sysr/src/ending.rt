@@ -1,6 +1,6 @@
 //! How the program ends: what it tells of a fault, and how an audit ends.
 ghost use Rattle.std.specs.Prelude.{◌≡◌, IfOk};
-ghost use Rattle.sysr.specs.Endings.{audit_line, audit_status, fault_text};
+ghost use Rattle.sysr.specs.Endings.{audit_line, audit_status, session_fault_text};
 
 use base_core::NoMemory;
 use itoa::Buffer;
@@ -14,7 +14,7 @@ pub const NO_MEMORY: &str = "sysr: no memory";
 
 /// What is told of a fault that ended the answering of lines.
 pub fn fault_text(fault: SessionFault) -> &'static str
-    ensures { result.now ≡ fault_text fault }
+    ensures { result.now ≡ session_fault_text fault }
 {
     match fault {
         SessionFault::Read => "sysr: read fault",

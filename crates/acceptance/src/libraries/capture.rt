@@ -2,8 +2,9 @@
 ghost use Rattle.std.specs.Prelude.{◌≡◌};
 ghost use Rattle.capture_core.specs.Image.{row_total};
 
+use super::letters::{name, on_t, user};
 use base_core::{
-    Assignment, Atom, ColType, Column, Kind, Lack, Moment, Name, Row, Sequence, User, Value, What,
+    Assignment, Atom, ColType, Column, Kind, Lack, Moment, Row, Sequence, Value, What,
 };
 use capture_core::{Capture, Image, Progress};
 use grants_core::{Authority, Replay};
@@ -20,20 +21,6 @@ struct State {
     tables: Tables,
     rights: Replay,
     capture: Capture,
-}
-
-fn name(letter: u8) -> Result<Name, Fail> {
-    let name = Name::read(&[letter]).ok_or("no name")?;
-    Ok(name)
-}
-
-fn user(letter: u8) -> Result<User, Fail> {
-    Ok(User(name(letter)?))
-}
-
-fn on_t(kind: Kind) -> Result<Atom, Fail> {
-    let table = name(b't')?;
-    Ok(Atom { table, kind })
 }
 
 fn rows_in(rt: &impl Abort, tables: &Tables) -> u64
@@ -82,6 +69,7 @@ impl State {
         assert!(rt; self.tables.owner(t).is_some());
         assert!(rt; self.tables.inserted(t) < 1 << 63);
         let values = Sequence::from_vec(vec![in self.alloc; Value::Int(number)]?);
+        assert!(rt; self.tables.takes_row(t, values.as_slice()));
         self.tables.insert(t, Row { values })?;
         Ok(())
     }
@@ -89,11 +77,11 @@ impl State {
     /// Sets v to 9 in each row of t.
     fn update(&mut self, rt: &impl Abort) -> Result<(), Fail> {
         let t = name(b't')?;
-        assert!(rt; self.tables.owner(t).is_some());
         let nine = [Assignment {
             column: name(b'v')?,
             value: Value::Int(9),
         }];
+        assert!(rt; self.tables.takes_assignments(t, &nine));
         self.tables.update(t, &nine, &[])?;
         Ok(())
     }

@@ -1,18 +1,11 @@
 //! Worked examples, told to a `Replay` and audited from their list of changes. They are about
 //! SELECT on the table t, whose owner is o. Users are named by one letter.
-use base_core::{Atom, Kind, Moment, Name, Sequence, User};
+use super::letters::{name, on_t, user};
+use base_core::{Kind, Moment, Sequence, User};
 use grants_core::{Authority, Change, Replay, audit};
 use std::alloc::Global;
 use std::process::Abort;
 use std::test::Fail;
-
-fn name(letter: u8) -> Result<Name, &'static str> {
-    Name::read(&[letter]).ok_or("no name")
-}
-
-fn user(letter: u8) -> Result<User, &'static str> {
-    Ok(User(name(letter)?))
-}
 
 fn users(alloc: Global, letters: &[u8]) -> Result<Vec<User>, Fail> {
     let mut users = Vec::new(alloc);
@@ -20,13 +13,6 @@ fn users(alloc: Global, letters: &[u8]) -> Result<Vec<User>, Fail> {
         users.push(user(*letter)?)?;
     }
     Ok(users)
-}
-
-fn select() -> Result<Atom, &'static str> {
-    Ok(Atom {
-        table: name(b't')?,
-        kind: Kind::Select,
-    })
 }
 
 #[derive(Clone, Copy)]
@@ -43,7 +29,7 @@ fn grant(
     option: bool,
     at: u64,
 ) -> Result<(), Fail> {
-    let atom = select()?;
+    let atom = on_t(Kind::Select)?;
     let in_force = replay.in_force()?;
     assert!(rt; in_force.iter().all(|grant| grant.moment.0 < at));
     assert!(rt; replay.may_grant(by, &atom));
@@ -59,7 +45,7 @@ fn take(
     step: &Step,
     at: u64,
 ) -> Result<Change, Fail> {
-    let atoms = Sequence::from_vec([select()?].to_vec(alloc)?);
+    let atoms = Sequence::from_vec([on_t(Kind::Select)?].to_vec(alloc)?);
     match step {
         Step::Grant(by, whom, option) => {
             let whom = users(alloc, whom)?;
@@ -120,7 +106,7 @@ fn repeated_grants(rt: HostRuntime) -> Result<(), Fail> {
         Step::Revoke(b'a', b"c"),
     ];
     let replay = told(&rt, rt.alloc(), &steps, &[2, 3, 6, 7])?;
-    assert!(rt; replay.holds(user(b'd')?, &select()?));
+    assert!(rt; replay.holds(user(b'd')?, &on_t(Kind::Select)?));
     assert_eq!(rt; replay.made(), 6);
     Ok(())
 }
@@ -137,8 +123,8 @@ fn cascade_by_time(rt: HostRuntime) -> Result<(), Fail> {
         Step::Revoke(b'a', b"c"),
     ];
     let replay = told(&rt, rt.alloc(), &steps, &[2, 3, 6])?;
-    assert!(rt; !replay.holds(user(b'd')?, &select()?));
-    assert!(rt; replay.holds(user(b'c')?, &select()?));
+    assert!(rt; !replay.holds(user(b'd')?, &on_t(Kind::Select)?));
+    assert!(rt; replay.holds(user(b'c')?, &on_t(Kind::Select)?));
     Ok(())
 }
 
@@ -151,22 +137,24 @@ fn cycle(rt: HostRuntime) -> Result<(), Fail> {
         Step::Revoke(b'o', b"a"),
     ];
     let replay = told(&rt, rt.alloc(), &steps, &[])?;
-    assert!(rt; !replay.may_grant(user(b'a')?, &select()?));
+    assert!(rt; !replay.may_grant(user(b'a')?, &on_t(Kind::Select)?));
     Ok(())
 }
 
 #[test]
 fn repeated_revoke(rt: HostRuntime) -> Result<(), Fail> {
     let granted = told(&rt, rt.alloc(), &[Step::Grant(b'o', b"a", false)], &[2])?;
-    assert!(rt; granted.has_made(user(b'o')?, user(b'a')?, &select()?));
-    assert!(rt; granted.room(&select()?, 1, 2) && !granted.room(&select()?, 1, 1));
+    assert!(rt; granted.has_made(user(b'o')?, user(b'a')?, &on_t(Kind::Select)?));
+    assert!(rt;
+        granted.room(&on_t(Kind::Select)?, 1, 2) && !granted.room(&on_t(Kind::Select)?, 1, 1)
+    );
     let steps = [
         Step::Grant(b'o', b"a", false),
         Step::Revoke(b'o', b"a"),
         Step::Revoke(b'o', b"a"),
     ];
     let replay = told(&rt, rt.alloc(), &steps, &[])?;
-    assert!(rt; !replay.has_made(user(b'o')?, user(b'a')?, &select()?));
+    assert!(rt; !replay.has_made(user(b'o')?, user(b'a')?, &on_t(Kind::Select)?));
     Ok(())
 }
 
@@ -178,7 +166,7 @@ fn one_moment_no_support(rt: HostRuntime) -> Result<(), Fail> {
         Step::Revoke(b'o', b"a"),
     ];
     let replay = told(&rt, rt.alloc(), &steps, &[])?;
-    assert!(rt; !replay.holds(user(b'b')?, &select()?));
+    assert!(rt; !replay.holds(user(b'b')?, &on_t(Kind::Select)?));
     Ok(())
 }
 
@@ -193,7 +181,7 @@ fn another_source(rt: HostRuntime) -> Result<(), Fail> {
         Step::Revoke(b'a', b"c"),
     ];
     let replay = told(&rt, rt.alloc(), &steps, &[2, 3, 5, 6])?;
-    assert!(rt; replay.holds(user(b'd')?, &select()?));
-    assert!(rt; !replay.may_grant(user(b'd')?, &select()?));
+    assert!(rt; replay.holds(user(b'd')?, &on_t(Kind::Select)?));
+    assert!(rt; !replay.may_grant(user(b'd')?, &on_t(Kind::Select)?));
     Ok(())
 }

@@ -2,6 +2,7 @@
 //! is written when a reader or a writer fails in between.
 ghost use Rattle.std.specs.Prelude.{◌≡◌, false};
 
+use super::slow::Slow;
 use base_core::{Broken, Sink, Source, StdSink, StdSource, write_all};
 use lexer_core::MAX_LINE;
 use lines_core::{LineServer, SessionFault, serve};
@@ -88,44 +89,6 @@ impl Source for Pieces<'_> {
         self.bytes = behind;
         Ok(n)
     }
-}
-
-/// A writer that takes one byte at a time, and fails at some write.
-#[derive(Drop)]
-struct Slow {
-    bytes: Vec<u8>,
-    good_writes: usize,
-    failed: bool,
-}
-
-impl Sink for Slow {
-    ghost use Rattle.std.specs.Prelude.{Some, true, refl};
-
-    ghost failed = { λ s. s.failed };
-
-    ghost taken = { λ s. Some s.bytes.items };
-
-    ghost handed_on = { λ s. Some s.bytes.items };
-
-    ghost flushed = { λ _. true };
-
-    fn write(&mut self, bytes: &[u8]) -> Result<usize, Broken> {
-        let Some(&first) = bytes.first() else {
-            return Ok(0);
-        };
-        if self.good_writes == 0 || self.bytes.push(first).is_err() {
-            self.failed = true;
-            return Err(Broken);
-        }
-        self.good_writes -= 1;
-        Ok(1)
-    }
-
-    fn flush(&mut self) -> Result<(), Broken> {
-        Ok(())
-    }
-
-    ghost flushed_hands_on = { λ _ _. refl };
 }
 
 const INPUT: &'static [u8] = b"a\r\n\nbc\n\rd\r\r\nlast\r";

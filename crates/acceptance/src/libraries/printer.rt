@@ -1,5 +1,4 @@
 //! Statements printed, and read back.
-use super::reader::repeated;
 use base_core::{Name, Several, Twin, Value};
 use printer_core::{PrintFault, print};
 use reader_core::{Statement, read};
@@ -76,7 +75,11 @@ fn only_value(statement: &Statement) -> Result<Value, Fail> {
 #[test]
 fn too_long_to_print(rt: HostRuntime) -> Result<(), Fail> {
     let alloc = rt.alloc();
-    let line = repeated(alloc, "INSERT INTO t VALUES ('", "a", 1024, "')")?;
+    let mut line = String::from_str(alloc, "INSERT INTO t VALUES ('")?;
+    for _ in 0..1024 {
+        line.push('a')?;
+    }
+    line.push_str("')")?;
     let text = only_value(&read(alloc, line.as_bytes())?)?;
     let mut values = vec![in alloc; text.try_twin()?, text.try_twin()?, text.try_twin()?]?;
     values.push(text.try_twin()?)?;

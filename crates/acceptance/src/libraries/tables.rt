@@ -5,7 +5,7 @@ use base_core::{
 use std::alloc::Global;
 use std::process::Abort;
 use std::test::Fail;
-use tables_core::Tables;
+use tables_core::{Tables, columns_differ};
 
 fn named(word: &[u8]) -> Result<Name, Fail> {
     let name = Name::read(word).ok_or("no name")?;
@@ -17,8 +17,10 @@ fn create(rt: &impl Abort, alloc: Global, tables: &mut Tables, name: Name) -> Re
     let ty = ColType::Integer;
     let grade = named(b"grade")?;
     let wage = named(b"wage")?;
-    let columns = vec![in alloc; Column { name: grade, ty }, Column { name: wage, ty }]?;
-    tables.create(name, User(name), Sequence::from_vec(columns))?;
+    let items = vec![in alloc; Column { name: grade, ty }, Column { name: wage, ty }]?;
+    let columns = Sequence::from_vec(items);
+    assert!(rt; columns_differ(columns.as_slice()));
+    tables.create(name, User(name), columns)?;
     Ok(())
 }
 
@@ -33,13 +35,13 @@ fn insert(
     assert!(rt; tables.inserted(name) < 1 << 63);
     let items = vec![in alloc; Value::Int(grade), Value::Int(wage)]?;
     let values = Sequence::from_vec(items);
+    assert!(rt; tables.takes_row(name, values.as_slice()));
     tables.insert(name, Row { values })?;
     Ok(())
 }
 
 /// Sets the wage to 0 where it is at least 7 and the grade is not 3.
 fn update(rt: &impl Abort, tables: &mut Tables, name: Name) -> Result<(), Fail> {
-    assert!(rt; tables.owner(name).is_some());
     let grade = named(b"grade")?;
     let wage = named(b"wage")?;
     let zero = [Assignment {
@@ -50,6 +52,7 @@ fn update(rt: &impl Abort, tables: &mut Tables, name: Name) -> Result<(), Fail> 
         asks(wage, Comparison::GreaterEqual, 7),
         asks(grade, Comparison::NotEqual, 3),
     ];
+    assert!(rt; tables.takes_assignments(name, &zero));
     tables.update(name, &zero, &filter)?;
     Ok(())
 }
@@ -99,5 +102,33 @@ fn rows_are_changed_in_place(rt: HostRuntime) -> Result<(), Fail> {
     assert_eq!(rt; left.as_slice(), [0, 1, 7, 3, 8, 4].as_slice());
     assert_eq!(rt; tables.row_count(pay), 3);
     assert_eq!(rt; tables.inserted(pay), 4);
+    Ok(())
+}
+
+#[test]
+fn values_and_assignments_that_fit(rt: HostRuntime) -> Result<(), Fail> {
+    let alloc = rt.alloc();
+    let (pay, memo) = (named(b"pay")?, named(b"memo")?);
+    let note = Column {
+        name: named(b"note")?,
+        ty: ColType::Text,
+    };
+    let mut tables = Tables::new(alloc);
+    create(&rt, alloc, &mut tables, pay)?;
+    assert!(rt; tables.owner(memo).is_none());
+    tables.create(memo, User(memo), Sequence::from_vec(vec![in alloc; note]?))?;
+    let (one, two) = ([Value::Int(1)], [Value::Int(1), Value::Int(2)]);
+    assert!(rt; tables.takes_row(pay, &two));
+    assert!(rt; !tables.takes_row(pay, &one));
+    assert!(rt; !tables.takes_row(memo, &one));
+    assert!(rt; !tables.takes_row(note.name, &[]));
+    let sets = [Assignment {
+        column: note.name,
+        value: Value::Int(0),
+    }];
+    assert!(rt; tables.takes_assignments(pay, &sets));
+    assert!(rt; !tables.takes_assignments(memo, &sets));
+    assert!(rt; !tables.takes_assignments(note.name, &[]));
+    assert!(rt; !columns_differ(&[note, note]));
     Ok(())
 }

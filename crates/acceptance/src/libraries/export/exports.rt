@@ -1,6 +1,8 @@
 //! Exports of the table t, whose owner is o, to the user u or to o. Names are of one letter.
+use crate::libraries::letters::{name, on_t, user};
+use crate::libraries::slow::Slow;
 use base_core::{
-    Atom, Broken, ColType, Column, Kind, Moment, Name, Row, Sequence, Sink, StdSink, User, Value,
+    Atom, ColType, Column, Kind, Moment, Name, Row, Sequence, Sink, StdSink, User, Value,
 };
 use capture_core::{Image, TableImage};
 use export_core::{ExportFault, Ticket};
@@ -11,22 +13,6 @@ use std::process::Abort;
 use std::sync::Arc;
 use std::test::Fail;
 
-fn name(letter: u8) -> Result<Name, Fail> {
-    let name = Name::read(&[letter]).ok_or("no name")?;
-    Ok(name)
-}
-
-fn user(letter: u8) -> Result<User, Fail> {
-    Ok(User(name(letter)?))
-}
-
-fn select() -> Result<Atom, Fail> {
-    Ok(Atom {
-        table: name(b't')?,
-        kind: Kind::Select,
-    })
-}
-
 /// Rights under which o owns t.
 fn rights(alloc: Global) -> Result<Replay, Fail> {
     let mut rights = Replay::new(alloc);
@@ -36,7 +22,7 @@ fn rights(alloc: Global) -> Result<Replay, Fail> {
 
 /// o grants SELECT on t to u.
 fn grant(rt: &impl Abort, rights: &mut Replay, at: u64) -> Result<(), Fail> {
-    let (o, select) = (user(b'o')?, select()?);
+    let (o, select) = (user(b'o')?, on_t(Kind::Select)?);
     let in_force = rights.in_force()?;
     assert!(rt; in_force.iter().all(|grant| grant.moment.0 < at));
     assert!(rt; rights.may_grant(o, &select));
@@ -124,7 +110,7 @@ fn revoked(rt: &impl Abort, alloc: Global) -> Result<(Replay, Arc<Image>), Fail>
     let mut rights = rights(alloc)?;
     grant(rt, &mut rights, 3)?;
     let image = image(alloc, 3, &rights, &[7])?;
-    rights.revoke(user(b'o')?, &[select()?], &[user(b'u')?]);
+    rights.revoke(user(b'o')?, &[on_t(Kind::Select)?], &[user(b'u')?]);
     Ok((rights, image))
 }
 
@@ -195,44 +181,6 @@ fn nothing_but_the_end(rt: HostRuntime) -> Result<(), Fail> {
     assert!(rt; ticket.next_record()?.is_none());
     assert!(rt; ticket.next_record()?.is_none());
     Ok(())
-}
-
-/// A writer that takes a byte at a time, and fails at some write.
-#[derive(Drop)]
-struct Slow {
-    bytes: Vec<u8>,
-    good_writes: usize,
-    failed: bool,
-}
-
-impl Sink for Slow {
-    ghost use Rattle.std.specs.Prelude.{Some, true, refl};
-
-    ghost failed = { λ s. s.failed };
-
-    ghost taken = { λ s. Some s.bytes.items };
-
-    ghost handed_on = { λ s. Some s.bytes.items };
-
-    ghost flushed = { λ _. true };
-
-    fn write(&mut self, bytes: &[u8]) -> Result<usize, Broken> {
-        let Some(&first) = bytes.first() else {
-            return Ok(0);
-        };
-        if self.good_writes == 0 || self.bytes.push(first).is_err() {
-            self.failed = true;
-            return Err(Broken);
-        }
-        self.good_writes -= 1;
-        Ok(1)
-    }
-
-    fn flush(&mut self) -> Result<(), Broken> {
-        Ok(())
-    }
-
-    ghost flushed_hands_on = { λ _ _. refl };
 }
 
 /// The record in which a writer failed counts as given.
