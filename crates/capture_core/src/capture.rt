@@ -51,10 +51,10 @@ fn start<A: Authority>(
     tables: &Tables,
     rights: &A,
 ) -> Result<Active, NoMemory>
-    requires { row_total tables.now + length (A.content rights.now).in_force < 2 ^ 63 }
+    requires { row_total tables.now.tables + length (A.content rights.now).in_force < 2 ^ 63 }
     ensures { IfOk result
-        (λ made. (made.left ≡ records tables.now (A.content rights.now))
-        × (arc_value made.image ≡ image number point tables.now (A.content rights.now))) }
+        (λ made. (made.left ≡ records tables.now.tables (A.content rights.now))
+        × (arc_value made.image ≡ image number point tables.now.tables (A.content rights.now))) }
 {
     let (image, left) = snapshot(alloc, number, point, tables, rights)?;
     let image = Arc::new(alloc, image)?;
@@ -114,11 +114,11 @@ impl Capture {
         point: Moment,
         limit: u64,
     ) -> Result<u64, Lack>
-        requires { row_total tables.now + length (A.content rights.now).in_force < 2 ^ 63 }
+        requires { row_total tables.now.tables + length (A.content rights.now).in_force < 2 ^ 63 }
         ensures lack { IfSome (begin_lack self.old limit) (λ lack. result ≡ Err lack) }
         ensures ok { IfOk result
             (λ number. (number ≡ self.old.begun + 1)
-            × (self.new ≡ after_begin point tables.now (A.content rights.now) self.old)) }
+            × (self.new ≡ after_begin point tables.now.tables (A.content rights.now) self.old)) }
         ensures unchanged { OnErr result (self.new ≡ self.old) }
         ensures memory { IsNone (begin_lack self.old limit)
             → IfErr result (λ lack. lack ≡ lacks.NoMemory) }

@@ -42,7 +42,7 @@ fn table_image(alloc: Global, table: &TableView<'_>) -> Result<TableImage, NoMem
 }
 
 fn table_images(alloc: Global, tables: &Tables) -> Result<Vec<TableImage>, NoMemory>
-    ensures { IfOk result (λ images. images.items ≡ map table_image tables.now) }
+    ensures { IfOk result (λ images. images.items ≡ map table_image tables.now.tables) }
 {
     let mut images = Vec::with_capacity(alloc, tables.len())?;
     for index in 0..tables.len() {
@@ -73,10 +73,10 @@ pub fn snapshot<A: Authority>(
     tables: &Tables,
     rights: &A,
 ) -> Result<(Image, u64), NoMemory>
-    requires { row_total tables.now + length (A.content rights.now).in_force < 2 ^ 63 }
+    requires { row_total tables.now.tables + length (A.content rights.now).in_force < 2 ^ 63 }
     ensures { IfOk result
-        (λ made. (made.0 ≡ image number point tables.now (A.content rights.now))
-        × (made.1 ≡ records tables.now (A.content rights.now))) }
+        (λ made. (made.0 ≡ image number point tables.now.tables (A.content rights.now))
+        × (made.1 ≡ records tables.now.tables (A.content rights.now))) }
 {
     let tables = table_images(alloc, tables)?;
     let grants = rights.in_force()?;

@@ -39,7 +39,7 @@ pub fn require(holds: bool, lack: Lack) -> Result<(), Lack>
 }
 
 pub fn is_table(tables: &Tables, name: Name) -> bool
-    ensures { result ≡ is_table tables.now name }
+    ensures { result ≡ is_table tables.now.tables name }
 {
     tables.owner(name).is_some()
 }
@@ -47,7 +47,7 @@ pub fn is_table(tables: &Tables, name: Name) -> bool
 /// The columns of the table of this name, in order, and none where there is no such table: by these
 /// UPDATE without columns is judged, and by these it is to be carried out.
 pub fn columns_of(tables: &Tables, name: Name) -> &[Column]
-    ensures { result.now ≡ columns_of tables.now name }
+    ensures { result.now ≡ columns_of tables.now.tables name }
 {
     match tables.columns(name) {
         Some(columns) => columns,

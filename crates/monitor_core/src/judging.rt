@@ -38,7 +38,7 @@ impl<'a, A: Authority> Model for Judge<'a, A> {
     ghost Value = { State };
 
     ghost view = { λ j. record {
-      tables = j.tables.now;
+      tables = j.tables.now.tables;
       rights = A.content j.rights.now;
       limits = j.limits.now;
       moment = j.moment.0;

@@ -66,7 +66,7 @@ pub fn judge<A: Authority>(
         ≡ allowed_by
         (verdict
         (record {
-          tables = tables.now;
+          tables = tables.now.tables;
           rights = A.content rights.now;
           limits = limits.now;
           moment = moment.0;

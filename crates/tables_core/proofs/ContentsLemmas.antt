@@ -8,8 +8,12 @@ use Rattle.std.proofs.lemmas.List.Edits.{insert_end}
 use Rattle.std.proofs.lemmas.Slice.Eq.{bytes_eq-Decides}
 use Rattle.base_core.specs.Words.{same_name}
 use Rattle.base_core.specs.declared.name.Name.{Name}
-use Rattle.tables_core.specs.Contents.{Contents, table_of, with_change}
+use Rattle.tables_core.specs.Contents.{Contents, Database, table_of, with_change}
 use Rattle.tables_core.specs.Laws.{LookUpAfterChange, LookUpAfterNew, NamesAfterChange}
+
+-- equal lists of tables are equal databases
+pub same_database : {tables others : List (Name × Contents)} → tables ≡ others → ◌≡◌ {A = Database} (record { tables = tables }) (record { tables = others })
+same_database e = ap (λ ts. record { tables = ts }) e
 
 module _ (name : Name) (change : Contents → Contents) (tables : List (Name × Contents)) where
   -- where the table is there

@@ -21,6 +21,10 @@ pub record Contents : Type 0 where
   pub inserted : ℕ
   pub rows : List (ℕ × Row)
 
+-- what there is: the tables in the order of their creation, each under its name
+pub record Database : Type 0 where
+  pub tables : List (Name × Contents)
+
 -- whether a numbered row satisfies the filter
 abbrev pub satisfies : List Column → List Condition → ℕ × Row → Bool
 satisfies columns conditions numbered = is_chosen columns conditions numbered.1.values

@@ -1,8 +1,8 @@
 //! Typed tables in memory: rows under numbers, filters, and assignments.
 //!
-//! A value of [`Tables`] stands for the list of its tables in the order of their creation, each
-//! with its name, its owner, its columns, the number of rows ever inserted, and the rows that it
-//! has now. A row's number is how many rows were inserted into its table before it: it stays when
+//! A value of [`Tables`] stands for a `Database`, a record whose field `tables` is the list of its
+//! tables in the order of their creation, each with its name, its owner, its columns, the number of
+//! rows ever inserted, and the rows that it has now. A row's number is how many rows were inserted into its table before it: it stays when
 //! the row is updated, and no later row gets it once the row is deleted.
 //!
 //! The one contract: each change makes of that list exactly what its definition in

@@ -28,7 +28,8 @@ pub struct TableView<'a> {
     pub rows: &'a [NumberedRow],
 }
 
-/// Tables in the order of their creation. Contracts see the list of them, each with its name.
+/// Tables in the order of their creation. Contracts see the list of them, each with its name, as
+/// the `tables` of a record.
 #[derive(Drop)]
 pub struct Tables {
     alloc: Global,
@@ -36,19 +37,17 @@ pub struct Tables {
 }
 
 impl Model for Tables {
-    ghost use Rattle.std.specs.Prelude.{List};
-    ghost use Rattle.tables_core.specs.Contents.{Contents};
-    ghost use Rattle.base_core.specs.declared.name.Name.{Name};
+    ghost use Rattle.tables_core.specs.Contents.{Database};
 
-    ghost Value = { List (Name × Contents) };
+    ghost Value = { Database };
 
-    ghost view = { λ t. t.tables.entries };
+    ghost view = { λ t. record { tables = t.tables.entries } };
 }
 
 impl Tables {
     /// No tables. It takes no memory.
     pub fn new(alloc: Global) -> Tables
-        ensures { result ≡ [] }
+        ensures { result ≡ record { tables = [] } }
     {
         Tables {
             alloc,
@@ -58,15 +57,15 @@ impl Tables {
 
     /// How many tables there are. No two of them have one name.
     pub fn len(&self) -> usize
-        ensures count { result ≡ length self.now }
-        ensures names { IsDistinct same_name (keys_of self.now) }
+        ensures count { result ≡ length self.now.tables }
+        ensures names { IsDistinct same_name (keys_of self.now.tables) }
     {
         self.tables.len()
     }
 
     /// Whether there is no table.
     pub fn is_empty(&self) -> bool
-        ensures { IsTrue result ↔ (self.now ≡ []) }
+        ensures { IsTrue result ↔ (self.now.tables ≡ []) }
     {
         self.tables.is_empty()
     }
@@ -74,7 +73,7 @@ impl Tables {
     /// The name of the table at this place in the order of creation, counted from 0. None from the
     /// number of tables on.
     pub fn name_at(&self, index: usize) -> Option<Name>
-        ensures { result ≡ option_map (λ t. t.0) (slice_get self.now index) }
+        ensures { result ≡ option_map (λ t. t.0) (slice_get self.now.tables index) }
     {
         let (name, _) = self.tables.get_index(index)?;
         Some(*name)
@@ -95,8 +94,8 @@ impl Tables {
               },
             ))
             result
-            ≡ slice_get self.now index }
-        ensures typed { IfSome (slice_get self.now index) (λ t. IsWellTyped t.1) }
+            ≡ slice_get self.now.tables index }
+        ensures typed { IfSome (slice_get self.now.tables index) (λ t. IsWellTyped t.1) }
     {
         let (name, table) = self.tables.get_index(index)?;
         Some(TableView {
@@ -110,14 +109,15 @@ impl Tables {
 
     /// The owner of the table of this name. None where there is no such table.
     pub fn owner(&self, name: Name) -> Option<User>
-        ensures { result ≡ option_map (λ t. t.owner) (table_of self.now name) }
+        ensures { result ≡ option_map (λ t. t.owner) (table_of self.now.tables name) }
     {
         Some(self.tables.get(&name)?.owner())
     }
 
     /// The columns of the table of this name, in order. None where there is no such table.
     pub fn columns(&self, name: Name) -> Option<&[Column]>
-        ensures { option_copied result ≡ option_map (λ t. t.columns) (table_of self.now name) }
+        ensures { option_copied result
+            ≡ option_map (λ t. t.columns) (table_of self.now.tables name) }
     {
         Some(self.tables.get(&name)?.columns())
     }
@@ -125,15 +125,15 @@ impl Tables {
     /// The column of this name in the table of that name. None where there is no such table, or no
     /// such column in it.
     pub fn column(&self, name: Name, column: Name) -> Option<Column>
-        ensures { result ≡ column_of self.now name column }
+        ensures { result ≡ column_of self.now.tables name column }
     {
-        let columns = self.columns(name)?;
+        let columns = self.tables.get(&name)?.columns();
         columns.get(column_index(columns, column)?).copied()
     }
 
     /// How many rows the table of this name has now. 0 where there is no such table.
     pub fn row_count(&self, name: Name) -> usize
-        ensures { result ≡ option_map_or (λ t. length t.rows) (table_of self.now name) 0 }
+        ensures { result ≡ option_map_or (λ t. length t.rows) (table_of self.now.tables name) 0 }
     {
         match self.tables.get(&name) {
             Some(table) => table.row_count(),
@@ -144,7 +144,7 @@ impl Tables {
     /// How many rows were ever inserted into the table of this name: the number of the next one.
     /// 0 where there is no such table.
     pub fn inserted(&self, name: Name) -> u64
-        ensures { result ≡ option_map_or (λ t. t.inserted) (table_of self.now name) 0 }
+        ensures { result ≡ option_map_or (λ t. t.inserted) (table_of self.now.tables name) 0 }
     {
         match self.tables.get(&name) {
             Some(table) => table.inserted(),
@@ -156,7 +156,7 @@ impl Tables {
     /// each of its column's type.
     pub fn takes_row(&self, name: Name, values: &[Value]) -> bool
         ensures { IsTrue result
-            ↔ IsSomeAnd (table_of self.now name) (λ t. ValuesFit t.columns values.now) }
+            ↔ IsSomeAnd (table_of self.now.tables name) (λ t. ValuesFit t.columns values.now) }
     {
         match self.tables.get(&name) {
             Some(table) => table.takes_row(values),
@@ -168,7 +168,7 @@ impl Tables {
     /// is of that column's type.
     pub fn takes_assignments(&self, name: Name, sets: &[Assignment]) -> bool
         ensures { IsTrue result
-            ↔ IsSomeAnd (table_of self.now name) (λ t. AssignmentsFit t.columns sets.now) }
+            ↔ IsSomeAnd (table_of self.now.tables name) (λ t. AssignmentsFit t.columns sets.now) }
     {
         match self.tables.get(&name) {
             Some(table) => table.takes_assignments(sets),
@@ -176,8 +176,8 @@ impl Tables {
         }
     }
 
-    /// Adds a table without rows, behind the others. Its name must be new, and its columns must have
-    /// different names, as [`columns_differ`](crate::columns_differ) tells. `NoMemory` where a
+    /// Adds a table without rows, behind the others. Its name must be new, and its columns must
+    /// have different names, as [`columns_differ`](crate::columns_differ) tells. `NoMemory` where a
     /// request for memory was refused.
     pub fn create(
         &mut self,
@@ -185,9 +185,10 @@ impl Tables {
         owner: User,
         columns: Sequence<Column>,
     ) -> Result<(), NoMemory>
-        requires new { table_of self.old name ≡ None }
+        requires new { table_of self.old.tables name ≡ None }
         requires differ { ColumnsDiffer columns }
-        ensures ok { OnOk result (self.new ≡ self.old ++ (name, empty_table owner columns) ∷ []) }
+        ensures ok { OnOk result
+            (self.new.tables ≡ self.old.tables ++ (name, empty_table owner columns) ∷ []) }
         ensures no_memory { OnErr result (self.new ≡ self.old) }
     {
         let table = Table::new(self.alloc, owner, columns);
@@ -199,9 +200,11 @@ impl Tables {
     /// there, with fewer than 2^63 rows ever inserted, and the row must fit its columns, as
     /// [`takes_row`](Tables::takes_row) tells. `NoMemory` where a request for memory was refused.
     pub fn insert(&mut self, name: Name, row: Row) -> Result<(), NoMemory>
-        requires few { IsSomeAnd (table_of self.old name) (λ t. t.inserted < 2 ^ 63) }
-        requires fits { IsSomeAnd (table_of self.old name) (λ t. ValuesFit t.columns row.values) }
-        ensures ok { OnOk result (self.new ≡ with_change name (with_row row) self.old) }
+        requires few { IsSomeAnd (table_of self.old.tables name) (λ t. t.inserted < 2 ^ 63) }
+        requires fits { IsSomeAnd (table_of self.old.tables name)
+            (λ t. ValuesFit t.columns row.values) }
+        ensures ok { OnOk result
+            (self.new.tables ≡ with_change name (with_row row) self.old.tables) }
         ensures no_memory { OnErr result (self.new ≡ self.old) }
     {
         match self.tables.get_mut(&name) {
@@ -219,9 +222,10 @@ impl Tables {
         columns: &[Name],
         filter: &[Condition],
     ) -> Result<Vec<Row>, NoMemory>
-        requires { IsSome (table_of self.now name) }
+        requires { IsSome (table_of self.now.tables name) }
         ensures { IfOk result
-            (λ rows. option_map (selected_rows columns.now filter.now) (table_of self.now name)
+            (λ rows.
+            option_map (selected_rows columns.now filter.now) (table_of self.now.tables name)
             ≡ Some rows.items) }
     {
         match self.tables.get(&name) {
@@ -240,9 +244,11 @@ impl Tables {
         sets: &[Assignment],
         filter: &[Condition],
     ) -> Result<(), NoMemory>
-        requires { IsSomeAnd (table_of self.old name) (λ t. AssignmentsFit t.columns sets.now) }
+        requires { IsSomeAnd (table_of self.old.tables name)
+            (λ t. AssignmentsFit t.columns sets.now) }
         ensures ok { OnOk result
-            (self.new ≡ with_change name (with_updated_rows sets.now filter.now) self.old) }
+            (self.new.tables
+            ≡ with_change name (with_updated_rows sets.now filter.now) self.old.tables) }
         ensures no_memory { OnErr result (self.new ≡ self.old) }
     {
         match self.tables.get_mut(&name) {
@@ -254,7 +260,8 @@ impl Tables {
     /// Drops the rows that the filter chooses; the others keep their order and numbers. Where there
     /// is no such table, nothing changes.
     pub fn delete(&mut self, name: Name, filter: &[Condition])
-        ensures { self.new ≡ with_change name (without_chosen_rows filter.now) self.old }
+        ensures { self.new.tables
+            ≡ with_change name (without_chosen_rows filter.now) self.old.tables }
     {
         if let Some(table) = self.tables.get_mut(&name) {
             table.delete(filter);

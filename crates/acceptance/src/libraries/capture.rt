@@ -24,7 +24,7 @@ struct State {
 }
 
 fn rows_in(rt: &impl Abort, tables: &Tables) -> u64
-    ensures { result ≡ row_total tables.now }
+    ensures { result ≡ row_total tables.now.tables }
 {
     let mut total: u64 = 0;
     for index in 0..tables.len() {

@@ -25,10 +25,10 @@ fn create(
     table: &Name,
     columns: &Distinct<Column, MAX_ITEMS>,
 ) -> Result<(), NoMemory>
-    requires new { table_of tables.old table.now ≡ None }
+    requires new { table_of tables.old.tables table.now ≡ None }
     requires fresh { was_granted rights.old.owners table.now ≡ false }
-    ensures tables { OnOk result (tables.new
-        ≡ tables_after tables.old user.now (statements.CreateTable table.now columns.now)) }
+    ensures tables { OnOk result (tables.new.tables
+        ≡ tables_after tables.old.tables user.now (statements.CreateTable table.now columns.now)) }
     ensures rights { OnOk result (rights.new ≡ after_create rights.old table.now user.now) }
     ensures narrow { OnOk result (length columns.now ≤ most_columns) }
     ensures same { OnErr result (tables.new ≡ tables.old) }
@@ -51,12 +51,13 @@ fn grant(
     users: &Distinct<User, MAX_USERS>,
     option: bool,
 ) -> Result<(), NoMemory>
-    requires can { CanGrant rights.old moment.0 user (atoms_at tables.now table privileges.now) }
-    requires narrow { length (columns_of tables.now table) ≤ most_columns }
+    requires can { CanGrant rights.old moment.0 user
+        (atoms_at tables.now.tables table privileges.now) }
+    requires narrow { length (columns_of tables.now.tables table) ≤ most_columns }
     requires early { moment.0 < 2 ^ 63 }
     ensures ok { OnOk result (rights.new
-        ≡ after_grant rights.old user (atoms_at tables.now table privileges.now) users.now option
-        (record { 0 = moment.0 + 1 })) }
+        ≡ after_grant rights.old user (atoms_at tables.now.tables table privileges.now) users.now
+        option (record { 0 = moment.0 + 1 })) }
     ensures few { OnOk result (rights.new.made ≤ rights.old.made + most_grants) }
     ensures err { OnErr result (rights.new ≡ rights.old) }
 {
@@ -74,9 +75,10 @@ fn revoke(
     table: Name,
     users: &[User],
 ) -> Result<(), NoMemory>
-    requires { length (columns_of tables.now table) ≤ most_columns }
+    requires { length (columns_of tables.now.tables table) ≤ most_columns }
     ensures ok { OnOk result (rights.new
-        ≡ after_revoke rights.old user (atoms_at tables.now table privileges.now) users.now) }
+        ≡ after_revoke rights.old user (atoms_at tables.now.tables table privileges.now)
+        users.now) }
     ensures err { OnErr result (rights.new ≡ rights.old) }
 {
     let atoms = atoms_of(alloc, table, columns_of(tables, table), privileges)?;
@@ -94,16 +96,17 @@ pub fn carry_out(
     user: User,
     statement: &Statement,
 ) -> Result<(), NoMemory>
-    requires can { CanCarry tables.old rights.old moment.0 user statement.now }
+    requires can { CanCarry tables.old.tables rights.old moment.0 user statement.now }
     requires early { moment.0 < 2 ^ 63 }
-    ensures tables { OnOk result (tables.new ≡ tables_after tables.old user statement.now) }
+    ensures tables { OnOk result
+        (tables.new.tables ≡ tables_after tables.old.tables user statement.now) }
     ensures rights { OnOk result (rights.new
-        ≡ rights_after rights.old moment.0 (change_of tables.old user statement.now)) }
+        ≡ rights_after rights.old moment.0 (change_of tables.old.tables user statement.now)) }
     ensures narrow { OnOk result (HasFewColumns statement.now) }
     ensures few { OnOk result (rights.new.made ≤ rights.old.made + most_grants) }
     ensures same { OnErr result (tables.new ≡ tables.old) }
     ensures leaves { OnErr result
-        (MayLeave rights.old (change_of tables.old user statement.now) rights.new) }
+        (MayLeave rights.old (change_of tables.old.tables user statement.now) rights.new) }
 {
     match statement {
         Statement::CreateTable { table, columns } => {

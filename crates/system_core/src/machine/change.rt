@@ -20,8 +20,8 @@ fn atoms_at(
     table: Name,
     privileges: &Privileges,
 ) -> Result<Sequence<Atom>, NoMemory>
-    requires { length (columns_of tables.now table) ≤ most_columns }
-    ensures { IfOk result (λ atoms. atoms ≡ atoms_at tables.now table privileges.now) }
+    requires { length (columns_of tables.now.tables table) ≤ most_columns }
+    ensures { IfOk result (λ atoms. atoms ≡ atoms_at tables.now.tables table privileges.now) }
 {
     let atoms = atoms_of(alloc, table, columns_of(tables, table), privileges)?;
     Ok(Sequence::from_vec(atoms))
@@ -36,9 +36,9 @@ fn copied(alloc: Global, users: &[User]) -> Result<Sequence<User>, NoMemory>
 
 /// What an entry changes of rights, at these tables.
 fn change_of(alloc: Global, tables: &Tables, entry: &Entry) -> Result<Change, NoMemory>
-    requires { (name : Name) → length (columns_of tables.now name) ≤ most_columns }
+    requires { (name : Name) → length (columns_of tables.now.tables name) ≤ most_columns }
     ensures { IfOk result
-        (λ change. change ≡ change_of tables.now entry.now.user entry.now.statement) }
+        (λ change. change ≡ change_of tables.now.tables entry.now.user entry.now.statement) }
 {
     match &entry.statement {
         Statement::CreateTable { table, columns: _ } => Ok(Change::Create {
@@ -76,9 +76,9 @@ pub fn changes_of(
     tables: &Tables,
     journal: &[Entry],
 ) -> Result<Vec<Change>, NoMemory>
-    requires { (name : Name) → length (columns_of tables.now name) ≤ most_columns }
+    requires { (name : Name) → length (columns_of tables.now.tables name) ≤ most_columns }
     ensures { IfOk result (λ changes. changes.items
-        ≡ map (λ e. change_of tables.now e.user e.statement) journal.now) }
+        ≡ map (λ e. change_of tables.now.tables e.user e.statement) journal.now) }
 {
     let mut changes = Vec::new(alloc);
     for entry in journal {

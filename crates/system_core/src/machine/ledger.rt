@@ -36,7 +36,7 @@ impl Model for Ledger {
 
     ghost view = { λ l. record { journal = l.journal.items; limits = l.limits } };
 
-    ghost invariant = { λ l. KeepsJournal l.limits l.journal.items l.tables l.rights };
+    ghost invariant = { λ l. KeepsJournal l.limits l.journal.items l.tables.tables l.rights };
 }
 
 fn names_of(alloc: Global, columns: &[Column]) -> Result<Vec<Name>, AllocError>
@@ -53,10 +53,11 @@ fn rows_of(
     table: Name,
     filter: &[Condition],
 ) -> Result<Vec<Row>, NoMemory>
-    requires { IsSome (table_of tables.now table) }
-    ensures { let columns = columns_given (columns_of tables.now table) list.now in
+    requires { IsSome (table_of tables.now.tables table) }
+    ensures { let columns = columns_given (columns_of tables.now.tables table) list.now in
         IfOk result (λ rows.
-        option_map (selected_rows columns filter.now) (table_of tables.now table) ≡ Some rows.items) }
+        option_map (selected_rows columns filter.now) (table_of tables.now.tables table)
+        ≡ Some rows.items) }
 {
     match list {
         Some(names) => tables.select(table, names.as_slice(), filter),
@@ -114,7 +115,7 @@ impl Ledger {
 
     /// The tables that the journal makes.
     pub fn tables(&self) -> &Tables
-        ensures tables { result.now ≡ contents self.now.journal }
+        ensures tables { result.now.tables ≡ contents self.now.journal }
         ensures few { row_total (contents self.now.journal) < 2 ^ 62 }
     {
         &self.tables

@@ -7,7 +7,7 @@ use Rattle.capture_core.proofs.snapshot.table_images.Goals.{in-Some+in_ok-table_
 
 pub loop-index-preserved : goal.loop-index-preserved
 loop-index-preserved c =
-    let tables = c.args.tables.now in
+    let tables = c.args.tables.now.tables in
     let i = c.loop-index.index in
     let so_far = c.loop-index.images.items in
     elim c.match-at.branch [

@@ -11,5 +11,5 @@ check_of (Err lack) = Err lack
 
 pub returns-in-Err-clause-memory : goal.returns-in-Err-clause-memory
 returns-in-Err-clause-memory g c = λ e.
-    let at : State = record { tables = c.args.tables.now; rights = g.A.Authority.content c.args.rights.now; limits = c.args.limits.now; moment = c.args.moment.0 } in
+    let at : State = record { tables = c.args.tables.now.tables; rights = g.A.Authority.content c.args.rights.now; limits = c.args.limits.now; moment = c.args.moment.0 } in
     verdict-not_NoMemory at c.args.user c.args.statement.now (sym c.judge.ensures ∙ (c.in-Err.is ∙ ap check_of e))

@@ -9,7 +9,7 @@ use Rattle.acceptance.proofs.libraries.capture.rows_in.Goals.{in-Some+else-asser
 
 pub loop-index-preserved : goal.loop-index-preserved
 loop-index-preserved g c =
-    let tables = c.args.tables.now in
+    let tables = c.args.tables.now.tables in
     let i = c.loop-index.index in
     elim c.match-at.branch [
       | in-Some+else-assert w ↦ (

@@ -10,4 +10,4 @@ returns-clause-ok c =
     c.in_ok-insert.ensures.entries
     ∙ (insert_entry-new same_name c.self.inside.tables c.args.name c.new-table.result absent
     ∙ (ap (λ t. c.self.inside.tables.entries ++ (c.args.name, t) ∷ []) c.new-table.ensures
-    ∙ ap (λ l. l ++ (c.args.name, empty_table c.args.owner c.args.columns) ∷ []) c.self.view_is))
+    ∙ ap (λ d. d.tables ++ (c.args.name, empty_table c.args.owner c.args.columns) ∷ []) c.self.view_is))

@@ -5,7 +5,7 @@ use Rattle.std.proofs.lemmas.Map.Steps.{set_value_same}
 use Rattle.std.proofs.lemmas.Result.{on_ok_weaker, on_err_weaker}
 use Rattle.base_core.specs.Words.{same_name}
 use Rattle.tables_core.specs.Contents.{with_updated_rows}
-use Rattle.tables_core.proofs.ContentsLemmas.{with_change-some}
+use Rattle.tables_core.proofs.ContentsLemmas.{with_change-some, same_database}
 use Rattle.tables_core.proofs.tables.Tables.update.Goals as goal
 
 pub returns-clause-ok : goal.returns-clause-ok
@@ -16,4 +16,4 @@ returns-clause-ok c =
 pub returns-clause-no_memory : goal.returns-clause-no_memory
 returns-clause-no_memory c =
     let found = sym c.get_mut.ensures.value ∙ ap option_copied_mut c.in-Some.is in
-    rw (← c.self.view_is) (on_err_weaker c.update.result (λ same. (c.get_mut.follows.holds c.update.new.self).0 ∙ set_value_same _ _ _ (found ∙ ap Some (sym same))) c.update.ensures.no_memory)
+    rw (← c.self.view_is) (on_err_weaker c.update.result (λ same. same_database ((c.get_mut.follows.holds c.update.new.self).0 ∙ set_value_same _ _ _ (found ∙ ap Some (sym same)))) c.update.ensures.no_memory)

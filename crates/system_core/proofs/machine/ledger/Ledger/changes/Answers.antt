@@ -17,8 +17,8 @@ changes_of-requires c =
 pub returns : goal.returns
 returns c =
     let by : List (Name × Contents) → List Entry → List Change = λ ts es. map (λ (e : Entry). change_of ts e.user e.statement) es in
-    let same : by c.self.inside.tables c.as_slice.result.now ≡ changes c.args.self.now.journal =
-    ap (by c.self.inside.tables) c.as_slice.ensures.value
+    let same : by c.self.inside.tables.tables c.as_slice.result.now ≡ changes c.args.self.now.journal =
+    ap (by c.self.inside.tables.tables) c.as_slice.ensures.value
     ∙ (ap (λ ts. by ts c.self.inside.journal.items) c.self.invariant.tables_of
     ∙ (changes-at_once c.self.inside.limits c.self.inside.journal.items c.self.invariant.sound.lawful
     ∙ ap (λ (w : Accepted). changes w.journal) c.self.view_is)) in
