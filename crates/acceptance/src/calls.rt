@@ -1,195 +1,170 @@
-//! Events of the core with limits that no script has, each with the text of its reply.
-use self::Asked::{Abandon, Say, Step};
+//! Limits and events of the core that no script has, and the calls of it that the program does not make.
 use base_core::{Limits, Name, User};
 use reader_core::read;
 use script_core::reply_text;
 use std::alloc::Global;
 use std::process::Abort;
-use std::test::Fail;
 use system_core::{Event, Reply, System};
 
-/// What is asked of the core: a user's statement, a step of the checkpointer, or to give up.
-#[derive(Clone, Copy)]
-pub enum Asked {
-    Say(&'static str, &'static str),
-    Step,
-    Abandon,
-}
-
-fn event(alloc: Global, asked: Asked) -> Result<Event, Fail> {
-    let (user, statement) = match asked {
-        Asked::Say(user, statement) => (user, statement),
-        Asked::Step => return Ok(Event::Step),
-        Asked::Abandon => return Ok(Event::Abandon),
-    };
-    let user = User(Name::read(user.as_bytes()).ok_or("no name")?);
-    Ok(Event::Say {
+/// An event in text: a step of the checkpointer, to give up, or what a user says.
+fn event(rt: &impl Abort, alloc: Global, line: &str) -> Event {
+    match line {
+        "step" => return Event::Step,
+        "abandon" => return Event::Abandon,
+        _ => {}
+    }
+    let (user, statement) = line.split_once(": ").expect(rt, "a user");
+    let user = User(Name::read(user.as_bytes()).expect(rt, "a name"));
+    let statement = read(alloc, statement.as_bytes()).expect(rt, "a statement");
+    Event::Say {
         pass: 0,
         user,
-        statement: read(alloc, statement.as_bytes())?,
-    })
-}
-
-fn events(alloc: Global, rows: &[(Asked, &str)]) -> Result<Vec<Event>, Fail> {
-    let mut events = Vec::new(alloc);
-    for (asked, _) in rows {
-        events.push(event(alloc, *asked)?)?;
+        statement,
     }
-    Ok(events)
 }
 
-/// The texts of the replies, one after another.
-fn texts(alloc: Global, replies: &[Reply]) -> Result<Vec<u8>, Fail> {
+/// The events of a session: the lines that are no replies, which have four blanks in front.
+fn events(rt: &impl Abort, alloc: Global, session: &str) -> Vec<Event> {
+    let mut events = Vec::new(alloc);
+    for line in session.lines() {
+        if !line.starts_with("    ") {
+            events.push(event(rt, alloc, line)).expect(rt, "memory");
+        }
+    }
+    events
+}
+
+/// The replies that stand in a session.
+fn wanted(rt: &impl Abort, alloc: Global, session: &str) -> Vec<u8> {
+    let mut all = Vec::new(alloc);
+    for line in session.lines() {
+        if let Some(reply) = line.strip_prefix("    ") {
+            all.extend_from_slice(reply.as_bytes()).expect(rt, "memory");
+            all.push(b'\n').expect(rt, "memory");
+        }
+    }
+    all
+}
+
+/// What the core answers to a session.
+pub fn replies(rt: &impl Abort, alloc: Global, system: &mut System, session: &str) -> Vec<Reply> {
+    let Ok(replies) = system.run(events(rt, alloc, session)) else {
+        panic!(rt; "no memory for replies")
+    };
+    replies
+}
+
+fn texts(rt: &impl Abort, alloc: Global, replies: &[Reply]) -> Vec<u8> {
     let mut all = Vec::new(alloc);
     for reply in replies {
-        all.extend_from_slice(&reply_text(alloc, reply)?)?;
+        let text = reply_text(alloc, reply).expect(rt, "memory");
+        all.extend_from_slice(&text).expect(rt, "memory");
     }
-    Ok(all)
+    all
 }
 
-fn wanted(alloc: Global, rows: &[(Asked, &str)]) -> Result<Vec<u8>, Fail> {
-    let mut all = Vec::new(alloc);
-    for (_, text) in rows {
-        all.extend_from_slice(text.as_bytes())?;
-    }
-    Ok(all)
+/// Plays a session, of so many changes, with a new core.
+fn play(rt: &impl Abort, alloc: Global, limits: Limits, session: &str, changes: usize) {
+    let mut system = System::with_limits(alloc, 16, limits).expect(rt, "memory");
+    let replies = replies(rt, alloc, &mut system, session);
+    let said = texts(rt, alloc, &replies);
+    assert_eq!(rt; said.as_slice(), wanted(rt, alloc, session).as_slice());
+    assert!(rt; system.changes().expect(rt, "memory").len() == changes);
 }
 
-/// Asks all of a new core with these limits, and compares what is answered. Gives the core.
-pub fn expect(
-    rt: &impl Abort,
-    alloc: Global,
-    limits: Limits,
-    rows: &[(Asked, &str)],
-) -> Result<System, Fail> {
-    let events = events(alloc, rows)?;
-    let wanted = wanted(alloc, rows)?;
-    let mut system = System::with_limits(alloc, 16, limits)?;
-    let Ok(replies) = system.run(events) else {
-        return Err(Fail::from("no memory"));
+/// As many changes, tables, grants of one privilege and checkpoints as may be. Of the checks of a
+/// statement that for room comes last, and of two for room that for changes first.
+const FULL: &str = "\
+o: CREATE TABLE t (n TEXT, x INTEGER)
+    done @1
+o: CREATE TABLE s (x INTEGER)
+    refused @1: full: tables
+o: GRANT SELECT ON t TO a, b
+    refused @1: full: grants
+o: GRANT SELECT ON t TO a
+    done @2
+o: CHECKPOINT
+    checkpoint 1 begun @2
+o: CHECKPOINT
+    refused @2: busy
+step
+o: CHECKPOINT
+    refused @2: full: checkpoints
+o: CREATE TABLE t (x INTEGER)
+    denied @2: table t exists
+o: CREATE TABLE s (x INTEGER)
+    refused @2: full: changes
+o: INSERT INTO t VALUES ('a', 'a')
+    refused @2: column x takes INTEGER
+o: INSERT INTO t VALUES ('a', 1)
+    refused @2: full: changes
+o: DELETE FROM t WHERE x = 'a'
+    refused @2: column x takes INTEGER
+o: DELETE FROM t
+    refused @2: full: changes
+o: UPDATE t SET x = 'a'
+    refused @2: column x takes INTEGER
+o: UPDATE t SET x = 1
+    refused @2: full: changes
+a: GRANT SELECT ON t TO b
+    denied @2: a may not grant SELECT on t
+o: GRANT SELECT ON t TO b
+    refused @2: full: changes
+o: REVOKE SELECT ON t FROM b
+    denied @2: o granted no SELECT on t to b
+o: REVOKE SELECT ON t FROM a
+    refused @2: full: changes
+";
+
+#[test]
+fn full(rt: HostRuntime) {
+    let limits = Limits {
+        changes: 2,
+        tables: 1,
+        grants: 1,
+        checkpoints: 1,
     };
-    let said = texts(alloc, &replies)?;
-    assert_eq!(rt; said.as_slice(), wanted.as_slice());
-    Ok(system)
-}
-
-#[test]
-fn full_of_changes(rt: HostRuntime) -> Result<(), Fail> {
-    let mut limits = Limits::full();
-    limits.changes = 2;
-    let rows = [
-        (Say("ann", "CREATE TABLE t (x INTEGER)"), "done @1\n"),
-        (Say("ann", "INSERT INTO t VALUES (1)"), "done @2\n"),
-        (
-            Say("ann", "INSERT INTO t VALUES (1)"),
-            "refused @2: full: changes\n",
-        ),
-    ];
-    let _ = expect(&rt, rt.alloc(), limits, &rows)?;
-    Ok(())
-}
-
-/// Of the checks of a statement those for room come last, and of these the one for changes first.
-#[test]
-fn full_comes_last(rt: HostRuntime) -> Result<(), Fail> {
-    let mut limits = Limits::full();
-    limits.changes = 3;
-    limits.tables = 1;
-    limits.grants = 1;
-    let (full, typed) = (
-        "refused @3: full: changes\n",
-        "refused @3: column x takes INTEGER\n",
-    );
-    let rows = [
-        (Say("o", "CREATE TABLE t (n TEXT, x INTEGER)"), "done @1\n"),
-        (Say("o", "GRANT SELECT ON t TO a"), "done @2\n"),
-        (
-            Say("o", "CREATE TABLE s (x INTEGER)"),
-            "refused @2: full: tables\n",
-        ),
-        (
-            Say("o", "GRANT SELECT ON t TO b"),
-            "refused @2: full: grants\n",
-        ),
-        (Say("o", "INSERT INTO t VALUES ('a', 1)"), "done @3\n"),
-        (
-            Say("o", "CREATE TABLE t (x INTEGER)"),
-            "denied @3: table t exists\n",
-        ),
-        (Say("o", "CREATE TABLE s (x INTEGER)"), full),
-        (Say("o", "INSERT INTO t VALUES ('a', 'a')"), typed),
-        (Say("o", "INSERT INTO t VALUES ('a', 1)"), full),
-        (Say("o", "DELETE FROM t WHERE x = 'a'"), typed),
-        (Say("o", "DELETE FROM t"), full),
-        (Say("o", "UPDATE t SET x = 'a'"), typed),
-        (Say("o", "UPDATE t SET x = 1"), full),
-        (
-            Say("o", "GRANT SELECT ON s TO b"),
-            "denied @3: no table s\n",
-        ),
-        (Say("o", "GRANT SELECT ON t TO b"), full),
-        (
-            Say("o", "REVOKE SELECT ON t FROM b"),
-            "denied @3: o granted no SELECT on t to b\n",
-        ),
-        (Say("o", "REVOKE SELECT ON t FROM a"), full),
-    ];
-    let _ = expect(&rt, rt.alloc(), limits, &rows)?;
-    Ok(())
-}
-
-/// The record of changes, and the audit by it.
-#[test]
-fn changes_are_told(rt: HostRuntime) -> Result<(), Fail> {
-    let rows = [
-        (Say("o", "CREATE TABLE t (x INTEGER)"), "done @1\n"),
-        (Say("o", "GRANT SELECT ON t TO a, b"), "done @2\n"),
-        (Say("o", "REVOKE SELECT ON t FROM a"), "done @3\n"),
-    ];
-    let system = expect(&rt, rt.alloc(), Limits::full(), &rows)?;
-    assert_eq!(rt; (system.changes()?.len(), system.audit()?), (3, Some(1)));
-    Ok(())
-}
-
-/// Of each two neighbouring checks of checkpoints that can both fail, the first is named: of CHECKPOINT,
-/// that none is active before that there is room; of EXPORT of one table, that the table stands before
-/// that the checkpoint is kept, then that the table stood at the point, then that the user could select
-/// it then, and last that he may now.
-#[test]
-fn first_lack_of_checkpoints(rt: HostRuntime) -> Result<(), Fail> {
-    let mut limits = Limits::full();
-    limits.checkpoints = 1;
-    let rows = [
-        (Say("o", "EXPORT 9 ONLY t"), "denied @0: no table t\n"),
-        (Say("o", "CREATE TABLE t (x INTEGER)"), "done @1\n"),
-        (Say("o", "CHECKPOINT"), "checkpoint 1 begun @1\n"),
-        (Say("o", "CHECKPOINT"), "refused @1: busy\n"),
-        (Step, ""),
-        (Say("o", "CREATE TABLE s (x INTEGER)"), "done @2\n"),
-        (
-            Say("u", "EXPORT 1 ONLY s"),
-            "denied @1: no table s at checkpoint 1\n",
-        ),
-        (
-            Say("u", "EXPORT 1 ONLY t"),
-            "denied @1: u lacked SELECT on t\n",
-        ),
-        (Say("o", "CHECKPOINT"), "refused @2: full: checkpoints\n"),
-    ];
-    let _ = expect(&rt, rt.alloc(), limits, &rows)?;
-    Ok(())
+    play(&rt, rt.alloc(), limits, FULL, 2);
 }
 
 /// The number of a checkpoint that was given up is not used again.
+const ABANDONED: &str = "\
+o: CHECKPOINT
+    checkpoint 1 begun @0
+abandon
+    checkpoint 1 abandoned
+step
+o: CHECKPOINTS
+    checkpoints 0 @0
+o: CHECKPOINT
+    checkpoint 2 begun @0
+";
+
 #[test]
-fn abandoned(rt: HostRuntime) -> Result<(), Fail> {
-    let rows = [
-        (Say("o", "CHECKPOINT"), "checkpoint 1 begun @0\n"),
-        (Abandon, "checkpoint 1 abandoned\n"),
-        (Step, ""),
-        (Say("o", "CHECKPOINTS"), "checkpoints 0 @0\n"),
-        (Say("o", "CHECKPOINT"), "checkpoint 2 begun @0\n"),
-    ];
-    let _ = expect(&rt, rt.alloc(), Limits::full(), &rows)?;
-    Ok(())
+fn abandoned(rt: HostRuntime) {
+    play(&rt, rt.alloc(), Limits::full(), ABANDONED, 0);
+}
+
+const REPEATED_GRANTS: &str = "\
+o: CREATE TABLE t (x INTEGER)
+    done @1
+o: GRANT SELECT ON t TO a WITH GRANT OPTION
+    done @2
+o: GRANT SELECT ON t TO b WITH GRANT OPTION
+    done @3
+a: GRANT SELECT ON t TO c WITH GRANT OPTION
+    done @4
+c: GRANT SELECT ON t TO d
+    done @5
+b: GRANT SELECT ON t TO c WITH GRANT OPTION
+    done @6
+c: GRANT SELECT ON t TO d
+    done @7
+a: REVOKE SELECT ON t FROM c
+    done @8
+";
+
+#[test]
+fn changes_are_told(rt: HostRuntime) {
+    play(&rt, rt.alloc(), Limits::full(), REPEATED_GRANTS, 8);
 }

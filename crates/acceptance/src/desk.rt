@@ -6,92 +6,95 @@ use desk_core::{Desk, Pass};
 use reader_core::read;
 use script_core::reply_text;
 use std::alloc::Global;
+use std::process::Abort;
 use std::sync::Wait;
-use std::test::Fail;
-use system_core::System;
+use system_core::{Reply, System};
 
-/// What the desk answers to ann's statements through this pass, behind what was said.
-fn ask<R: Wait>(
+/// Puts what the desk answers to ann's statement through this pass behind what was said.
+fn ask<R: Wait + Abort>(
     rt: &R,
     alloc: Global,
     desk: &Desk,
     pass: &mut Pass,
-    statements: &[&[u8]],
+    statement: &str,
     said: &mut Vec<u8>,
-) -> Result<(), Fail>
+)
     requires { pass.old.lock ≡ Some desk.now }
     ensures { pass.new.lock ≡ pass.old.lock }
 {
-    for statement in statements {
-        let ann = User(Name::read(b"ann").ok_or("no name")?);
-        let statement = read(alloc, statement)?;
-        let reply = desk.execute(rt, pass, ann, statement);
-        said.extend_from_slice(&reply_text(alloc, &reply)?)?;
-    }
-    Ok(())
+    let ann = User(Name::read(b"ann").expect(rt, "a name"));
+    let statement = read(alloc, statement.as_bytes()).expect(rt, "a statement");
+    let reply = desk.execute(rt, pass, ann, statement);
+    say(rt, alloc, &reply, said);
+}
+
+fn say(rt: &impl Abort, alloc: Global, reply: &Reply, said: &mut Vec<u8>) {
+    let text = reply_text(alloc, reply).expect(rt, "memory");
+    said.extend_from_slice(&text).expect(rt, "memory");
 }
 
 /// The second pass meets what the first has seen, and then both go on.
-fn shared<R: Wait>(
+fn share<R: Wait + Abort>(
     rt: &R,
     alloc: Global,
     desk: &Desk,
     first: &mut Pass,
     second: &mut Pass,
-) -> Result<Vec<u8>, Fail>
+    said: &mut Vec<u8>,
+)
     requires first { first.old.lock ≡ Some desk.now }
     requires second { second.old.lock ≡ Some desk.now }
     ensures first { first.new.lock ≡ first.old.lock }
     ensures second { second.new.lock ≡ second.old.lock }
 {
-    let mut said = Vec::new(alloc);
-    let made: [&[u8]; 2] = [b"CREATE TABLE t (x INTEGER)", b"INSERT INTO t VALUES (7)"];
-    ask(rt, alloc, desk, first, &made, &mut said)?;
+    ask(rt, alloc, desk, first, "CREATE TABLE t (x INTEGER)", said);
+    ask(rt, alloc, desk, first, "INSERT INTO t VALUES (7)", said);
     let note = desk.note(first);
     desk.meet(second, note);
-    ask(rt, alloc, desk, second, &[b"SELECT * FROM t"], &mut said)?;
-    ask(rt, alloc, desk, first, &[b"CHECKPOINT"], &mut said)?;
+    ask(rt, alloc, desk, second, "SELECT * FROM t", said);
+    ask(rt, alloc, desk, first, "CHECKPOINT", said);
     let abandoned = desk.abandon_turn(rt, first);
-    said.extend_from_slice(&reply_text(alloc, &abandoned)?)?;
+    say(rt, alloc, &abandoned, said);
+    ask(rt, alloc, desk, second, "CHECKPOINT", said);
     let _ = desk.checkpoint_turn(rt, first);
-    ask(rt, alloc, desk, second, &[b"CHECKPOINT"], &mut said)?;
-    Ok(said)
+    ask(rt, alloc, desk, second, "CHECKPOINTS", said);
 }
 
 /// The core is given back with both passes, and not with one.
-fn closed(desk: Desk, first: Pass, second: Pass, mut passes: Vec<Pass>) -> Result<System, Fail>
+fn close(rt: &impl Abort, desk: Desk, first: Pass, second: Pass, mut passes: Vec<Pass>) -> System
     requires first { first.lock ≡ Some desk }
     requires second { second.lock ≡ Some desk }
     requires others { passes.items ≡ [] }
 {
-    passes.push(second)?;
+    assert!(rt; passes.push(second).is_ok());
     let Err((desk, mut passes)) = desk.close(passes) else {
-        return Err(Fail::from("closed without a pass"));
+        panic!(rt; "closed without a pass")
     };
-    passes.push(first)?;
-    match desk.close(passes) {
-        Ok(system) => Ok(system),
-        Err(_) => Err(Fail::from("not all passes")),
-    }
+    assert!(rt; passes.push(first).is_ok());
+    let Ok(system) = desk.close(passes) else {
+        panic!(rt; "not all passes")
+    };
+    system
 }
 
 /// Who met a note sees what its giver had seen, and the number of a checkpoint that was given up is not
 /// used again through another pass.
 #[test]
-fn freshness(rt: HostRuntime) -> Result<(), Fail> {
-    let (desk, mut passes) = Desk::build(rt.alloc(), 2, 16)?;
-    let (Some(mut second), Some(mut first)) = (passes.pop(), passes.pop()) else {
-        return Err(Fail::from("no passes"));
+fn freshness(rt: HostRuntime) {
+    let mut said = Vec::new(rt.alloc());
+    let (desk, mut passes) = Desk::build(rt.alloc(), 2, 16).expect(&rt, "memory");
+    let mut second = passes.pop().expect(&rt, "a pass");
+    let mut first = passes.pop().expect(&rt, "a pass");
+    share(&rt, rt.alloc(), &desk, &mut first, &mut second, &mut said);
+    let system = close(&rt, desk, first, second, passes);
+    let [made, inserted] = system.journal() else {
+        panic!(rt; "not two entries")
     };
-    let said = shared(&rt, rt.alloc(), &desk, &mut first, &mut second)?;
+    assert!(rt; made.pass == 0 && inserted.pass == 0);
     assert_eq!(rt;
         said.as_slice(),
         b"done @1\ndone @2\nrows 1 @2\nrow,7\ncheckpoint 1 begun @2\ncheckpoint 1 abandoned\n\
-checkpoint 2 begun @2\n"
+checkpoint 2 begun @2\ncheckpoints 1 @2\nfinished,2,2\n"
             .as_slice()
     );
-    let system = closed(desk, first, second, passes)?;
-    assert_eq!(rt; system.journal().len(), 2);
-    assert!(rt; system.journal().iter().all(|entry| entry.pass == 0));
-    Ok(())
 }

@@ -1,6 +1,7 @@
-//! Tests of the libraries by their public calls, and of the core with limits and events that no script
-//! has. They stand in a crate above the libraries so that none of these is proved once more for its
-//! tests. There is nothing here but tests; the worked examples are sessions of the built program.
+//! Tests of what no clause says and no session of the built program shows: how often streams are called
+//! and where they fail, limits and events that no script has, and the calls that the program does not
+//! make. They stand in a crate above the libraries so that none of these is proved once more for its
+//! tests. There is nothing here but tests.
 #![tactic(auto)]
 
 #[cfg(test)]
@@ -8,4 +9,12 @@ mod calls;
 #[cfg(test)]
 mod desk;
 #[cfg(test)]
-mod libraries;
+mod exports;
+#[cfg(test)]
+mod lines;
+#[cfg(test)]
+mod printer;
+#[cfg(test)]
+mod slow;
+#[cfg(test)]
+mod streams;

@@ -1,12 +1,27 @@
 //! A writer that fails.
+ghost use Rattle.std.specs.Prelude.{◌≡◌, false};
+
 use base_core::{Broken, Sink};
+use std::alloc::Global;
 
 /// A writer that takes one byte at a time, and fails at some write.
 #[derive(Drop)]
 pub struct Slow {
     pub bytes: Vec<u8>,
-    pub good_writes: usize,
-    pub failed: bool,
+    good_writes: usize,
+    failed: bool,
+}
+
+impl Slow {
+    pub fn new(alloc: Global, good_writes: usize) -> Slow
+        ensures { result.failed ≡ false }
+    {
+        Slow {
+            bytes: Vec::new(alloc),
+            good_writes,
+            failed: false,
+        }
+    }
 }
 
 impl Sink for Slow {
