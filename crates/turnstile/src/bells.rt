@@ -4,14 +4,27 @@ ghost use Rattle.std.specs.Prelude.{◌≡◌, ◌<◌};
 use atomic_table::{Play, Table, TableRule};
 use base_core::NoMemory;
 use std::alloc::Global;
+use std::hint::spin_loop;
 use std::sync::Wait;
 
 /// As many bells as there are passes at most.
 const COUNT: usize = 64;
 
-/// A row of words, each of which counts how often it was rung. A ticket's bell goes by its number: tickets
-/// that are out at one time follow one another, and are no more than the passes, so that no two have the
-/// same bell.
+/// A bell at which one may sleep.
+const SET: u64 = 1;
+
+/// So often the next in line looks before it sleeps: about as long as a wake takes.
+const LOOKS: u32 = 200;
+
+/// A row of words, each of which is 1 where one may sleep at it, and else 0. A ticket's bell goes by its
+/// number: tickets that are out at one time follow one another, and are no more than the passes, so that no
+/// two have the same bell.
+///
+/// No ring is missed, as all steps stand in one order. Who sleeps set its bell before it last read the served
+/// word, and sleeps only while the bell is set. Who ends the turn before raised the served word before it
+/// reads the bell: it finds it set, or whoever waits finds its turn served. Each who unsets a bell wakes the
+/// one at it. One that is late may so wake a later ticket at the same bell, which then looks and sets its bell
+/// again.
 #[derive(Drop)]
 pub(crate) struct Bells {
     table: Table<(), (), (), Unruled, Global>,
@@ -39,25 +52,51 @@ impl Bells {
         Ok(Bells { table })
     }
 
-    /// How often the ticket's bell was rung.
-    pub(crate) fn rung(&self, ticket: u64) -> u64 {
-        self.table.shared.peek(bell(ticket))
+    fn set(&self, ticket: u64) {
+        let _found = self.table.shared.swap_new_seat::<Unruled>(bell(ticket), SET);
     }
 
-    /// Sleeps until the ticket's bell is rung, if it was `rung` as often until now. It may also return for
-    /// no reason.
-    pub(crate) fn sleep<R: Wait>(&self, rt: &R, ticket: u64, rung: u64) {
-        self.table
-            .shared
-            .park(rt, bell(ticket), (rung & 0xffff_ffff) as u32);
-    }
-
-    /// Wakes the one who sleeps until the ticket's bell is rung.
+    /// Wakes the one who may sleep until the ticket's bell is rung, if there is one.
     pub(crate) fn ring(&self, ticket: u64) {
         let bell = bell(ticket);
-        let (_rung, mut seat) = self.table.shared.load_new_seat::<Unruled>(bell);
-        self.table.shared.fetch_add::<Unruled>(&mut seat, bell, 1);
-        self.table.shared.wake_all(bell);
+        if self.table.shared.peek(bell) == SET {
+            let _found = self.table.shared.swap_new_seat::<Unruled>(bell, 0);
+            self.table.shared.wake_all(bell);
+        }
+    }
+}
+
+/// One who waits for its turn: how often it may look before it sleeps, and whether it has set its bell since
+/// it last slept.
+#[derive(Drop)]
+pub(crate) struct Waiter {
+    ticket: u64,
+    looks: u32,
+    set: bool,
+}
+
+impl Waiter {
+    pub(crate) fn new(ticket: u64) -> Waiter {
+        Waiter {
+            ticket,
+            looks: LOOKS,
+            set: false,
+        }
+    }
+
+    /// What it does between two looks at the served word, where it found `serving`: nothing if it is the
+    /// next in line and may look again. Else it sets its bell, and looks once more before it sleeps.
+    pub(crate) fn pause<R: Wait>(&mut self, rt: &R, bells: &Bells, serving: u64) {
+        if self.looks > 0 && self.ticket.saturating_sub(serving) <= 1 {
+            self.looks -= 1;
+            spin_loop();
+        } else if self.set {
+            bells.table.shared.park(rt, bell(self.ticket), SET as u32);
+            *self = Waiter::new(self.ticket);
+        } else {
+            bells.set(self.ticket);
+            self.set = true;
+        }
     }
 }
 

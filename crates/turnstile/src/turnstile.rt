@@ -8,7 +8,7 @@ ghost use Rattle.turnstile.specs.Rule.{dealer, fresh, fresh_from};
 ghost use Rattle.turnstile.specs.Steps.{with_ticket, with_core, with_count, view_after, IsFresh};
 ghost use Rattle.turnstile.specs.Places.{terms_of, known_of, known_in, IsAtRest};
 
-use crate::bells::Bells;
+use crate::bells::{Bells, Waiter};
 use crate::law::Law;
 use crate::object::Object;
 use crate::pass::{Note, Pass, Place};
@@ -176,7 +176,9 @@ impl<O: Object> Turnstile<O> {
         let mut object = self.take(rt, &mut pass.seat, ticket);
         let reply = object.act(pass.number, ask);
         self.end(&mut pass.seat, object);
-        self.wake(ticket + 1);
+        // the one after the next is awake by the time it is next
+        self.bells.ring(ticket + 1);
+        self.bells.ring(ticket + 2);
         Ok(reply)
     }
 
@@ -206,8 +208,7 @@ impl<O: Object> Turnstile<O> {
         unreachable!()
     }
 
-    // Waits until the ticket is served, and takes the object. Whoever ends the turn before raises the served
-    // word and then rings the bell: it is read before the served word, so that no ring is missed.
+    // Waits until the ticket is served, and takes the object.
     fn take<R: Wait>(&self, rt: &R, seat: &mut Place<O>, ticket: u64) -> O
         requires own { seat.old.table_id ≡ self.now.identity }
         requires waits { (k : _)
@@ -221,8 +222,8 @@ impl<O: Object> Turnstile<O> {
             → seat.old.me.0.passes ≡ k ∷ []
             → IsFresh O.log O.by O.mark O.fixed k seat.old.me.0.terms result }
     {
+        let mut waiter = Waiter::new(ticket);
         for _ in rt.forever() {
-            let rung = self.bells.rung(ticket);
             let serving = self.table.shared.load::<Take>(seat, SERVING);
             if serving == ticket {
                 match self.table.shared.exchange(seat, 0, None) {
@@ -230,7 +231,7 @@ impl<O: Object> Turnstile<O> {
                     None => unreachable!(),
                 }
             }
-            self.bells.sleep(rt, ticket, rung);
+            waiter.pause(rt, &self.bells, serving);
         }
         unreachable!()
     }
@@ -252,14 +253,6 @@ impl<O: Object> Turnstile<O> {
             Some(_) => unreachable!(),
         }
         self.table.shared.fetch_add::<End>(seat, SERVING, 1);
-    }
-
-    // Wakes the one that waits for the next turn, which is served now, where it was drawn already. Whoever
-    // draws it later reads the served word after that, and does not sleep.
-    fn wake(&self, next: u64) {
-        if self.table.shared.peek(TICKET) != next {
-            self.bells.ring(next);
-        }
     }
 
     /// What the pass has seen, for another pass of this turnstile to meet.
