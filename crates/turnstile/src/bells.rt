@@ -10,21 +10,23 @@ use std::sync::Wait;
 /// As many bells as there are passes at most.
 const COUNT: usize = 64;
 
+const UNSET: u64 = 0;
+
 /// A bell at which one may sleep.
 const SET: u64 = 1;
 
 /// So often the next in line looks before it sleeps: about as long as a wake takes.
 const LOOKS: u32 = 200;
 
-/// A row of words, each of which is 1 where one may sleep at it, and else 0. A ticket's bell goes by its
-/// number: tickets that are out at one time follow one another, and are no more than the passes, so that no
-/// two have the same bell.
+/// A row of words, each of which says whether one may sleep at it. A ticket's bell goes by its number:
+/// tickets that are out at one time follow one another, and are no more than the passes, so that no two have
+/// the same bell.
 ///
-/// No ring is missed, as all steps stand in one order. Who sleeps set its bell before it last read the served
-/// word, and sleeps only while the bell is set. Who ends the turn before raised the served word before it
-/// reads the bell: it finds it set, or whoever waits finds its turn served. Each who unsets a bell wakes the
-/// one at it. One that is late may so wake a later ticket at the same bell, which then looks and sets its bell
-/// again.
+/// No ring is missed, as all steps stand in one order. Whoever sleeps set its bell before it last read the
+/// served word, and whoever ends the turn before raised the served word before it reads the bell: so the one
+/// finds its turn served, or the other finds the bell set. One sleeps only while its bell is set, and whoever
+/// unsets it then wakes it. An end that comes late with this wakes a later ticket at the same bell, for no
+/// reason, and that sets its bell again. A bell that is left set costs a later end one wake of nobody.
 #[derive(Drop)]
 pub(crate) struct Bells {
     table: Table<(), (), (), Unruled, Global>,
@@ -46,22 +48,24 @@ impl Play<(), ()> for Unruled {
 
 impl Bells {
     pub(crate) fn new(alloc: Global) -> Result<Bells, NoMemory> {
-        let Ok((table, _seat)) = Table::of_words(alloc, &[0; COUNT], &()) else {
+        let Ok((table, _seat)) = Table::of_words(alloc, &[UNSET; COUNT], &()) else {
             return Err(NoMemory);
         };
         Ok(Bells { table })
     }
 
-    fn set(&self, ticket: u64) {
-        let _found = self.table.shared.swap_new_seat::<Unruled>(bell(ticket), SET);
+    fn put(&self, ticket: u64, word: u64) {
+        let (_found, _seat) = self
+            .table
+            .shared
+            .swap_new_seat::<Unruled>(bell(ticket), word);
     }
 
-    /// Wakes the one who may sleep until the ticket's bell is rung, if there is one.
+    /// Wakes the one who may sleep at the ticket's bell, if there is one.
     pub(crate) fn ring(&self, ticket: u64) {
-        let bell = bell(ticket);
-        if self.table.shared.peek(bell) == SET {
-            let _found = self.table.shared.swap_new_seat::<Unruled>(bell, 0);
-            self.table.shared.wake_all(bell);
+        if self.table.shared.peek(bell(ticket)) == SET {
+            self.put(ticket, UNSET);
+            self.table.shared.wake_one(bell(ticket));
         }
     }
 }
@@ -84,8 +88,9 @@ impl Waiter {
         }
     }
 
-    /// What it does between two looks at the served word, where it found `serving`: nothing if it is the
-    /// next in line and may look again. Else it sets its bell, and looks once more before it sleeps.
+    /// What it does after it found `serving` in the served word. The next in line looks again, if it may.
+    /// Any other sets its bell, looks once more, and then sleeps until that is rung. It may also wake for no
+    /// reason.
     pub(crate) fn pause<R: Wait>(&mut self, rt: &R, bells: &Bells, serving: u64) {
         if self.looks > 0 && self.ticket.saturating_sub(serving) <= 1 {
             self.looks -= 1;
@@ -94,7 +99,7 @@ impl Waiter {
             bells.table.shared.park(rt, bell(self.ticket), SET as u32);
             *self = Waiter::new(self.ticket);
         } else {
-            bells.set(self.ticket);
+            bells.put(self.ticket, SET);
             self.set = true;
         }
     }

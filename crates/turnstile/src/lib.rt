@@ -30,20 +30,21 @@
 //!
 //! **How it works.** There are two words and one slot. The ticket word counts the turns drawn, the
 //! served word says which turn is served, and the slot has the object. A turn raises the ticket word by
-//! one, and what it found there is its ticket. It reads the served word until that is its ticket, and
-//! sleeps meanwhile on its bell, one of a row of words that mean nothing to the rule. Then it takes the
-//! object out of the slot, lets it act, gives it back and raises the served word by one. Where the ticket
-//! word says that the next turn is drawn already, it rings that ticket's bell. The stretch between taking
-//! the object and giving it back is the event, and its entry joins the history as the served word rises. No
-//! other lock stands beside it, and between two calls a pass holds neither a ticket nor the object.
+//! one, and what it found there is its ticket. It reads the served word until that is its ticket. Meanwhile
+//! the next in line looks for about as long as a wake takes, and then sleeps, as all others do at once, each
+//! at its bell, one of a row of words that mean nothing to the rule. Then it takes the object out of the slot,
+//! lets it act, gives it back, raises the served word by one, and rings the bells of the next two tickets:
+//! the second so that it is awake by the time it is next. The stretch between taking the object and giving it
+//! back is the event, and its entry joins the history as the served word rises. No other lock stands beside
+//! it, and between two calls a pass holds neither a ticket nor the object.
 //!
 //! Turns are counted from the start that the turnstile was made with, 0 by [`build`](Turnstile::build).
 //! Once the count is 2^62, each turn answers [`Worn`], and none does before.
 //!
 //! **Cost.** Only making a turnstile takes memory, beside what the object's acts take. A turn that
 //! nobody contends costs six atomic steps and two moves of the object, and no call of the system. A turn
-//! that ends while others wait wakes the next in line alone. A note costs one atomic step, a meeting two,
-//! and closing one for each pass.
+//! that ends makes one for each of the next two in line that may sleep, and wakes nobody else. A note costs
+//! one atomic step, a meeting two, and closing one for each pass.
 //!
 //! **Not promised**: that a turn comes or ends, how long it waits, fairness, or any order between
 //! passes that never met. An act that does not return keeps all other turns waiting.
