@@ -139,7 +139,7 @@ impl Desk {
         match turnstile.close(passes) {
             Ok(core) => {
                 let _ = core.system.journal();
-                Ok(core.system)
+                Ok(Box::into_inner(core.system))
             }
             Err((turnstile, passes)) => Err((Desk { turnstile }, passes)),
         }

@@ -32,7 +32,7 @@
 //!
 //! # Cost
 //!
-//! A turn costs what the core's step does, two moves of the core, and four atomic steps.
+//! A turn costs what the core's step does, two moves of a pointer to it, and six atomic steps.
 #![tactic(auto)]
 
 mod desk;

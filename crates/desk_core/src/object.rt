@@ -42,7 +42,7 @@ impl Ask {
 #[derive(Drop)]
 pub struct Core {
     pub chunk: usize,
-    pub system: System,
+    pub system: Box<System>,
 }
 
 impl Model for Core {
@@ -52,9 +52,9 @@ impl Model for Core {
 
     ghost Value = { World };
 
-    ghost view = { λ c. c.system };
+    ghost view = { λ c. c.system.value };
 
-    ghost invariant = { λ c. (c.system.chunk ≡ c.chunk) × IsFull c.system.limits };
+    ghost invariant = { λ c. (c.system.value.chunk ≡ c.chunk) × IsFull c.system.value.limits };
 }
 
 impl Core {
@@ -64,7 +64,7 @@ impl Core {
         requires small { chunk ≤ 64 }
         ensures { IfOk result (λ c. c ≡ opening chunk c.limits) }
     {
-        let system = System::new(alloc, chunk)?;
+        let system = Box::new(alloc, System::new(alloc, chunk)?)?;
         Ok(Core { chunk, system })
     }
 }

@@ -1,0 +1,154 @@
+//! `turns THREADS STATEMENTS` reads and carries out INSERTs, for whoever takes the time.
+//!
+//! With 1 to 64 threads they go through one desk, with a pass for each thread; with 0 they go to a core
+//! without a lock. All threads together carry out so many statements, each the same number of them. Nothing is
+//! written. The exit status is 0 where all were carried out, 1 where memory was refused or a statement was, and
+//! 2 for any other command line.
+#![tactic(auto)]
+ghost use Rattle.std.specs.Prelude.{◌≡◌, ◌<◌, ◌≤◌, All, Some, IfSome};
+ghost use Rattle.std.specs.Thread.{IsSync};
+
+use base_core::{Name, User};
+use desk_core::{Desk, Pass};
+use reader_core::{Statement, read};
+use std::alloc::Global;
+use std::env;
+use std::process::ExitCode;
+use std::sync::Wait;
+use std::thread::{Threads, join};
+use system_core::{Event, Reply, System};
+
+/// The most passes that a desk has.
+const MOST_THREADS: usize = 64;
+
+const CHUNK: usize = 16;
+
+const CREATE: &'static [u8] = b"CREATE TABLE t (x INTEGER)";
+
+const INSERT: &'static [u8] = b"INSERT INTO t VALUES (7)";
+
+/// `None` where the statement was not carried out.
+fn done(reply: Reply) -> Option<()> {
+    match reply {
+        Reply::Done { .. } => Some(()),
+        _ => None,
+    }
+}
+
+/// A statement of the user to a core.
+fn say(alloc: Global, system: &mut System, user: &User, line: &[u8]) -> Option<Reply> {
+    let statement = read(alloc, line).ok()?;
+    Some(system.step(Event::Say {
+        pass: 0,
+        user: *user,
+        statement,
+    }))
+}
+
+/// The table, and so many rows, by a core without a lock.
+fn alone(alloc: Global, user: &User, count: u64) -> Option<()> {
+    let mut system = System::new(alloc, CHUNK).ok()?;
+    done(say(alloc, &mut system, user, CREATE)?)?;
+    for _ in 0..count {
+        done(say(alloc, &mut system, user, INSERT)?)?;
+    }
+    Some(())
+}
+
+/// The table, unless another thread made it already, and so many rows, through this pass.
+fn through<R: Wait>(
+    rt: &R,
+    alloc: Global,
+    desk: &Desk,
+    pass: &mut Pass,
+    user: &User,
+    count: u64,
+) -> Option<()>
+    requires { pass.old.lock ≡ Some desk.now }
+    ensures { pass.new.lock ≡ pass.old.lock }
+{
+    let create = read(alloc, CREATE).ok()?;
+    let _reply = desk.execute(rt, pass, *user, create);
+    for _ in 0..count {
+        let insert = read(alloc, INSERT).ok()?;
+        done(desk.execute(rt, pass, *user, insert))?;
+    }
+    Some(())
+}
+
+/// So many rows through each of these passes: one on this thread, and each other on one of its own.
+fn spread<R: Threads + Wait + Sync>(
+    rt: &R,
+    alloc: Global,
+    desk: &Desk,
+    mut passes: Vec<Pass>,
+    user: &User,
+    count: u64,
+) -> Option<()>
+    requires { All (λ p. p.lock ≡ Some desk.now) passes.items }
+{
+    let Some(mut pass) = passes.pop() else {
+        return Some(());
+    };
+    if passes.is_empty() {
+        return through(rt, alloc, desk, &mut pass, user, count);
+    }
+    let (one, others) = join(
+        rt,
+        || -> Option<()>
+            requires { IsSync R.row × (pass.lock ≡ Some desk.now) }
+        { through(rt, alloc, desk, &mut pass, user, count) },
+        || -> Option<()>
+            requires { IsSync R.row × All (λ p. p.lock ≡ Some desk.now) passes.items }
+        { spread(rt, alloc, desk, passes, user, count) },
+    );
+    one.and(others)
+}
+
+/// So many rows in all, through a desk with a pass for each thread.
+fn shared<R: Threads + Wait + Sync>(
+    rt: &R,
+    alloc: Global,
+    threads: usize,
+    user: &User,
+    count: u64,
+) -> Option<()>
+    requires counts { (0 < threads) × (threads ≤ 64) }
+{
+    let Ok((desk, passes)) = Desk::build(alloc, threads, CHUNK) else {
+        return None;
+    };
+    spread(rt, alloc, &desk, passes, user, count / (threads as u64))
+}
+
+/// The threads and the statements that the command line asks for.
+fn asked(rt: &HostRuntime) -> Option<(usize, u64)>
+    ensures { IfSome result (λ numbers. numbers.0 ≤ 64) }
+{
+    let words: Vec<String> = env::args(rt).ok()?.collect(rt.alloc()).ok()?;
+    let threads: usize = words.get(1)?.parse().ok()?;
+    let count: u64 = words.get(2)?.parse().ok()?;
+    if threads > MOST_THREADS {
+        return None;
+    }
+    Some((threads, count))
+}
+
+fn main(rt: HostRuntime) -> ExitCode {
+    let Some((threads, count)) = asked(&rt) else {
+        return ExitCode::from(2);
+    };
+    let Some(name) = Name::read(b"ann") else {
+        return ExitCode::from(2);
+    };
+    let user = User(name);
+    let done = if threads == 0 {
+        alone(rt.alloc(), &user, count)
+    } else {
+        shared(&rt, rt.alloc(), threads, &user, count)
+    };
+    match done {
+        Some(()) => ExitCode::SUCCESS,
+        None => ExitCode::FAILURE,
+    }
+}
