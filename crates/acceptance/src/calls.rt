@@ -1,7 +1,7 @@
 //! Limits and events of the core that no script has, and the calls of it that the program does not make.
 use base_core::{Limits, Name, User};
 use reader_core::read;
-use script_core::reply_text;
+use reply_core::reply_text;
 use std::alloc::Global;
 use std::process::Abort;
 use system_core::{Event, Reply, System};

@@ -4,7 +4,7 @@ ghost use Rattle.std.specs.Prelude.{◌≡◌, Some, []};
 use base_core::{Name, User};
 use desk_core::{Desk, Pass};
 use reader_core::read;
-use script_core::reply_text;
+use reply_core::reply_text;
 use std::alloc::Global;
 use std::process::Abort;
 use std::sync::Wait;

@@ -1,4 +1,3 @@
-pub mod Pushing
 pub mod Offsets
 pub mod Answering
 pub mod OneOutput

@@ -5,7 +5,7 @@ use Rattle.base_core.specs.declared.name.User.{User}
 use Rattle.base_core.specs.declared.lack.Lack.TheVariants as lacks
 use Rattle.lexer_core.specs.declared.fault.Code.{Code}
 use Rattle.reader_core.specs.declared.statement.Statement.{Statement}
-use Rattle.script_core.specs.Texts.{reply_text, fault_text}
+use Rattle.reply_core.specs.Texts.{reply_text, fault_text}
 use Rattle.system_core.specs.World.{World}
 use Rattle.system_core.specs.Step.{Step}
 use Rattle.script_core.specs.Script.{Asks, IsFaulty, is_refused}

@@ -1,4 +1,3 @@
-pub mod Texts
 pub mod Script
 pub mod Saying
 pub mod InFull
@@ -28,3 +27,5 @@ pub use Rattle.system_core.specs.Exports
 pub use Rattle.system_core.specs.World
 pub use Rattle.system_core.specs.Judging
 pub use Rattle.system_core.specs.Step
+pub use Rattle.reply_core.specs.Texts
+pub use Rattle.reply_core.specs.Telling

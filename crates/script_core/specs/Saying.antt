@@ -2,10 +2,11 @@
 use Rattle.std.specs.Prelude.{ℕ, ◌≡◌, true, false, List, [], ◌++◌, Option, Some, None, Ok}
 use Rattle.base_core.specs.declared.name.User.{User}
 use Rattle.reader_core.specs.declared.statement.Statement.{Statement}
-use Rattle.script_core.specs.Texts.{fault_text, unread_text}
+use Rattle.reply_core.specs.Texts.{fault_text, unread_text}
+use Rattle.reply_core.specs.Telling.{TellsReply}
 use Rattle.system_core.specs.World.{World}
 use Rattle.system_core.specs.Step.{Step}
-use Rattle.script_core.specs.Script.{addressed, Asks, IsFaulty, TellsReply, is_refused}
+use Rattle.script_core.specs.Script.{addressed, Asks, IsFaulty, is_refused}
 use Rattle.system_core.specs.declared.machine.event.Event.TheVariants as events
 use Rattle.system_core.specs.declared.machine.event.Reply.{Reply}
 use Rattle.script_core.specs.declared.scripts.answer.Said.{Said}

@@ -1,7 +1,7 @@
 -- What a script's line says, and what may be written for it and for the step of the checkpointer
 -- after it.
-use Rattle.std.specs.Prelude.{◌≡◌, ◌⊎◌, ◌+◌, ◌++◌, ◌<◌, ℕ, [], Bool, true, false, not, ◌==◌, nat_lt, List, length, take, drop, slice_index, if◌then◌else◌, Option, None, Some, Result, Ok, Err}
-use Rattle.std.specs.List.{concat, list_all, prefix_len}
+use Rattle.std.specs.Prelude.{◌≡◌, ◌+◌, ◌++◌, ◌<◌, ℕ, [], Bool, true, false, not, ◌==◌, nat_lt, List, length, take, drop, slice_index, if◌then◌else◌, Option, None, Some, Result, Ok, Err}
+use Rattle.std.specs.List.{list_all, prefix_len}
 use Rattle.std.specs.Char.{is_ascii_alphabetic}
 use Rattle.std.proofs.Common.{arith, sym, ◌∙◌}
 use Rattle.std.proofs.lemmas.Bool.Decides.{nat_tests}
@@ -18,7 +18,8 @@ use Rattle.base_core.specs.declared.word.TheConstants.{MAX_NAME}
 use Rattle.reader_core.specs.Language.{Spells, IsReadFault}
 use Rattle.reader_core.specs.declared.statement.Statement.{Statement}
 use Rattle.lines_core.specs.Serving.{Ends}
-use Rattle.script_core.specs.Texts.{reply_text, fault_text, unread_text, lost_text, cut_text, is_list}
+use Rattle.reply_core.specs.Texts.{fault_text, unread_text}
+use Rattle.reply_core.specs.Telling.{TellsReply}
 use Rattle.system_core.specs.World.{World, opening}
 use Rattle.system_core.specs.Step.{Step}
 use Rattle.system_core.specs.declared.machine.event.Event.TheVariants as events
@@ -68,23 +69,6 @@ pub data IsFaulty (line : List ℕ) : Code → ℕ → Type 0 where
       → addressed line ≡ Ok (user, start)
       → IsReadFault (drop start line) code offset
       → IsFaulty line code (start + offset)
-
--- what may be written behind the text of a reply: of an export its records, or some of them and, for
--- want of memory, that the rest is cut; of all else nothing
-abbrev pub TellsRecords : Reply → List ℕ → Type 0
-TellsRecords (replies.Export ticket) text =
-    (text ≡ concat ticket.to_come)
-    ⊎ ((n : ℕ)
-    × (n < length ticket.to_come)
-    × (text ≡ concat (take n ticket.to_come) ++ cut_text))
-TellsRecords reply text = text ≡ []
-
--- what may be written of a reply: its text and its records; or of a list, for want of memory, that it is
--- lost
-abbrev pub TellsReply : Reply → List ℕ → Type 0
-TellsReply reply text =
-    ((records : List ℕ) × TellsRecords reply records × (text ≡ reply_text reply ++ records))
-    ⊎ ((is_list reply ≡ true) × (text ≡ lost_text))
 
 -- From old, this text may be written for the line itself, and new is the next world. The last is for
 -- want of memory, where the line says who speaks, so that what he asks had to be read.

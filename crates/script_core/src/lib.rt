@@ -7,16 +7,13 @@
 //! one step of the checkpointer; where that finds no memory, the checkpoint is given up, and the script says
 //! so.
 //!
-//! [`reply_text`] is the text of a reply, byte for byte (`specs/Texts.antt`).
-//!
 //! ```text
 //! script(alloc, &mut reader, &mut writer, 16)?;       // ann: SELECT * FROM pay
 //!                                                     // denied @0: no table pay
 //! ```
 //!
-//! Texts are made in one buffer that a script makes when it starts, with room for every text but rows, lists
-//! of checkpoints and an export's records. So a fault, a lack and what was done are told whatever memory
-//! there is; rows and lists are made in new memory and may be lost, and an export may be cut.
+//! What is written of a reply is said in [`reply_core`]. Its texts are made in one buffer, which a script
+//! makes when it starts.
 //!
 //! Without want of memory the output is one (a law of [`laws`]).
 //!
@@ -24,9 +21,7 @@
 #![tactic(auto)]
 
 pub mod laws;
-mod replies;
 mod scripts;
 
 pub use lines_core::SessionFault;
-pub use replies::wording::reply_text;
 pub use scripts::server::script;

@@ -1,25 +1,16 @@
 //! What is said of a line, and what is written for it.
 ghost use Rattle.std.specs.Prelude.{◌≡◌, false, true, OnOk, OnErr, MatchResult};
 ghost use Rattle.base_core.specs.Streams.{Writes, WritesFrontOf};
-ghost use Rattle.script_core.specs.Texts.{is_list};
-ghost use Rattle.script_core.specs.Script.{TellsReply, TellsRecords, is_refused};
+ghost use Rattle.script_core.specs.Script.{is_refused};
 ghost use Rattle.script_core.specs.Saying.{ComesTo, TellsSaid, Advanced, TellsAdvanced, TellsBoth};
 
-use crate::replies::buffer::ReplyBuffer;
-use crate::replies::wording::{is_list, push_fault, push_reply, reply_text};
 use crate::scripts::address::addressed;
-use base_core::{Broken, NoMemory, Sink, write_all};
-use export_core::ExportFault;
+use base_core::{Broken, Sink};
 use lexer_core::{Code, ReadFault};
 use reader_core::read;
+use reply_core::{ReplyBuffer, write_fault, write_reply, write_unread};
 use std::alloc::Global;
 use system_core::{Event, Reply, System};
-
-const UNREAD: &[u8] = b"refused: no memory\n";
-
-const LOST: &[u8] = b"reply lost: no memory\n";
-
-const CUT: &[u8] = b"export cut: no memory\n";
 
 /// What is said of a line.
 #[derive(Drop)]
@@ -75,104 +66,6 @@ pub fn advance(system: &mut System) -> Option<Reply>
     None
 }
 
-/// Writes the records of an export, as far as there is memory, and of any other reply nothing.
-fn write_records<W: Sink>(reply: Reply, writer: &mut W) -> Result<(), Broken>
-    requires { W.failed writer.old ≡ false }
-    ensures failed { MatchResult result (λ _. W.failed writer.new ≡ false)
-        (λ _. W.failed writer.new ≡ true) }
-    ensures ok { OnOk result
-        (Writes (TellsRecords reply) (W.taken writer.old) (W.taken writer.new)) }
-    ensures err { OnErr result
-        (WritesFrontOf (TellsRecords reply) (W.taken writer.old) (W.taken writer.new)) }
-{
-    let Reply::Export(mut ticket) = reply else {
-        return Ok(());
-    };
-    match ticket.write_to(writer) {
-        Ok(()) => Ok(()),
-        Err(ExportFault::NoMemory) => write_all(writer, CUT),
-        Err(ExportFault::Write) => Err(Broken),
-    }
-}
-
-/// Writes a list, whose text is made in new memory, or that it is lost.
-fn write_list<W: Sink>(alloc: Global, reply: &Reply, writer: &mut W) -> Result<(), Broken>
-    requires sink { W.failed writer.old ≡ false }
-    requires list { is_list reply.now ≡ true }
-    ensures failed { MatchResult result (λ _. W.failed writer.new ≡ false)
-        (λ _. W.failed writer.new ≡ true) }
-    ensures ok { OnOk result
-        (Writes (TellsReply reply.now) (W.taken writer.old) (W.taken writer.new)) }
-    ensures err { OnErr result
-        (WritesFrontOf (TellsReply reply.now) (W.taken writer.old) (W.taken writer.new)) }
-{
-    match reply_text(alloc, reply) {
-        Ok(text) => write_all(writer, &text),
-        Err(NoMemory) => write_all(writer, LOST),
-    }
-}
-
-/// Writes the text of a reply that is no list, and its records.
-fn write_brief<W: Sink>(
-    buffer: &mut ReplyBuffer,
-    reply: Reply,
-    writer: &mut W,
-) -> Result<(), Broken>
-    requires sink { W.failed writer.old ≡ false }
-    requires brief { is_list reply ≡ false }
-    ensures failed { MatchResult result (λ _. W.failed writer.new ≡ false)
-        (λ _. W.failed writer.new ≡ true) }
-    ensures ok { OnOk result (Writes (TellsReply reply) (W.taken writer.old) (W.taken writer.new)) }
-    ensures err { OnErr result
-        (WritesFrontOf (TellsReply reply) (W.taken writer.old) (W.taken writer.new)) }
-{
-    buffer.clear();
-    push_reply(buffer, &reply);
-    write_all(writer, buffer.as_slice())?;
-    write_records(reply, writer)
-}
-
-/// Writes the text of a reply and its records, or, of a list, that it is lost for want of memory.
-fn write_reply<W: Sink>(
-    alloc: Global,
-    buffer: &mut ReplyBuffer,
-    reply: Reply,
-    writer: &mut W,
-) -> Result<(), Broken>
-    requires { W.failed writer.old ≡ false }
-    ensures failed { MatchResult result (λ _. W.failed writer.new ≡ false)
-        (λ _. W.failed writer.new ≡ true) }
-    ensures ok { OnOk result (Writes (TellsReply reply) (W.taken writer.old) (W.taken writer.new)) }
-    ensures err { OnErr result
-        (WritesFrontOf (TellsReply reply) (W.taken writer.old) (W.taken writer.new)) }
-{
-    if is_list(&reply) {
-        return write_list(alloc, &reply, writer);
-    }
-    write_brief(buffer, reply, writer)
-}
-
-/// Writes the text of a fault.
-fn write_fault<W: Sink>(
-    buffer: &mut ReplyBuffer,
-    code: Code,
-    offset: usize,
-    writer: &mut W,
-) -> Result<(), Broken>
-    requires { W.failed writer.old ≡ false }
-    ensures failed { MatchResult result (λ _. W.failed writer.new ≡ false)
-        (λ _. W.failed writer.new ≡ true) }
-    ensures ok { OnOk result
-        (Writes (TellsSaid (Said.Fault code offset)) (W.taken writer.old) (W.taken writer.new)) }
-    ensures err { OnErr result
-        (WritesFrontOf (TellsSaid (Said.Fault code offset))
-        (W.taken writer.old) (W.taken writer.new)) }
-{
-    buffer.clear();
-    push_fault(buffer, code, offset);
-    write_all(writer, buffer.as_slice())
-}
-
 fn write_said<W: Sink>(
     alloc: Global,
     buffer: &mut ReplyBuffer,
@@ -188,7 +81,7 @@ fn write_said<W: Sink>(
 {
     match said {
         Said::Fault { code, offset } => write_fault(buffer, code, offset, writer),
-        Said::Unread => write_all(writer, UNREAD),
+        Said::Unread => write_unread(writer),
         Said::Answer(reply) => write_reply(alloc, buffer, reply, writer),
     }
 }

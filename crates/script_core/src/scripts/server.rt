@@ -3,10 +3,10 @@ ghost use Rattle.std.specs.Prelude.{◌≡◌, ◌<◌, ◌≤◌, ◌↔◌, fa
 ghost use Rattle.base_core.specs.Streams.{Writes, WritesFrontOf};
 ghost use Rattle.script_core.specs.Script.{Answers, EndsScript};
 
-use crate::replies::buffer::ReplyBuffer;
 use crate::scripts::answer::{advance, hear, write_both};
 use base_core::{Broken, Limits, Sink, Source};
 use lines_core::{LineServer, SessionFault, serve};
+use reply_core::ReplyBuffer;
 use std::alloc::Global;
 use std::marker::Model;
 use system_core::System;

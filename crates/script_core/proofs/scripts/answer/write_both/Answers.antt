@@ -1,7 +1,7 @@
 use Rattle.std.proofs.lemmas.Result.{on_ok_weaker, on_err_weaker}
 use Rattle.script_core.specs.Saying.{TellsSaid, TellsAdvanced}
-use Rattle.lines_core.proofs.FeedLemmas.{OnErr-from}
-use Rattle.script_core.proofs.Answering.{both-written, both-broken, first-broken, tells-some}
+use Rattle.reply_core.proofs.WritingLemmas.{OnErr-from, both-written, both-broken, first-broken}
+use Rattle.script_core.proofs.Answering.{tells-some}
 use Rattle.script_core.proofs.scripts.answer.write_both.Goals as goal
 
 pub returns-in_err-write_said-clause-err : goal.returns-in_err-write_said-clause-err

@@ -1,7 +1,8 @@
 use Rattle.std.proofs.lemmas.Result.{on_ok_weaker, on_err_weaker}
 use Rattle.script_core.specs.Saying.{TellsBoth}
 use Rattle.script_core.specs.Script.{Answers}
-use Rattle.script_core.proofs.Answering.{Writes-map, WritesFrontOf-map, both-answer}
+use Rattle.reply_core.proofs.WritingLemmas.{Writes-map, WritesFrontOf-map}
+use Rattle.script_core.proofs.Answering.{both-answer}
 use Rattle.script_core.proofs.scripts.server.answer.Goals as goal
 
 pub returns-clause-ok : goal.returns-clause-ok

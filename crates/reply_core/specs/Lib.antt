@@ -1,0 +1,6 @@
+pub mod Texts
+pub mod Telling
+pub use Rattle.base_core.specs.Streams
+pub use Rattle.lexer_core.specs.Codes
+pub use Rattle.export_core.specs.Record
+pub use Rattle.export_core.specs.Ticket

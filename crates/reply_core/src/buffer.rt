@@ -1,0 +1,86 @@
+//! The room in which texts are made that are told whatever memory there is.
+ghost use Rattle.std.specs.Prelude.{◌≡◌, ◌≤◌, ◌+◌, ◌++◌, [], length, decimal, IfOk};
+ghost use Rattle.reply_core.specs.declared.buffer.TheConstants.{REPLY_BYTES};
+
+use base_core::Name;
+use itoa::Buffer;
+use std::alloc::{AllocError, Global};
+use std::marker::Model;
+
+/// The most bytes of a text but for rows, lists and the records of exports: those of a refusal that
+/// names two users, a column and a table of 30 bytes each, at a moment of 20 digits.
+pub const REPLY_BYTES: usize = 180;
+
+/// Room for a text. Contracts see its bytes.
+#[derive(Drop)]
+pub struct ReplyBuffer {
+    bytes: Vec<u8>,
+}
+
+impl Model for ReplyBuffer {
+    ghost use Rattle.std.specs.Prelude.{◌≤◌, List, ℕ, vec_capacity};
+    ghost use Rattle.reply_core.specs.declared.buffer.TheConstants.{REPLY_BYTES};
+
+    ghost Value = { List ℕ };
+
+    ghost view = { λ b. b.bytes.items };
+
+    ghost invariant = { λ b. REPLY_BYTES ≤ vec_capacity b.bytes };
+}
+
+impl ReplyBuffer {
+    /// No text, and the memory for each.
+    pub fn new(alloc: Global) -> Result<ReplyBuffer, AllocError>
+        ensures { IfOk result (λ text. text ≡ []) }
+    {
+        let bytes = Vec::with_capacity(alloc, REPLY_BYTES)?;
+        Ok(ReplyBuffer { bytes })
+    }
+
+    /// Takes the text away, and keeps the memory.
+    pub(crate) fn clear(&mut self)
+        ensures { self.new ≡ [] }
+    {
+        self.bytes.clear();
+    }
+
+    pub(crate) fn as_slice(&self) -> &[u8]
+        ensures { result.now ≡ self.now }
+    {
+        self.bytes.as_slice()
+    }
+
+    pub(crate) fn into_bytes(self) -> Vec<u8>
+        ensures { result.items ≡ self }
+    {
+        self.bytes
+    }
+
+    /// Appends the bytes, for which there has to be room. It takes no memory.
+    pub(crate) fn push(&mut self, part: &[u8])
+        requires { length self.old + length part.now ≤ REPLY_BYTES }
+        ensures text { self.new ≡ self.old ++ part.now }
+        ensures length { length self.new ≡ length self.old + length part.now }
+    {
+        self.bytes.extend_from_slice(part).unwrap();
+    }
+
+    /// Appends a name, of at most 30 bytes.
+    pub(crate) fn push_name(&mut self, name: &Name)
+        requires { length self.old + 30 ≤ REPLY_BYTES }
+        ensures text { self.new ≡ self.old ++ name.now }
+        ensures short { length self.new ≤ length self.old + 30 }
+    {
+        self.push(name.as_bytes());
+    }
+
+    /// Appends a number in plain decimal, of at most 20 digits.
+    pub(crate) fn push_number(&mut self, number: u64)
+        requires { length self.old + 20 ≤ REPLY_BYTES }
+        ensures text { self.new ≡ self.old ++ decimal number }
+        ensures short { length self.new ≤ length self.old + 20 }
+    {
+        let mut digits = Buffer::new();
+        self.push(digits.format(number).as_bytes());
+    }
+}

@@ -1,0 +1,29 @@
+//! Replies as text: what is written of a reply, of a fault, and of a line that was not read.
+//!
+//! [`reply_text`] is the text of a reply of the core, byte for byte (`specs/Texts.antt`), in new memory:
+//! one line, or of rows and of a list of checkpoints a line with their number and a record for each.
+//! [`write_reply`] is the one contract. It gives a writer that text, and behind the text of an export its
+//! records; or, for want of memory, one line in place of what could not be made, and nothing else
+//! (`specs/Telling.antt`). [`write_fault`] writes the text of a fault, and [`write_unread`] the one of a
+//! line that was not read for want of memory. On an error a front was written, and the writer has failed.
+//!
+//! ```text
+//! let mut buffer = ReplyBuffer::new(alloc)?;
+//! write_reply(alloc, &mut buffer, reply, &mut writer)?;        // denied @0: no table pay
+//! write_fault(&mut buffer, Code::Empty, 0, &mut writer)?;      // error 1 at 0: empty
+//! ```
+//!
+//! Texts are made in a [`ReplyBuffer`], which is made once, with room for every text but rows, lists of
+//! checkpoints and an export's records. So a fault, a lack and what was done are told whatever memory there
+//! is; rows and lists are made in new memory and may be lost, and an export may be cut.
+//!
+//! A reply costs the bytes of its text, and those of an export's records.
+#![tactic(auto)]
+
+mod buffer;
+mod wording;
+mod writing;
+
+pub use buffer::ReplyBuffer;
+pub use wording::reply_text;
+pub use writing::{write_fault, write_reply, write_unread};

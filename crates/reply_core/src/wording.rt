@@ -1,0 +1,346 @@
+//! The texts of replies, lacks and faults.
+ghost use Rattle.std.specs.Prelude.{◌≡◌, ◌≤◌, ◌+◌, ◌++◌, ◌∷◌, [], false, codes, decimal, length, IfOk};
+ghost use Rattle.std.specs.List.{flat_map};
+ghost use Rattle.export_core.specs.Ticket.{header_line};
+ghost use Rattle.reply_core.specs.Texts.{joined, kind_text, type_text, what_text, about_atom, stamped, lack_text, refusal_text, checkpoint_line, reply_text, fault_text, is_list};
+ghost use Rattle.reply_core.specs.declared.buffer.TheConstants.{REPLY_BYTES};
+ghost use Rattle.reply_core.specs.declared.wording.TheConstants.{KIND_BYTES, ABOUT_ATOM_BYTES, NO_SELECT_BYTES, LACK_BYTES};
+
+use crate::buffer::ReplyBuffer;
+use base_core::{Atom, ColType, Kind, Lack, Moment, Name, NoMemory, Row, User, What};
+use export_core::{Ticket, write_record, write_rows};
+use lexer_core::Code;
+use std::alloc::Global;
+use system_core::{Checkpoint, Reply};
+
+/// The most bytes of a privilege: `UPDATE(`, a name and `)`.
+const KIND_BYTES: usize = 38;
+
+/// The most bytes of a user, a privilege and its table, without what is said of them.
+const ABOUT_ATOM_BYTES: usize = 102;
+
+/// The most bytes of a user, SELECT and a table, without what is said of them.
+const NO_SELECT_BYTES: usize = 71;
+
+/// The most bytes of what is missing: it names two users, a privilege and its table.
+const LACK_BYTES: usize = 148;
+
+fn type_text(ty: ColType) -> &'static [u8]
+    ensures text { result.now ≡ type_text ty }
+    ensures short { length result.now ≤ 7 }
+{
+    match ty {
+        ColType::Integer => b"INTEGER",
+        ColType::Text => b"TEXT",
+    }
+}
+
+fn what_text(what: What) -> &'static [u8]
+    ensures text { result.now ≡ what_text what }
+    ensures short { length result.now ≤ 11 }
+{
+    match what {
+        What::Changes => b"changes",
+        What::Tables => b"tables",
+        What::Grants => b"grants",
+        What::Checkpoints => b"checkpoints",
+    }
+}
+
+fn push_kind(text: &mut ReplyBuffer, kind: &Kind)
+    requires { length text.old + KIND_BYTES ≤ REPLY_BYTES }
+    ensures text { text.new ≡ text.old ++ kind_text kind.now }
+    ensures short { length text.new ≤ length text.old + KIND_BYTES }
+{
+    match kind {
+        Kind::Select => text.push(b"SELECT"),
+        Kind::Insert => text.push(b"INSERT"),
+        Kind::Delete => text.push(b"DELETE"),
+        Kind::Update(column) => push_name_in(text, b"UPDATE(", column, b")"),
+    }
+}
+
+/// A name between two texts.
+fn push_name_in(text: &mut ReplyBuffer, before: &[u8], name: &Name, behind: &[u8])
+    requires { length text.old + length before.now + 30 + length behind.now ≤ REPLY_BYTES }
+    ensures text { text.new ≡ text.old ++ joined (before.now ∷ name.now ∷ behind.now ∷ []) }
+    ensures short { length text.new ≤ length text.old + length before.now + 30 + length behind.now }
+{
+    text.push(before);
+    text.push_name(name);
+    text.push(behind);
+}
+
+/// A number between two texts.
+fn push_number_in(text: &mut ReplyBuffer, before: &[u8], number: u64, behind: &[u8])
+    requires { length text.old + length before.now + 20 + length behind.now ≤ REPLY_BYTES }
+    ensures text { text.new
+        ≡ text.old ++ joined (before.now ∷ decimal number ∷ behind.now ∷ []) }
+    ensures short { length text.new ≤ length text.old + length before.now + 20 + length behind.now }
+{
+    text.push(before);
+    text.push_number(number);
+    text.push(behind);
+}
+
+/// A user, what is said of him, a privilege, and its table.
+fn push_about_atom(text: &mut ReplyBuffer, user: &User, said: &[u8], atom: &Atom)
+    requires { length text.old + length said.now + ABOUT_ATOM_BYTES ≤ REPLY_BYTES }
+    ensures text { text.new ≡ text.old ++ about_atom user.now said.now atom.now }
+    ensures short { length text.new ≤ length text.old + length said.now + ABOUT_ATOM_BYTES }
+{
+    text.push_name(&user.0);
+    text.push(said);
+    push_kind(text, &atom.kind);
+    text.push(b" on ");
+    text.push_name(&atom.table);
+}
+
+/// A user, what is said of him, and the table that he may not select.
+fn push_no_select(text: &mut ReplyBuffer, user: &User, said: &[u8], table: &Name)
+    requires { length text.old + length said.now + NO_SELECT_BYTES ≤ REPLY_BYTES }
+    ensures text { text.new ≡ text.old
+        ++ joined (user.now.0 ∷ said.now ∷ codes " SELECT on " ∷ table.now ∷ []) }
+    ensures short { length text.new ≤ length text.old + length said.now + NO_SELECT_BYTES }
+{
+    text.push_name(&user.0);
+    text.push(said);
+    text.push(b" SELECT on ");
+    text.push_name(table);
+}
+
+fn push_no_column(text: &mut ReplyBuffer, table: &Name, column: &Name)
+    requires { length text.old + LACK_BYTES ≤ REPLY_BYTES }
+    ensures text { text.new ≡ text.old ++ lack_text (Lack.NoColumn table.now column.now) }
+    ensures short { length text.new ≤ length text.old + LACK_BYTES }
+{
+    push_name_in(text, b"no column ", column, b" in ");
+    text.push_name(table);
+}
+
+fn push_no_grant(text: &mut ReplyBuffer, by: &User, to: &User, atom: &Atom)
+    requires { length text.old + LACK_BYTES ≤ REPLY_BYTES }
+    ensures text { text.new ≡ text.old ++ lack_text (Lack.NoGrant by.now to.now atom.now) }
+    ensures short { length text.new ≤ length text.old + LACK_BYTES }
+{
+    push_about_atom(text, by, b" granted no ", atom);
+    text.push(b" to ");
+    text.push_name(&to.0);
+}
+
+fn push_no_table_then(text: &mut ReplyBuffer, table: &Name, number: u64)
+    requires { length text.old + LACK_BYTES ≤ REPLY_BYTES }
+    ensures text { text.new ≡ text.old ++ lack_text (Lack.NoTableThen table.now number) }
+    ensures short { length text.new ≤ length text.old + LACK_BYTES }
+{
+    push_name_in(text, b"no table ", table, b" at checkpoint ");
+    text.push_number(number);
+}
+
+fn push_wrong_count(text: &mut ReplyBuffer, given: usize, wanted: usize)
+    requires { length text.old + LACK_BYTES ≤ REPLY_BYTES }
+    ensures text { text.new ≡ text.old ++ lack_text (Lack.WrongCount given wanted) }
+    ensures short { length text.new ≤ length text.old + LACK_BYTES }
+{
+    text.push_number(given as u64);
+    push_number_in(text, b" values for ", wanted as u64, b" columns");
+}
+
+fn push_wrong_type(text: &mut ReplyBuffer, column: &Name, wanted: ColType)
+    requires { length text.old + LACK_BYTES ≤ REPLY_BYTES }
+    ensures text { text.new ≡ text.old ++ lack_text (Lack.WrongType column.now wanted) }
+    ensures short { length text.new ≤ length text.old + LACK_BYTES }
+{
+    push_name_in(text, b"column ", column, b" takes ");
+    text.push(type_text(wanted));
+}
+
+fn push_full(text: &mut ReplyBuffer, what: What)
+    requires { length text.old + LACK_BYTES ≤ REPLY_BYTES }
+    ensures text { text.new ≡ text.old ++ lack_text (Lack.Full what) }
+    ensures short { length text.new ≤ length text.old + LACK_BYTES }
+{
+    text.push(b"full: ");
+    text.push(what_text(what));
+}
+
+/// Appends what is missing, without the moment.
+fn push_lack(text: &mut ReplyBuffer, lack: &Lack)
+    requires { length text.old + LACK_BYTES ≤ REPLY_BYTES }
+    ensures text { text.new ≡ text.old ++ lack_text lack.now }
+    ensures short { length text.new ≤ length text.old + LACK_BYTES }
+{
+    match lack {
+        Lack::NoTable(table) => push_name_in(text, b"no table ", table, b""),
+        Lack::TableExists(table) => push_name_in(text, b"table ", table, b" exists"),
+        Lack::NoColumn { table, column } => push_no_column(text, table, column),
+        Lack::NoPrivilege { user, atom } => push_about_atom(text, user, b" lacks ", atom),
+        Lack::NoGrantOption { user, atom } => push_about_atom(text, user, b" may not grant ", atom),
+        Lack::NoGrant { by, to, atom } => push_no_grant(text, by, to, atom),
+        Lack::NoCheckpoint(number) => push_number_in(text, b"no checkpoint ", *number, b""),
+        Lack::NoTableThen { table, number } => push_no_table_then(text, table, *number),
+        Lack::NoSelectThen { user, table } => push_no_select(text, user, b" lacked", table),
+        Lack::NoSelectNow { user, table } => push_no_select(text, user, b" now lacks", table),
+        Lack::WrongCount { given, wanted } => push_wrong_count(text, *given, *wanted),
+        Lack::WrongType { column, wanted } => push_wrong_type(text, column, *wanted),
+        Lack::Full(what) => push_full(text, *what),
+        Lack::Busy => text.push(b"busy"),
+        Lack::NoMemory => text.push(b"no memory"),
+        Lack::Worn => text.push(b"worn"),
+    }
+}
+
+/// A word, the moment, and what is missing.
+fn push_stamped(text: &mut ReplyBuffer, word: &[u8], at: Moment, lack: &Lack)
+    requires { length text.old + length word.now + LACK_BYTES + 23 ≤ REPLY_BYTES }
+    ensures { text.new ≡ text.old ++ stamped word.now at.0 lack.now }
+{
+    push_number_in(text, word, at.0, b": ");
+    push_lack(text, lack);
+    text.push(b"\n");
+}
+
+fn push_refusal(text: &mut ReplyBuffer, at: Moment, lack: &Lack)
+    requires { length text.old + 180 ≤ REPLY_BYTES }
+    ensures { text.new ≡ text.old ++ refusal_text at.0 lack.now }
+{
+    if let Lack::Worn = lack {
+        text.push(b"refused: worn\n");
+        return;
+    }
+    push_stamped(text, b"refused @", at, lack);
+}
+
+fn push_begun(text: &mut ReplyBuffer, number: u64, at: Moment)
+    requires { length text.old + 60 ≤ REPLY_BYTES }
+    ensures { text.new ≡ text.old ++ reply_text (Reply.Begun number at) }
+{
+    push_number_in(text, b"checkpoint ", number, b" begun @");
+    push_number_in(text, b"", at.0, b"\n");
+}
+
+fn push_header(text: &mut ReplyBuffer, ticket: &Ticket)
+    requires { length text.old + 77 ≤ REPLY_BYTES }
+    ensures { text.new ≡ text.old ++ header_line ticket.now }
+{
+    push_number_in(text, b"export ", ticket.number(), b" point ");
+    push_number_in(text, b"", ticket.point().0, b" @");
+    push_number_in(text, b"", ticket.at().0, b"\n");
+}
+
+/// Appends the text of a reply that is no list, which takes no memory: `done @m`;
+/// `checkpoint n begun @m` or `checkpoint n abandoned`; of an export the line before its records,
+/// `export n point p @m`; `denied @m:` or `refused @m:` and what is missing; nothing for the other
+/// replies of the checkpointer.
+pub fn push_reply(text: &mut ReplyBuffer, reply: &Reply)
+    requires start { text.old ≡ [] }
+    requires brief { is_list reply.now ≡ false }
+    ensures { text.new ≡ reply_text reply.now }
+{
+    match reply {
+        Reply::Done { at } => push_number_in(text, b"done @", at.0, b"\n"),
+        Reply::Begun { number, at } => push_begun(text, *number, *at),
+        Reply::Export(ticket) => push_header(text, ticket),
+        Reply::Denied { at, lack } => push_stamped(text, b"denied @", *at, lack),
+        Reply::Refused { at, lack } => push_refusal(text, *at, lack),
+        Reply::Abandoned { number } => {
+            push_number_in(text, b"checkpoint ", *number, b" abandoned\n")
+        }
+        Reply::Rows { .. } | Reply::Listed { .. } => {}
+        Reply::Idle | Reply::Stepped { .. } | Reply::Finished { .. } => {}
+    }
+}
+
+/// Appends the text of a fault at this byte of its line, with its line feed. It takes no memory.
+pub fn push_fault(text: &mut ReplyBuffer, code: Code, offset: usize)
+    requires { text.old ≡ [] }
+    ensures { text.new ≡ fault_text code offset }
+{
+    push_number_in(text, b"error ", code.number() as u64, b" at ");
+    push_number_in(text, b"", offset as u64, b": ");
+    text.push(code.text().as_bytes());
+    text.push(b"\n");
+}
+
+/// The first line of a list: a word, how many records come, and the moment.
+fn list_head(alloc: Global, word: &[u8], count: usize, at: Moment) -> Result<Vec<u8>, NoMemory>
+    requires { length word.now + 43 ≤ REPLY_BYTES }
+    ensures { IfOk result (λ text. text.items
+        ≡ word.now ++ decimal count ++ codes " @" ++ decimal at.0 ++ codes "\n") }
+{
+    let mut text = ReplyBuffer::new(alloc)?;
+    push_number_in(&mut text, word, count as u64, b" @");
+    push_number_in(&mut text, b"", at.0, b"\n");
+    Ok(text.into_bytes())
+}
+
+fn rows_text(alloc: Global, at: Moment, rows: &[Row]) -> Result<Vec<u8>, NoMemory>
+    ensures { IfOk result (λ text. text.items ≡ reply_text (Reply.Rows at rows.now)) }
+{
+    let head = list_head(alloc, b"rows ", rows.len(), at)?;
+    write_rows(head, rows)
+}
+
+fn write_checkpoint(text: Vec<u8>, checkpoint: &Checkpoint) -> Result<Vec<u8>, NoMemory>
+    ensures { IfOk result (λ longer. longer.items ≡ text.items ++ checkpoint_line checkpoint.now) }
+{
+    match checkpoint {
+        Checkpoint::Kept { number, point } => {
+            write_record(text, b"finished", &[*number, point.0])
+        }
+        Checkpoint::Active {
+            number,
+            point,
+            left,
+        } => write_record(text, b"active", &[*number, point.0, *left]),
+    }
+}
+
+fn write_checkpoints(mut text: Vec<u8>, entries: &[Checkpoint]) -> Result<Vec<u8>, NoMemory>
+    ensures { IfOk result
+        (λ longer. longer.items ≡ text.items ++ flat_map checkpoint_line entries.now) }
+{
+    for checkpoint in entries {
+        text = write_checkpoint(text, checkpoint)?;
+    }
+    Ok(text)
+}
+
+fn listed_text(alloc: Global, at: Moment, entries: &[Checkpoint]) -> Result<Vec<u8>, NoMemory>
+    ensures { IfOk result (λ text. text.items ≡ reply_text (Reply.Listed at entries.now)) }
+{
+    let head = list_head(alloc, b"checkpoints ", entries.len(), at)?;
+    write_checkpoints(head, entries)
+}
+
+fn brief_text(alloc: Global, reply: &Reply) -> Result<Vec<u8>, NoMemory>
+    requires { is_list reply.now ≡ false }
+    ensures { IfOk result (λ text. text.items ≡ reply_text reply.now) }
+{
+    let mut text = ReplyBuffer::new(alloc)?;
+    push_reply(&mut text, reply);
+    Ok(text.into_bytes())
+}
+
+/// The text of a reply, each line with its line feed, in new memory: of rows `rows N @m` and N
+/// records, of a list of checkpoints `checkpoints N @m` and N records, and else as [`push_reply`]
+/// appends it. `NoMemory` where a request for memory was refused.
+pub fn reply_text(alloc: Global, reply: &Reply) -> Result<Vec<u8>, NoMemory>
+    ensures { IfOk result (λ text. text.items ≡ reply_text reply.now) }
+{
+    match reply {
+        Reply::Rows { at, rows } => rows_text(alloc, *at, rows.as_slice()),
+        Reply::Listed { at, entries } => listed_text(alloc, *at, entries.as_slice()),
+        _ => brief_text(alloc, reply),
+    }
+}
+
+/// Whether a reply is a list, whose text takes memory: rows, or checkpoints.
+pub fn is_list(reply: &Reply) -> bool
+    ensures { result ≡ is_list reply.now }
+{
+    match reply {
+        Reply::Rows { .. } | Reply::Listed { .. } => true,
+        _ => false,
+    }
+}

@@ -1,5 +1,0 @@
-use Rattle.script_core.proofs.Pushing.{grown_by_three}
-use Rattle.script_core.proofs.replies.wording.push_no_grant.Goals as goal
-
-pub returns-clause-text : goal.returns-clause-text
-returns-clause-text c = grown_by_three _ _ _ _ _ _ _ c.push_about_atom.ensures.text c.push.ensures.text c.push_name.ensures.text
