@@ -2,9 +2,9 @@
 ghost use Rattle.std.specs.Prelude.{◌≡◌, ◌≤◌, ◌+◌, ◌++◌, [], length, decimal, IfOk};
 ghost use Rattle.reply_core.specs.declared.buffer.TheConstants.{REPLY_BYTES};
 
-use base_core::Name;
+use base_core::{Name, NoMemory};
 use itoa::Buffer;
-use std::alloc::{AllocError, Global};
+use std::alloc::Global;
 use std::marker::Model;
 
 /// The most bytes of a text but for rows, lists and the records of exports: those of a refusal that
@@ -29,8 +29,8 @@ impl Model for ReplyBuffer {
 }
 
 impl ReplyBuffer {
-    /// No text, and the memory for each.
-    pub fn new(alloc: Global) -> Result<ReplyBuffer, AllocError>
+    /// No text, and the memory for each but those of lists. `NoMemory` where the request was refused.
+    pub fn new(alloc: Global) -> Result<ReplyBuffer, NoMemory>
         ensures { IfOk result (λ text. text ≡ []) }
     {
         let bytes = Vec::with_capacity(alloc, REPLY_BYTES)?;
