@@ -24,10 +24,13 @@
 //!
 //! ```text
 //! let mut ticket = Ticket::issue(alloc, &image, ann, &rights, None, Moment(6))?;
-//! ticket.next_record()?;            // Some: table,t,v
-//! ticket.write_to(&mut writer)?;    // row,1 and what follows, up to the end
-//! ticket.next_record()?;            // None
+//! ticket.next_record()?;                     // Some: table,t,v
+//! ticket.write_to(&mut writer, &NoGate)?;    // row,1 and what follows, up to the end
+//! ticket.next_record()?;                     // None
 //! ```
+//!
+//! A [`Gate`] is called before each record that `write_to` gives, so that a test can hold an export up
+//! there. [`NoGate`] does nothing.
 //!
 //! # Records
 //!
@@ -48,6 +51,7 @@
 #![tactic(auto)]
 
 mod fault;
+mod gate;
 mod judgement;
 pub mod laws;
 mod lines;
@@ -56,6 +60,7 @@ mod rows;
 mod ticket;
 
 pub use fault::ExportFault;
+pub use gate::{Gate, NoGate};
 pub use record::{Field, write_record};
 pub use rows::write_rows;
 pub use ticket::Ticket;

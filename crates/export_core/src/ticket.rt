@@ -11,6 +11,7 @@ ghost use Rattle.export_core.specs.Export.{IsAllowed};
 ghost use Rattle.export_core.specs.Ticket.{issued, after_giving, finished, WritesRecords, Stops};
 
 use crate::fault::ExportFault;
+use crate::gate::{Gate, Passage};
 use crate::judgement::{Judgement, judgements};
 use crate::lines::{end_line, next_index, row_at, told_line};
 use crate::record::writer_after;
@@ -202,7 +203,11 @@ impl Ticket {
     }
 
     // Gives one record and writes it. False at the end.
-    fn write_next<W: Sink>(&mut self, writer: &mut W) -> Result<bool, ExportFault>
+    fn write_next<W: Sink, G: Gate>(
+        &mut self,
+        writer: &mut W,
+        passage: &mut Passage<G>,
+    ) -> Result<bool, ExportFault>
         requires { W.failed writer.old ≡ false }
         ensures write { IsErrOf result ExportFault.Write ↔ (W.failed writer.new ≡ true) }
         ensures more { IfOk result (λ more. more ≡ is_some (slice_get self.old.to_come 0)) }
@@ -217,6 +222,7 @@ impl Ticket {
         let Some(line) = next else {
             return Ok(false);
         };
+        passage.before_record();
         let Ok(()) = write_all(writer, line.as_slice()) else {
             return Err(ExportFault::Write);
         };
@@ -225,10 +231,11 @@ impl Ticket {
 
     // Gives the next record and writes it by this writer of records, if it is a row's. Else nothing
     // changes.
-    fn write_row<W: Sink>(
+    fn write_row<W: Sink, G: Gate>(
         &mut self,
         records: &mut Writer<Vec<u8>>,
         writer: &mut W,
+        passage: &mut Passage<G>,
     ) -> Result<bool, ExportFault>
         requires failed { W.failed writer.old ≡ false }
         requires between { IsBetween records.old }
@@ -250,6 +257,7 @@ impl Ticket {
             return Err(ExportFault::NoMemory);
         };
         self.pass();
+        passage.before_record();
         match write_all(writer, &records.get_ref()[start..]) {
             Ok(()) => Ok(true),
             Err(Broken) => Err(ExportFault::Write),
@@ -257,7 +265,11 @@ impl Ticket {
     }
 
     // Gives the rows that come next and writes them, so many as one writer of records takes.
-    fn write_rows<W: Sink>(&mut self, writer: &mut W) -> Result<(), ExportFault>
+    fn write_rows<W: Sink, G: Gate>(
+        &mut self,
+        writer: &mut W,
+        passage: &mut Passage<G>,
+    ) -> Result<(), ExportFault>
         requires { W.failed writer.old ≡ false }
         ensures write { IsErrOf result ExportFault.Write ↔ (W.failed writer.new ≡ true) }
         ensures ok { OnOk result ((n : ℕ)
@@ -267,20 +279,26 @@ impl Ticket {
     {
         let mut records = writer_after(Vec::new(*self.judgements.allocator()));
         for _ in 0..ROWS_OF_A_WRITER {
-            if !self.write_row(&mut records, writer)? {
+            if !self.write_row(&mut records, writer, passage)? {
                 return Ok(());
             }
         }
         Ok(())
     }
 
-    /// Gives all records to come and writes them.
+    /// Gives all records to come and writes them. Before each, the last line too, the gate is called with
+    /// how many this call has given so far. An answer to EXPORT is written by one call, from its first
+    /// record on.
     ///
     /// - `NoMemory` where a request for memory was refused: the records before it were given and
     ///   written, and the one that it was for comes next.
     /// - `Write` exactly where the writer failed: the records before it were given and written, and a
     ///   front of the one that it stopped at, which counts as given.
-    pub fn write_to<W: Sink>(&mut self, writer: &mut W) -> Result<(), ExportFault>
+    pub fn write_to<W: Sink, G: Gate>(
+        &mut self,
+        writer: &mut W,
+        gate: &G,
+    ) -> Result<(), ExportFault>
         requires { W.failed writer.old ≡ false }
         ensures write { IsErrOf result ExportFault.Write ↔ (W.failed writer.new ≡ true) }
         ensures ok { OnOk result (self.new ≡ finished self.old) }
@@ -289,8 +307,9 @@ impl Ticket {
         ensures err { IfErr result
             (λ fault. Stops fault self.old self.new (W.taken writer.old) (W.taken writer.new)) }
     {
-        while self.write_next(writer)? {
-            self.write_rows(writer)?;
+        let mut passage = Passage::new(gate);
+        while self.write_next(writer, &mut passage)? {
+            self.write_rows(writer, &mut passage)?;
         }
         Ok(())
     }

@@ -9,8 +9,8 @@
 //!
 //! ```text
 //! let mut buffer = ReplyBuffer::new(alloc)?;
-//! write_reply(alloc, &mut buffer, reply, &mut writer)?;        // denied @0: no table pay
-//! write_fault(&mut buffer, Code::Empty, 0, &mut writer)?;      // error 1 at 0: empty
+//! write_reply(alloc, &mut buffer, reply, &mut writer, &NoGate)?;   // denied @0: no table pay
+//! write_fault(&mut buffer, Code::Empty, 0, &mut writer)?;          // error 1 at 0: empty
 //! ```
 //!
 //! Texts are made in a [`ReplyBuffer`], which is made once, with room for every text but rows, lists of

@@ -8,7 +8,7 @@ ghost use Rattle.reply_core.specs.Telling.{TellsReply, TellsRecords};
 use crate::buffer::ReplyBuffer;
 use crate::wording::{is_list, push_fault, push_reply, reply_text};
 use base_core::{Broken, NoMemory, Sink, write_all};
-use export_core::ExportFault;
+use export_core::{ExportFault, Gate};
 use lexer_core::Code;
 use std::alloc::Global;
 use system_core::Reply;
@@ -20,7 +20,11 @@ const LOST: &[u8] = b"reply lost: no memory\n";
 const CUT: &[u8] = b"export cut: no memory\n";
 
 /// Writes the records of an export, as far as there is memory, and of any other reply nothing.
-fn write_records<W: Sink>(reply: Reply, writer: &mut W) -> Result<(), Broken>
+fn write_records<W: Sink, G: Gate>(
+    reply: Reply,
+    writer: &mut W,
+    gate: &G,
+) -> Result<(), Broken>
     requires { W.failed writer.old ≡ false }
     ensures failed { MatchResult result (λ _. W.failed writer.new ≡ false)
         (λ _. W.failed writer.new ≡ true) }
@@ -32,7 +36,7 @@ fn write_records<W: Sink>(reply: Reply, writer: &mut W) -> Result<(), Broken>
     let Reply::Export(mut ticket) = reply else {
         return Ok(());
     };
-    match ticket.write_to(writer) {
+    match ticket.write_to(writer, gate) {
         Ok(()) => Ok(()),
         Err(ExportFault::NoMemory) => write_all(writer, CUT),
         Err(ExportFault::Write) => Err(Broken),
@@ -57,10 +61,11 @@ fn write_list<W: Sink>(alloc: Global, reply: &Reply, writer: &mut W) -> Result<(
 }
 
 /// Writes the text of a reply that is no list, and its records.
-fn write_brief<W: Sink>(
+fn write_brief<W: Sink, G: Gate>(
     buffer: &mut ReplyBuffer,
     reply: Reply,
     writer: &mut W,
+    gate: &G,
 ) -> Result<(), Broken>
     requires sink { W.failed writer.old ≡ false }
     requires brief { is_list reply ≡ false }
@@ -73,20 +78,21 @@ fn write_brief<W: Sink>(
     buffer.clear();
     push_reply(buffer, &reply);
     write_all(writer, buffer.as_slice())?;
-    write_records(reply, writer)
+    write_records(reply, writer, gate)
 }
 
-/// Writes the text of a reply, and behind that of an export its records. The buffer may have any text;
-/// what it has then means nothing.
+/// Writes the text of a reply, and behind that of an export its records, before each of which the gate
+/// is called. The buffer may have any text; what it has then means nothing.
 ///
 /// Where there is no memory for the text of rows or of a list of checkpoints, `reply lost: no memory` is
 /// written in its place, and where there is none for an export's next record, `export cut: no memory`;
 /// other replies take none. `Broken` exactly where the writer has failed, and then a front was written.
-pub fn write_reply<W: Sink>(
+pub fn write_reply<W: Sink, G: Gate>(
     alloc: Global,
     buffer: &mut ReplyBuffer,
     reply: Reply,
     writer: &mut W,
+    gate: &G,
 ) -> Result<(), Broken>
     requires { W.failed writer.old ≡ false }
     ensures failed { MatchResult result (λ _. W.failed writer.new ≡ false)
@@ -98,7 +104,7 @@ pub fn write_reply<W: Sink>(
     if is_list(&reply) {
         return write_list(alloc, &reply, writer);
     }
-    write_brief(buffer, reply, writer)
+    write_brief(buffer, reply, writer, gate)
 }
 
 /// Writes the text of a fault at this byte of its line. The buffer may have any text; what it has then

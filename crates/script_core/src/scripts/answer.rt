@@ -6,6 +6,7 @@ ghost use Rattle.script_core.specs.Saying.{ComesTo, TellsSaid, Advanced, TellsAd
 
 use crate::scripts::address::addressed;
 use base_core::{Broken, Sink};
+use export_core::NoGate;
 use lexer_core::{Code, ReadFault};
 use reader_core::read;
 use reply_core::{ReplyBuffer, write_fault, write_reply, write_unread};
@@ -82,7 +83,7 @@ fn write_said<W: Sink>(
     match said {
         Said::Fault { code, offset } => write_fault(buffer, code, offset, writer),
         Said::Unread => write_unread(writer),
-        Said::Answer(reply) => write_reply(alloc, buffer, reply, writer),
+        Said::Answer(reply) => write_reply(alloc, buffer, reply, writer, &NoGate),
     }
 }
 
@@ -101,7 +102,7 @@ fn write_advanced<W: Sink>(
         (WritesFrontOf (TellsAdvanced advanced) (W.taken writer.old) (W.taken writer.new)) }
 {
     match advanced {
-        Some(reply) => write_reply(alloc, buffer, reply, writer),
+        Some(reply) => write_reply(alloc, buffer, reply, writer, &NoGate),
         None => Ok(()),
     }
 }

@@ -1,0 +1,40 @@
+//! Where exports and captures can be held up from outside.
+
+/// What is called before each record of an export and after each step of a capture. It holds up who called
+/// it until it returns, and has no part in what is written or captured, so no contract speaks of it.
+pub trait Gate {
+    /// Before each record that an export gives, of which `given` were given so far.
+    fn before_record(&self, given: u64);
+
+    /// After each step of a capture that left `left` of its records, at least one, before the next turn.
+    fn before_step(&self, left: u64);
+}
+
+/// A gate that holds nothing up.
+#[derive(Clone, Copy)]
+pub struct NoGate;
+
+impl Gate for NoGate {
+    fn before_record(&self, _given: u64) {}
+
+    fn before_step(&self, _left: u64) {}
+}
+
+/// A gate, and how many records it has let through, up to the greatest number.
+#[derive(Drop)]
+pub(crate) struct Passage<'a, G: Gate> {
+    gate: &'a G,
+    given: u64,
+}
+
+impl<'a, G: Gate> Passage<'a, G> {
+    pub(crate) fn new(gate: &'a G) -> Passage<'a, G> {
+        Passage { gate, given: 0 }
+    }
+
+    /// Lets the next record through.
+    pub(crate) fn before_record(&mut self) {
+        self.gate.before_record(self.given);
+        self.given = self.given.saturating_add(1);
+    }
+}
