@@ -1,7 +1,7 @@
 //! An export whose writer fails.
 use crate::calls::replies;
 use crate::slow::Slow;
-use export_core::Ticket;
+use export_core::{NoGate, Ticket};
 use std::alloc::Global;
 use std::process::Abort;
 use system_core::{Reply, System};
@@ -29,8 +29,8 @@ fn cut(rt: &impl Abort, alloc: Global, good_writes: usize) -> (Vec<u8>, Vec<u8>)
     let mut ticket = export(rt, alloc);
     let mut first = Slow::new(alloc, good_writes);
     let mut second = Slow::new(alloc, 1000);
-    let _ = ticket.write_to(&mut first);
-    let _ = ticket.write_to(&mut second);
+    let _ = ticket.write_to(&mut first, &NoGate);
+    let _ = ticket.write_to(&mut second, &NoGate);
     (first.bytes, second.bytes)
 }
 
