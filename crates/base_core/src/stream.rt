@@ -69,10 +69,8 @@ impl<R: Read> StdSource<R> {
         ensures reader { result.reader ≡ reader }
         ensures failed { result.failed ≡ false }
     {
-        StdSource {
-            reader,
-            failed: false,
-        }
+        let failed = false;
+        StdSource { reader, failed }
     }
 }
 
@@ -106,10 +104,8 @@ impl<W: Write + Drop> StdSink<W> {
         ensures writer { result.writer ≡ writer }
         ensures failed { result.failed ≡ false }
     {
-        StdSink {
-            writer,
-            failed: false,
-        }
+        let failed = false;
+        StdSink { writer, failed }
     }
 
     /// The writer behind the buffer, and the bytes that wait in the buffer.
