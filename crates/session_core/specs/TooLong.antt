@@ -1,0 +1,49 @@
+-- Lines that are too long are answered alike.
+use Rattle.std.specs.Prelude.{◌≡◌, ℕ, ◌<◌, List, length, Err}
+use Rattle.std.proofs.Common.{arith, sym, ◌∙◌}
+use Rattle.std.proofs.lemmas.Bool.Decides.{nat_tests}
+use Rattle.base_core.specs.declared.name.User.{User}
+use Rattle.lexer_core.specs.declared.fault.Code.{Code}
+use Rattle.lexer_core.specs.declared.fault.Code.TheVariants as faults
+use Rattle.lexer_core.specs.declared.lexer.TheConstants.{MAX_LINE}
+use Rattle.lexer_core.specs.Lexing.{long_line, behind}
+use Rattle.reader_core.specs.Language.{IsReadFault, lexical, nothing, ungrammatical}
+use Rattle.turnstile.specs.Passes.{Lock, Held}
+use Rattle.system_core.specs.declared.machine.event.Entry.{Entry}
+use Rattle.session_core.specs.Greeting.{greeting}
+use Rattle.session_core.specs.Session.{Progress, AnswersUser, faulty, said, unread, AnswersSession, ended, greeted, dismissed, served}
+
+greeting-too_long : (line : List ℕ) → MAX_LINE < length line → greeting line ≡ Err (faults.TooLong, MAX_LINE)
+greeting-too_long line h = grind (arith, nat_tests)
+
+fault-too_long : (line other : List ℕ) (code : Code) (offset : ℕ)
+    → MAX_LINE < length line
+    → MAX_LINE < length other
+    → IsReadFault line code offset
+    → IsReadFault other code offset
+fault-too_long line other _ _ h k (lexical (long_line l)) = lexical (long_line k)
+fault-too_long line other _ _ h k (lexical (behind short lexed fails)) = absurd (omega (arith, h, short))
+fault-too_long line other _ _ h k (nothing are) = let s = are.short in absurd (omega (arith, h, s))
+fault-too_long line other _ _ h k (ungrammatical are fault) = let s = are.short in absurd (omega (arith, h, s))
+
+AnswersUser-too_long : (desk : Lock ℕ) (user : User) (old new : Held Entry ℕ) (line other text : List ℕ)
+    → MAX_LINE < length line
+    → MAX_LINE < length other
+    → AnswersUser desk user line old text new
+    → AnswersUser desk user other old text new
+AnswersUser-too_long desk user old _ line other _ h k (faulty {code} {offset} f) = faulty (fault-too_long line other code offset h k f)
+AnswersUser-too_long desk user old new line other text h k (said asked reply spelled same a tells) =
+    let s = spelled.says.short in absurd (omega (arith, h, s))
+AnswersUser-too_long desk user old _ line other _ h k (unread s) = absurd (omega (arith, h, s))
+
+pub AnswersSession-too_long : (desk : Lock ℕ) (old new : Progress) (line other text : List ℕ)
+    → MAX_LINE < length line
+    → MAX_LINE < length other
+    → AnswersSession desk old line text new
+    → AnswersSession desk old other text new
+AnswersSession-too_long desk old _ line other _ h k (ended o) = ended o
+AnswersSession-too_long desk old _ line other _ h k (greeted o n e) = let l = greeting-too_long line h in cc
+AnswersSession-too_long desk old _ line other _ h k (dismissed o n e) =
+    dismissed o n (greeting-too_long other k ∙ sym (greeting-too_long line h) ∙ e)
+AnswersSession-too_long desk old _ line other _ h k (served {text} {pass} user o u a) =
+    served user o u (AnswersUser-too_long desk user old.pass pass line other text h k a)

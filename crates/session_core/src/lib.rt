@@ -1,0 +1,43 @@
+//! Sessions: lines of one user, answered through a pass of a desk.
+//!
+//! [`serve_session`] is the one contract, and it is over bytes. The first line names the user; each
+//! later line is one statement, and is answered by what the desk makes of it in a turn of the pass:
+//! the text of the reply and, of an export, its records; or the text of the line's one fault. What
+//! was written is such answers, one after another; each turn begins where the one before left what
+//! the pass has seen; and the entries that the pass gains bear that user (`specs/Session.antt`).
+//! [`serve_line`] is one such line.
+//!
+//! [`checkpointer`] steps the active checkpoint through a pass of its own until it is told to stop.
+//! It makes no entry.
+//!
+//! ```text
+//! let (desk, mut passes) = Desk::build(alloc, 2, 16)?;
+//! serve_session(&rt, alloc, &desk, &mut pass, &mut reader, &mut writer, &NoGate)?;
+//! // USER ann                           welcome ann
+//! // CREATE TABLE pay (wage INTEGER)    done @1
+//! ```
+//!
+//! # Mechanism
+//!
+//! A line is read before the turn, and the reply is written after it: a turn is the core's one
+//! step, and neither reads, writes nor takes memory for a text. The records of an export are read
+//! from the image that its ticket shares, outside every turn, so that a client that reads slowly
+//! holds nobody up but itself. A [`Gate`](export_core::Gate) is called before each of them, and
+//! between the steps of a checkpoint, so that a test can hold them there.
+//!
+//! # Cost
+//!
+//! A line costs its bytes once, a turn, and the bytes of its answer. A session takes memory for a
+//! buffer of 65,536 bytes, a line, and a reply, before its first read; then for statements, and for
+//! the texts of rows and lists.
+#![tactic(auto)]
+
+mod checkpointing;
+mod greeting;
+mod line;
+mod session;
+
+pub use checkpointing::checkpointer;
+pub use line::serve_line;
+pub use lines_core::SessionFault;
+pub use session::serve_session;

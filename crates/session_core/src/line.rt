@@ -1,0 +1,54 @@
+//! One line of a user.
+ghost use Rattle.std.specs.Prelude.{◌≡◌, ◌≤◌, Some, true, false, OnOk, OnErr, MatchResult};
+ghost use Rattle.lexer_core.specs.declared.lexer.TheConstants.{MAX_LINE};
+ghost use Rattle.base_core.specs.Streams.{Writes, WritesFrontOf};
+ghost use Rattle.turnstile.specs.Passes.{IsSamePass};
+ghost use Rattle.session_core.specs.Session.{AnswersUser};
+
+use export_core::Gate;
+use base_core::{Broken, Sink, User};
+use desk_core::{Desk, Pass};
+use lexer_core::{Code, MAX_LINE, ReadFault};
+use reader_core::read;
+use reply_core::{ReplyBuffer, write_fault, write_reply, write_unread};
+use std::alloc::Global;
+use std::sync::Wait;
+
+/// One line of a user, answered through a pass of the desk: what it says is asked in a turn, and
+/// the reply is written after it, with the records of an export. `Broken` exactly where the writer
+/// failed: then a front of an answer was written.
+pub fn serve_line<R: Wait, W: Sink, G: Gate>(
+    rt: &R,
+    alloc: Global,
+    desk: &Desk,
+    pass: &mut Pass,
+    user: User,
+    line: &[u8],
+    buffer: &mut ReplyBuffer,
+    writer: &mut W,
+    gate: &G,
+) -> Result<(), Broken>
+    requires pass { pass.old.lock ≡ Some desk.now }
+    requires sink { W.failed writer.old ≡ false }
+    ensures same { IsSamePass pass.old pass.new }
+    ensures failed { MatchResult result (λ _. W.failed writer.new ≡ false)
+        (λ _. W.failed writer.new ≡ true) }
+    ensures ok { OnOk result
+        (Writes (λ text. AnswersUser desk.now user line.now pass.old text pass.new)
+        (W.taken writer.old) (W.taken writer.new)) }
+    ensures err { OnErr result
+        (WritesFrontOf (λ text. AnswersUser desk.now user line.now pass.old text pass.new)
+        (W.taken writer.old) (W.taken writer.new)) }
+{
+    if line.len() > MAX_LINE {
+        return write_fault(buffer, Code::TooLong, MAX_LINE, writer);
+    }
+    match read(alloc, line) {
+        Ok(statement) => {
+            let reply = desk.execute(rt, pass, user, statement);
+            write_reply(alloc, buffer, reply, writer, gate)
+        }
+        Err(ReadFault::At { code, offset }) => write_fault(buffer, code, offset, writer),
+        Err(ReadFault::NoMemory) => write_unread(writer),
+    }
+}

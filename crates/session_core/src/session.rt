@@ -1,0 +1,191 @@
+//! A session: a line that names a user, and then lines of his.
+ghost use Rattle.std.specs.Prelude.{◌≡◌, ◌↔◌, Some, None, true, false, OnOk, OnErr, MatchResult, IsErrOf};
+ghost use Rattle.std.specs.Io.KnownBytes.{Appends};
+ghost use Rattle.base_core.specs.Streams.{Writes, WritesFront, WritesFrontOf};
+ghost use Rattle.turnstile.specs.Passes.{IsSamePass};
+ghost use Rattle.session_core.specs.Session.{AnswersSession, progress, welcome_text, EndsSession};
+
+use export_core::Gate;
+use crate::greeting::greeting;
+use crate::line::serve_line;
+use base_core::{Broken, Sink, Source, User, write_all};
+use desk_core::{Desk, Pass};
+use lines_core::{LineServer, SessionFault, serve};
+use reply_core::{ReplyBuffer, write_fault};
+use std::alloc::Global;
+use std::sync::Wait;
+
+/// What answers the lines of a session.
+#[derive(Drop)]
+struct Session<'a, R, G> {
+    rt: &'a R,
+    alloc: Global,
+    desk: &'a Desk,
+    pass: &'a mut Pass,
+    gate: &'a G,
+    buffer: &'a mut ReplyBuffer,
+    user: Option<User>,
+    over: bool,
+    answered: u64,
+    ghost own: { pass.now.lock ≡ Some desk.now },
+}
+
+fn write_welcome<W: Sink>(writer: &mut W, user: &User) -> Result<(), Broken>
+    requires { W.failed writer.old ≡ false }
+    ensures failed { MatchResult result (λ _. W.failed writer.new ≡ false)
+        (λ _. W.failed writer.new ≡ true) }
+    ensures ok { OnOk result
+        (Appends (W.taken writer.old) (W.taken writer.new) (welcome_text user.now)) }
+    ensures err { OnErr result
+        (WritesFront (W.taken writer.old) (W.taken writer.new) (welcome_text user.now)) }
+{
+    write_all(writer, b"welcome ")?;
+    write_all(writer, user.0.as_bytes())?;
+    write_all(writer, b"\n")
+}
+
+impl<'a, R: Wait, G: Gate> Session<'a, R, G> {
+    /// Answers the first line. One that names no user ends the session.
+    fn greet<W: Sink>(&mut self, writer: &mut W, line: &[u8]) -> Result<(), Broken>
+        requires first { (self.old.over ≡ false) × (self.old.user ≡ None) }
+        requires sink { W.failed writer.old ≡ false }
+        ensures failed { MatchResult result (λ _. W.failed writer.new ≡ false)
+            (λ _. W.failed writer.new ≡ true) }
+        ensures holds { (self.new.pass.ghost_name ≡ self.old.pass.ghost_name)
+            × (self.new.desk ≡ self.old.desk) }
+        ensures ok { OnOk result (Writes
+            (λ text. AnswersSession self.old.desk.now
+            (progress self.old.user self.old.over self.old.answered self.old.pass.now) line.now text
+            (progress self.new.user self.new.over self.new.answered self.new.pass.now))
+            (W.taken writer.old) (W.taken writer.new)) }
+        ensures err { OnErr result (WritesFrontOf
+            (λ text. AnswersSession self.old.desk.now
+            (progress self.old.user self.old.over self.old.answered self.old.pass.now) line.now text
+            (progress self.new.user self.new.over self.new.answered self.new.pass.now))
+            (W.taken writer.old) (W.taken writer.new)) }
+    {
+        match greeting(line) {
+            Ok(user) => {
+                self.user = Some(user);
+                write_welcome(writer, &user)
+            }
+            Err((code, offset)) => {
+                self.over = true;
+                write_fault(self.buffer, code, offset, writer)
+            }
+        }
+    }
+
+    /// Answers a later line.
+    fn attend<W: Sink>(&mut self, writer: &mut W, user: User, line: &[u8]) -> Result<(), Broken>
+        requires later { (self.old.over ≡ false) × (self.old.user ≡ Some user) }
+        requires sink { W.failed writer.old ≡ false }
+        ensures failed { MatchResult result (λ _. W.failed writer.new ≡ false)
+            (λ _. W.failed writer.new ≡ true) }
+        ensures holds { (self.new.pass.ghost_name ≡ self.old.pass.ghost_name)
+            × (self.new.desk ≡ self.old.desk) }
+        ensures ok { OnOk result (Writes
+            (λ text. AnswersSession self.old.desk.now
+            (progress self.old.user self.old.over self.old.answered self.old.pass.now) line.now text
+            (progress self.new.user self.new.over self.new.answered self.new.pass.now))
+            (W.taken writer.old) (W.taken writer.new)) }
+        ensures err { OnErr result (WritesFrontOf
+            (λ text. AnswersSession self.old.desk.now
+            (progress self.old.user self.old.over self.old.answered self.old.pass.now) line.now text
+            (progress self.new.user self.new.over self.new.answered self.new.pass.now))
+            (W.taken writer.old) (W.taken writer.new)) }
+    {
+        self.answered = self.answered.saturating_add(1);
+        serve_line(
+            self.rt,
+            self.alloc,
+            self.desk,
+            self.pass,
+            user,
+            line,
+            self.buffer,
+            writer,
+            self.gate,
+        )
+    }
+}
+
+impl<'a, R: Wait, G: Gate> LineServer for Session<'a, R, G> {
+    ghost use Rattle.std.specs.Prelude.{◌≡◌};
+    ghost use Rattle.session_core.specs.Session.{progress, AnswersSession};
+    ghost use Rattle.session_core.specs.TooLong.{AnswersSession-too_long};
+
+    ghost answers = { λ old line text new.
+        AnswersSession old.desk.now (progress old.user old.over old.answered old.pass.now) line text
+        (progress new.user new.over new.answered new.pass.now)
+        × (new.pass.ghost_name ≡ old.pass.ghost_name)
+        × (new.desk ≡ old.desk) };
+
+    ghost over = { λ s. s.over };
+
+    fn is_over(&self) -> bool {
+        self.over
+    }
+
+    fn answer<W: Sink>(&mut self, writer: &mut W, line: &[u8]) -> Result<(), Broken> {
+        if self.over {
+            return Ok(());
+        }
+        match self.user {
+            Some(user) => self.attend(writer, user, line),
+            None => self.greet(writer, line),
+        }
+    }
+
+    ghost too_long = { λ old new line other text h k a.
+        (AnswersSession-too_long _ _ _ line other text h k a.0, a.1, a.2) };
+}
+
+/// A session through a pass of the desk: its first line names the user, and each later line is
+/// answered as his. It gives the number of lines that were answered after the first.
+///
+/// A first line that names no user is told its fault, and ends the session. What was answered to
+/// the lines read is handed on before more is read, and at the end. `Read` and `Write` are answered
+/// exactly where the reader or the writer has failed, `Bound` where 2^32 bytes were read and the
+/// end had not come, and `NoMemory` before the first read.
+pub fn serve_session<R: Wait, S: Source, W: Sink, G: Gate>(
+    rt: &R,
+    alloc: Global,
+    desk: &Desk,
+    pass: &mut Pass,
+    reader: &mut S,
+    writer: &mut W,
+    gate: &G,
+) -> Result<u64, SessionFault>
+    requires pass { pass.old.lock ≡ Some desk.now }
+    requires source { S.failed reader.old ≡ false }
+    requires sink { W.failed writer.old ≡ false }
+    ensures read { IsErrOf result SessionFault.Read ↔ (S.failed reader.new ≡ true) }
+    ensures write { IsErrOf result SessionFault.Write ↔ (W.failed writer.new ≡ true) }
+    ensures flushed { W.flushed writer.old ≡ true → W.failed writer.new ≡ false
+        → W.flushed writer.new ≡ true }
+    ensures same { IsSamePass pass.old pass.new }
+    ensures ends { EndsSession desk.now result pass.old pass.new
+        (S.left reader.old) (S.left reader.new) (W.taken writer.old) (W.taken writer.new) }
+{
+    let Ok(mut buffer) = ReplyBuffer::new(alloc) else {
+        return Err(SessionFault::NoMemory);
+    };
+    let mut session = Session {
+        rt,
+        alloc,
+        desk,
+        pass,
+        gate,
+        buffer: &mut buffer,
+        user: None,
+        over: false,
+        answered: 0,
+    };
+    let served = serve(alloc, &mut session, reader, writer);
+    let answered = session.answered;
+    match served {
+        Ok(()) => Ok(answered),
+        Err(fault) => Err(fault),
+    }
+}
