@@ -1,10 +1,11 @@
 //! `turns THREADS STATEMENTS` reads and carries out INSERTs, for whoever takes the time.
 //!
-//! With 1 to 64 threads they go through one desk, with a pass for each thread; with 0 they go to a core
-//! without a lock. All threads together carry out so many statements, each the same number of them. Nothing is
-//! written. The exit status is 0 where all were carried out, 1 where memory was refused or a statement was, and
-//! 2 for any other command line.
+//! With 1 to 64 threads they go through one desk, with a pass for each thread; with 0 they go to a
+//! core without a lock. All threads together carry out so many statements, each the same number of
+//! them. Nothing is written. The exit status is 0 where all were carried out, 1 where memory was
+//! refused or a statement was, and 2 for any other command line.
 #![tactic(auto)]
+
 ghost use Rattle.std.specs.Prelude.{◌≡◌, ◌<◌, ◌≤◌, All, Some, IfSome};
 ghost use Rattle.std.specs.Thread.{IsSync};
 

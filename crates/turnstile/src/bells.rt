@@ -18,15 +18,16 @@ const SET: u64 = 1;
 /// So often the next in line looks before it sleeps: about as long as a wake takes.
 const LOOKS: u32 = 200;
 
-/// A row of words, each of which says whether one may sleep at it. A ticket's bell goes by its number:
-/// tickets that are out at one time follow one another, and are no more than the passes, so that no two have
-/// the same bell.
+/// A row of words, each of which says whether one may sleep at it. A ticket's bell goes by its
+/// number: tickets that are out at one time follow one another, and are no more than the passes, so
+/// that no two have the same bell.
 ///
-/// No ring is missed, as all steps stand in one order. Whoever sleeps set its bell before it last read the
-/// served word, and whoever ends the turn before raised the served word before it reads the bell: so the one
-/// finds its turn served, or the other finds the bell set. One sleeps only while its bell is set, and whoever
-/// unsets it then wakes it. An end that comes late with this wakes a later ticket at the same bell, for no
-/// reason, and that sets its bell again. A bell that is left set costs a later end one wake of nobody.
+/// No ring is missed, as all steps stand in one order. Whoever sleeps set its bell before it last
+/// read the served word, and whoever ends the turn before raised the served word before it reads
+/// the bell: so the one finds its turn served, or the other finds the bell set. One sleeps only
+/// while its bell is set, and whoever unsets it then wakes it. An end that comes late with this
+/// wakes a later ticket at the same bell, for no reason, and that sets its bell again. A bell that
+/// is left set costs a later end one wake of nobody.
 #[derive(Drop)]
 pub(crate) struct Bells {
     table: Table<(), (), (), Unruled, Global>,
@@ -70,8 +71,8 @@ impl Bells {
     }
 }
 
-/// One who waits for its turn: how often it may look before it sleeps, and whether it has set its bell since
-/// it last slept.
+/// One who waits for its turn: how often it may look before it sleeps, and whether it has set its
+/// bell since it last slept.
 #[derive(Drop)]
 pub(crate) struct Waiter {
     ticket: u64,
@@ -88,9 +89,9 @@ impl Waiter {
         }
     }
 
-    /// What it does after it found `serving` in the served word. The next in line looks again, if it may.
-    /// Any other sets its bell, looks once more, and then sleeps until that is rung. It may also wake for no
-    /// reason.
+    /// What it does after it found `serving` in the served word. The next in line looks again, if
+    /// it may. Any other sets its bell, looks once more, and then sleeps until that is rung. It may
+    /// also wake for no reason.
     pub(crate) fn pause<R: Wait>(&mut self, rt: &R, bells: &Bells, serving: u64) {
         if self.looks > 0 && self.ticket.saturating_sub(serving) <= 1 {
             self.looks -= 1;
