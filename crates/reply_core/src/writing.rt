@@ -20,11 +20,7 @@ const LOST: &[u8] = b"reply lost: no memory\n";
 const CUT: &[u8] = b"export cut: no memory\n";
 
 /// Writes the records of an export, as far as there is memory, and of any other reply nothing.
-fn write_records<W: Sink, G: Gate>(
-    reply: Reply,
-    writer: &mut W,
-    gate: &G,
-) -> Result<(), Broken>
+fn write_records<W: Sink, G: Gate>(reply: Reply, writer: &mut W, gate: &G) -> Result<(), Broken>
     requires { W.failed writer.old ≡ false }
     ensures failed { MatchResult result (λ _. W.failed writer.new ≡ false)
         (λ _. W.failed writer.new ≡ true) }

@@ -2,9 +2,9 @@
 ghost use Rattle.std.specs.Prelude.{◌≡◌, Some};
 ghost use Rattle.session_core.specs.Gains.{Watches};
 
-use export_core::Gate;
 use base_core::Lack;
 use desk_core::{Desk, Pass};
+use export_core::Gate;
 use std::sync::Wait;
 use std::sync::atomic::{AtomicBool, Ordering};
 use std::thread;

@@ -5,9 +5,9 @@ ghost use Rattle.base_core.specs.Streams.{Writes, WritesFrontOf};
 ghost use Rattle.turnstile.specs.Passes.{IsSamePass};
 ghost use Rattle.session_core.specs.Session.{AnswersUser};
 
-use export_core::Gate;
 use base_core::{Broken, Sink, User};
 use desk_core::{Desk, Pass};
+use export_core::Gate;
 use lexer_core::{Code, MAX_LINE, ReadFault};
 use reader_core::read;
 use reply_core::{ReplyBuffer, write_fault, write_reply, write_unread};

@@ -5,11 +5,11 @@ ghost use Rattle.base_core.specs.Streams.{Writes, WritesFront, WritesFrontOf};
 ghost use Rattle.turnstile.specs.Passes.{IsSamePass};
 ghost use Rattle.session_core.specs.Session.{AnswersSession, progress, welcome_text, EndsSession};
 
-use export_core::Gate;
 use crate::greeting::greeting;
 use crate::line::serve_line;
 use base_core::{Broken, Sink, Source, User, write_all};
 use desk_core::{Desk, Pass};
+use export_core::Gate;
 use lines_core::{LineServer, SessionFault, serve};
 use reply_core::{ReplyBuffer, write_fault};
 use std::alloc::Global;
