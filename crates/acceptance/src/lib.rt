@@ -1,6 +1,6 @@
 //! Tests of what no clause says and no session of the built program shows: how often streams are called
-//! and where they fail, limits and events that no script has, and the calls that the program does not
-//! make. They stand in a crate above the libraries so that none of these is proved once more for its
+//! and where they fail, limits and events that no script has, the calls that the program does not make,
+//! and what happens at once. They stand in a crate above the libraries so that none of these is proved once more for its
 //! tests. There is nothing here but tests.
 #![tactic(auto)]
 
@@ -11,9 +11,15 @@ mod desk;
 #[cfg(test)]
 mod exports;
 #[cfg(test)]
+mod gates;
+#[cfg(test)]
 mod lines;
 #[cfg(test)]
+mod loopback;
+#[cfg(test)]
 mod printer;
+#[cfg(test)]
+mod sessions;
 #[cfg(test)]
 mod slow;
 #[cfg(test)]

@@ -1,9 +1,10 @@
-//! `sysr run` answers the lines of standard input on standard output.
+//! `sysr run` answers the lines of standard input on standard output, and `sysr serve` those of
+//! sessions over TCP.
 //!
-//! Each line is `user: statement`, and what was read is answered before more is read. The exit status is
-//! 0 where the input was read to its end, whatever the replies; 1 where the program itself could not
-//! go on, with the reason on standard error; 2 where the command line was refused; 3 where an audit
-//! failed. Help and the version go to standard output, with status 0.
+//! Each line of `run` is `user: statement`, and what was read is answered before more is read. The
+//! exit status is 0 where the input was read to its end, whatever the replies; 1 where the program
+//! itself could not go on, with the reason on standard error; 2 where the command line was refused;
+//! 3 where an audit failed. Help and the version go to standard output, with status 0.
 //!
 //! What is written for what was read is the contract of [`script`], and what the command line may
 //! say is that of [`options`]; this file joins the two with the streams of the process.
@@ -14,6 +15,7 @@ ghost use Rattle.std.specs.Process.{exit_status};
 
 mod command_line;
 mod ending;
+mod serving;
 #[cfg(test)]
 mod tests;
 
@@ -22,6 +24,7 @@ use command_line::{CommandLine, options};
 use ending::{NO_MEMORY, audit_end, fault_text};
 use lines_core::SessionFault;
 use script_core::script;
+use serving::serve;
 use std::io::BufWriter;
 use std::mem::forget;
 use std::process::ExitCode;
@@ -32,7 +35,7 @@ use system_core::System;
 const OUTPUT_BYTES: usize = 65536;
 
 /// Says why the program could not go on.
-fn give_up(rt: &HostRuntime, text: &str) -> ExitCode
+pub fn give_up(rt: &HostRuntime, text: &str) -> ExitCode
     ensures { exit_status result ≡ 1 }
 {
     let _ = eprintln!(rt; "{text}");
@@ -71,24 +74,25 @@ fn audit<W: Sink>(rt: &HostRuntime, system: &System, writer: &mut W) -> ExitCode
     }
 }
 
-fn run(rt: &HostRuntime, asked: CommandLine) -> ExitCode
-    requires some { 0 < asked.chunk }
-    requires small { asked.chunk ≤ 64 }
+/// Answers the lines of standard input.
+fn run(rt: &HostRuntime, chunk: usize, audited: bool) -> ExitCode
+    requires some { 0 < chunk }
+    requires small { chunk ≤ 64 }
 {
     let Ok(buffered) = BufWriter::with_capacity(rt.alloc(), OUTPUT_BYTES, rt.stdout()) else {
         return give_up(rt, NO_MEMORY);
     };
     let mut reader = StdSource::new(rt.stdin());
     let mut writer = StdSink::new(buffered);
-    match script(rt.alloc(), &mut reader, &mut writer, asked.chunk) {
+    match script(rt.alloc(), &mut reader, &mut writer, chunk) {
         Ok(system) => {
-            let status = if asked.audit {
+            let status = if audited {
                 audit(rt, &system, &mut writer)
             } else {
                 ExitCode::SUCCESS
             };
-            // The process ends here, and its memory goes back as a whole: to take the rows apart one by
-            // one first would cost a tenth of the run.
+            // The process ends here, and its memory goes back as a whole: to take the rows apart
+            // one by one first would cost a tenth of the run.
             forget(system);
             status
         }
@@ -109,7 +113,8 @@ fn main(rt: HostRuntime) -> ExitCode {
         Err(_) => return give_up(&rt, NO_MEMORY),
     };
     match options(rt.alloc(), words.as_slice()) {
-        Ok(asked) => run(&rt, asked),
+        Ok(CommandLine::Run { chunk, audit }) => run(&rt, chunk, audit),
+        Ok(CommandLine::Serve(asked)) => serve(&rt, &rt, asked),
         Err(error) => refuse(&rt, &error),
     }
 }

@@ -1,28 +1,36 @@
-use crate::command_line::options;
+use crate::command_line::{CommandLine, Serving, options};
 use crate::ending::audit_end;
 use clap::error::ErrorKind;
 use std::alloc::Global;
 use std::test::Fail;
 
 #[test]
-fn run_is_taken(rt: HostRuntime) -> Result<(), Fail> {
-    let chosen = options(rt.alloc(), &["sysr", "run"])?;
-    assert_eq!(rt; chosen.chunk, 16);
-    Ok(())
-}
-
-#[test]
-fn a_chunk_is_taken(rt: HostRuntime) -> Result<(), Fail> {
-    let chosen = options(rt.alloc(), &["sysr", "run", "--chunk", "64"])?;
-    assert_eq!(rt; chosen.chunk, 64);
-    assert!(rt; !chosen.audit);
-    Ok(())
-}
-
-#[test]
-fn an_audit_is_taken(rt: HostRuntime) -> Result<(), Fail> {
-    let chosen = options(rt.alloc(), &["sysr", "run", "--audit"])?;
-    assert!(rt; chosen.audit);
+fn numbers_are_taken(rt: HostRuntime) -> Result<(), Fail> {
+    let run = options(rt.alloc(), &["sysr", "run"])?;
+    let audited = options(rt.alloc(), &["sysr", "run", "--chunk", "64", "--audit"])?;
+    let words = "sysr serve --port 65535 --workers 16 --sessions 10000";
+    let words: Vec<&str> = words.split(' ').collect(rt.alloc())?;
+    let serve = options(rt.alloc(), words.as_slice())?;
+    let serving = Serving {
+        port: 65535,
+        workers: 16,
+        sessions: 10_000,
+        chunk: 16,
+    };
+    assert!(rt;
+        run == CommandLine::Run {
+            chunk: 16,
+            audit: false
+        }
+    );
+    assert!(rt;
+        audited
+            == CommandLine::Run {
+                chunk: 64,
+                audit: true
+            }
+    );
+    assert!(rt; serve == CommandLine::Serve(serving));
     Ok(())
 }
 
