@@ -1,0 +1,100 @@
+"""How fast `sysr serve` answers clients over loopback. See serve.sh."""
+import os
+import re
+import shutil
+import socket
+import subprocess
+import sys
+import tempfile
+import time
+
+RUNS = 3
+
+
+def free_port():
+    with socket.socket() as taken:
+        taken.bind(("127.0.0.1", 0))
+        return taken.getsockname()[1]
+
+
+def served(program, load, workers, clients, statements, pipelined, kind):
+    """Statements a second and percentiles in microseconds, of the best of some runs."""
+    best = None
+    for _ in range(RUNS):
+        port = free_port()
+        words = ["--port", str(port), "--workers", str(workers), "--sessions", str(clients)]
+        child = subprocess.Popen([program, "serve", *words], stdout=subprocess.PIPE)
+        child.stdout.readline()
+        words = [str(word) for word in (port, clients, statements, pipelined)]
+        done = subprocess.run([load, *words, kind], stdout=subprocess.PIPE, check=True)
+        child.communicate(timeout=60)
+        found = [float(number) for number in done.stdout.split()]
+        best = max(best, found) if best else found
+    return best
+
+
+def alone(program, statements):
+    """Statements a second of `sysr run` on INSERT lines, the best of some runs."""
+    with tempfile.NamedTemporaryFile() as given:
+        given.write(b"u: CREATE TABLE t0 (name TEXT, amount INTEGER)\n")
+        given.write(b"".join(b"u: INSERT INTO t0 VALUES ('row %d', %d)\n" % (n, n) for n in range(statements)))
+        given.flush()
+        best = 0.0
+        for _ in range(RUNS):
+            with open(given.name, "rb") as lines:
+                start = time.monotonic()
+                subprocess.run([program, "run"], stdin=lines, stdout=subprocess.DEVNULL, check=True)
+                best = max(best, statements / (time.monotonic() - start))
+    return best
+
+
+def redis(clients, pipelined):
+    """Requests a second of SET by redis-benchmark, the best of some runs, where Redis is installed."""
+    if not shutil.which("redis-server") or not shutil.which("redis-benchmark"):
+        return None
+    port = str(free_port())
+    server = subprocess.Popen(["redis-server", "--port", port, "--save", ""], stdout=subprocess.DEVNULL)
+    time.sleep(1)
+    words = ["-p", port, "-t", "set", "-c", str(clients), "-P", str(pipelined), "-n", "200000", "-q"]
+    found = []
+    for _ in range(RUNS):
+        done = subprocess.run(["redis-benchmark", *words], stdout=subprocess.PIPE, text=True)
+        found += [float(rate) for rate in re.findall(r"SET: ([\d.]+) requests", done.stdout)]
+    server.kill()
+    server.wait()
+    return max(found)
+
+
+def main(program, source):
+    compiler = shutil.which("cc")
+    if compiler is None:
+        print("no C compiler: nothing was measured")
+        return
+    processors = min(os.cpu_count() or 1, 16)
+    print(f"load at the start: {os.getloadavg()[0]:.1f} on {os.cpu_count()} processors")
+    print(f"sysr run alone: {alone(program, 200_000):,.0f} INSERT/s")
+    with tempfile.TemporaryDirectory() as folder:
+        load = os.path.join(folder, "load")
+        subprocess.run([compiler, "-O2", "-pthread", "-o", load, source], check=True)
+        for workers, clients, statements, pipelined, kind in (
+            (processors, 1, 40_000, 1, "INSERT"),
+            (processors, 4, 20_000, 1, "INSERT"),
+            (processors, 4, 20_000, 1, "SELECT"),
+            (processors, 1, 400_000, 1000, "INSERT"),
+            (processors, 4, 100_000, 1000, "INSERT"),
+            (16, 16, 10_000, 1, "INSERT"),
+            (16, 16, 25_000, 1000, "INSERT"),
+        ):
+            rate, half, most, last = served(program, load, workers, clients, statements, pipelined, kind)
+            told = f"{workers:2} workers, {clients:2} clients, {pipelined:4} at a time, {kind}: {rate:9,.0f}/s"
+            print(f"{told}  50 % in {half:.0f} us, 99 % in {most:.0f}, 99.9 % in {last:.0f}")
+    for clients, pipelined in ((4, 1), (4, 16), (16, 1)):
+        rate = redis(clients, pipelined)
+        if rate is None:
+            print("Redis is not installed")
+            break
+        print(f"Redis, SET, {clients:2} clients, {pipelined:2} at a time: {rate:9,.0f}/s")
+
+
+if __name__ == "__main__":
+    main(*sys.argv[1:])
