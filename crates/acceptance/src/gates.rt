@@ -75,7 +75,17 @@ fn say<R: Wait + Abort, G: Gate>(
     let line = line.as_bytes();
     let mut buffer = ReplyBuffer::new(alloc).expect(rt, "memory");
     let mut writer = Slow::new(alloc, 1000);
-    let _ = serve_line(rt, alloc, desk, pass, ann, line, &mut buffer, &mut writer, gate);
+    let _ = serve_line(
+        rt,
+        alloc,
+        desk,
+        pass,
+        ann,
+        line,
+        &mut buffer,
+        &mut writer,
+        gate,
+    );
     writer.bytes
 }
 
@@ -104,9 +114,30 @@ fn exports<R: Wait + Clock + Abort>(
 ) -> Vec<u8>
     requires { pass.lock ≡ Some desk.now }
 {
-    let _ = say(rt, alloc, desk, &mut pass, "CREATE TABLE t (x INTEGER)", &NoGate);
-    let _ = say(rt, alloc, desk, &mut pass, "INSERT INTO t VALUES (1)", &NoGate);
-    let _ = say(rt, alloc, desk, &mut pass, "INSERT INTO t VALUES (2)", &NoGate);
+    let _ = say(
+        rt,
+        alloc,
+        desk,
+        &mut pass,
+        "CREATE TABLE t (x INTEGER)",
+        &NoGate,
+    );
+    let _ = say(
+        rt,
+        alloc,
+        desk,
+        &mut pass,
+        "INSERT INTO t VALUES (1)",
+        &NoGate,
+    );
+    let _ = say(
+        rt,
+        alloc,
+        desk,
+        &mut pass,
+        "INSERT INTO t VALUES (2)",
+        &NoGate,
+    );
     let _ = say(rt, alloc, desk, &mut pass, "CHECKPOINT", &NoGate);
     wait(rt, alloc, desk, &mut pass);
     let export = say(rt, alloc, desk, &mut pass, "EXPORT 1", gate);
@@ -226,14 +257,25 @@ fn hold_up<R: Threads + Wait + Clock + Abort + Sync>(
     assert!(rt; in_time.load(Ordering::SeqCst));
     assert!(rt; said.as_slice() == answer.as_bytes());
     assert!(rt; export.as_slice().starts_with(head.as_bytes()));
-    assert!(rt; export.as_slice().ends_with(b"\ntable,t,x\nrow,1\nrow,2\nend 1\n"));
+    assert!(rt;
+        export
+            .as_slice()
+            .ends_with(b"\ntable,t,x\nrow,1\nrow,2\nend 1\n")
+    );
 }
 
 /// No turn is held while an export is written.
 #[test]
 fn an_export_is_held(rt: HostRuntime) {
     let insert = "INSERT INTO t VALUES (3)";
-    hold_up(&rt, rt.alloc(), true, insert, "done @4\n", "export 1 point 3 @3\n");
+    hold_up(
+        &rt,
+        rt.alloc(),
+        true,
+        insert,
+        "done @4\n",
+        "export 1 point 3 @3\n",
+    );
 }
 
 /// No turn is held between two steps of a checkpoint, whose rows are those of its point.

@@ -66,15 +66,39 @@ fn sessions_in_memory(rt: HostRuntime) {
     let (desk, mut passes) = Desk::build(rt.alloc(), 1, 16).expect(&rt, "memory");
     let mut pass = passes.pop().expect(&rt, "a pass");
     let table = "USER bob\nCREATE TABLE t (x INTEGER)\n";
-    said(&rt, rt.alloc(), &desk, &mut pass, table, "welcome bob\ndone @1\n", 1);
+    said(
+        &rt,
+        rt.alloc(),
+        &desk,
+        &mut pass,
+        table,
+        "welcome bob\ndone @1\n",
+        1,
+    );
     said(&rt, rt.alloc(), &desk, &mut pass, "", "", 0);
     said(&rt, rt.alloc(), &desk, &mut pass, "bob", REFUSED, 0);
-    said(&rt, rt.alloc(), &desk, &mut pass, "USER\tbob\nCHECKPOINTS\n", REFUSED, 0);
+    said(
+        &rt,
+        rt.alloc(),
+        &desk,
+        &mut pass,
+        "USER\tbob\nCHECKPOINTS\n",
+        REFUSED,
+        0,
+    );
     said(&rt, rt.alloc(), &desk, &mut pass, " USER bob", REFUSED, 0);
     said(&rt, rt.alloc(), &desk, &mut pass, "USER table", REFUSED, 0);
     said(&rt, rt.alloc(), &desk, &mut pass, "USER bob x", REFUSED, 0);
     let spaced = "user   Bob  \r\n?\n";
-    said(&rt, rt.alloc(), &desk, &mut pass, spaced, "welcome bob\nerror 3 at 0: bad byte\n", 1);
+    said(
+        &rt,
+        rt.alloc(),
+        &desk,
+        &mut pass,
+        spaced,
+        "welcome bob\nerror 3 at 0: bad byte\n",
+        1,
+    );
     let mut failing = StdSource::new(Failing);
     let (ended, written) = session(&rt, rt.alloc(), &desk, &mut pass, &mut failing);
     assert!(rt; written.is_empty());
