@@ -5,13 +5,14 @@ all of its steps take, and how many rows a second come of SELECT and EXPORT; of 
 SELECT, and of PostgreSQL those of COPY TO. A time is the best of three runs; rows a second are those of twenty
 statements, from the time with them less the time without.
 """
-import glob
 import os
 import shutil
 import subprocess
 import sys
 import tempfile
 import time
+
+from postgres import running
 
 SIZES = (1_000, 10_000, 100_000)
 REPEATED = 20
@@ -98,27 +99,16 @@ def sqlite(rows, out):
 
 
 def postgres(rows, out, work):
-    found = sorted(glob.glob("/usr/lib/postgresql/*/bin/pg_ctl"))
-    if not found:
-        print("  PostgreSQL: not installed")
-        return
-    folder = os.path.dirname(found[-1])
-    data = os.path.join(work, "data")
-    # PostgreSQL does not run as root.
-    user = ["runuser", "-u", "postgres", "--"] if os.geteuid() == 0 else []
-    quiet = {"stdout": subprocess.DEVNULL, "stderr": subprocess.DEVNULL, "check": True}
-    os.chmod(work, 0o777)
-    subprocess.run([*user, f"{folder}/initdb", "-A", "trust", "-D", data], **quiet)
-    options = f"-c listen_addresses='' -k {work}"
-    subprocess.run([*user, f"{folder}/pg_ctl", "-w", "-D", data, "-o", options, "start"], **quiet)
-    try:
+    with running(work) as server:
+        if server is None:
+            print("  PostgreSQL: not installed")
+            return
+        user, folder = server
         words = [*user, f"{folder}/psql", "-q", "-h", work, "postgres"]
         fill = f"INSERT INTO t SELECT 'row ' || lpad(n::text, 6, '0'), n FROM generate_series(0, {rows - 1}) n;\n"
         filled = "SET client_min_messages = warning;\nDROP TABLE IF EXISTS t;\nCREATE TABLE t (name TEXT, amount BIGINT);\n" + fill
         copied = rate(words, filled, "COPY t TO STDOUT (FORMAT csv);\n", rows, out)
         print(f"  PostgreSQL: COPY   {copied:>12,.0f} rows/s")
-    finally:
-        subprocess.run([*user, f"{folder}/pg_ctl", "-m", "immediate", "-D", data, "stop"], **quiet)
 
 
 def main():

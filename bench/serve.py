@@ -8,6 +8,8 @@ import sys
 import tempfile
 import time
 
+from postgres import running
+
 RUNS = 3
 
 
@@ -65,6 +67,23 @@ def redis(clients, pipelined):
     return max(found)
 
 
+def postgres(clients):
+    """INSERTs a second by pgbench into a server that waits for no disk, where PostgreSQL is installed."""
+    with tempfile.TemporaryDirectory() as work, running(work, "-c fsync=off -c synchronous_commit=off") as server:
+        if server is None:
+            return None
+        user, folder = server
+        reached = ["-h", work, "postgres"]
+        table = "CREATE TABLE t (name TEXT, amount BIGINT)"
+        subprocess.run([*user, f"{folder}/psql", "-q", "-c", table, *reached], check=True)
+        script = os.path.join(work, "insert.sql")
+        with open(script, "w") as file:
+            file.write("INSERT INTO t VALUES ('row 1', 1);\n")
+        words = ["-n", "-c", str(clients), "-j", str(clients), "-T", "3", "-f", script, *reached]
+        done = subprocess.run([*user, f"{folder}/pgbench", *words], capture_output=True, text=True, check=True)
+        return float(re.search(r"tps = ([\d.]+)", done.stdout)[1])
+
+
 def main(program, source):
     compiler = shutil.which("cc")
     if compiler is None:
@@ -94,6 +113,9 @@ def main(program, source):
             print("Redis is not installed")
             break
         print(f"Redis, SET, {clients:2} clients, {pipelined:2} at a time: {rate:9,.0f}/s")
+    rate = postgres(4)
+    told = "is not installed" if rate is None else f"INSERT,  4 clients,  1 at a time: {rate:9,.0f}/s"
+    print(f"PostgreSQL, {told}" if rate else f"PostgreSQL {told}")
 
 
 if __name__ == "__main__":
