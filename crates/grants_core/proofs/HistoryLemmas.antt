@@ -15,16 +15,19 @@ use Rattle.grants_core.specs.declared.grant.Grant.{Grant}
 use Rattle.grants_core.specs.declared.grant.Ownership.{Ownership}
 use Rattle.grants_core.specs.declared.grant.Change.{Change}
 use Rattle.grants_core.specs.declared.grant.Change.TheVariants as change
-use Rattle.grants_core.specs.Owners.{owns, with_owner, with_granted, was_granted}
+use Rattle.grants_core.specs.Owners.{owns, with_owner, with_granted}
 use Rattle.grants_core.specs.Valid.{valid, AreSupported}
 use Rattle.grants_core.specs.Content.{Content, may_grant, names, without, singles, after_create, after_grant, after_revoke}
 use Rattle.grants_core.specs.History.{made_by, made_by_all, grants_of, is_struck_by, owners_with, granted_from, granted, is_granted, is_struck_from, is_struck, owners_after, unstruck_after, in_force_after, content_after}
-use Rattle.grants_core.specs.Log.{AreMarked, unstruck, logged}
+use Rattle.grants_core.specs.Log.{unstruck, logged}
 use Rattle.grants_core.proofs.ValidLemmas.{valid-filter_valid, valid-append}
-use Rattle.grants_core.proofs.OwnersLemmas.{valid-owners, owns-with_owner, alike-with_owner, alike-with_granted, singles-all, AllByRecursion-append}
+use Rattle.grants_core.proofs.OwnersLemmas.{valid-owners, owns-with_owner, alike-with_granted, singles-all, AllByRecursion-append}
 use Rattle.grants_core.specs.declared.log.LoggedGrant.{LoggedGrant}
-use Rattle.grants_core.proofs.LogLemmas.{unstruck-added, same_content}
+use Rattle.grants_core.proofs.LogLemmas.{unstruck-added}
 use Rattle.grants_core.proofs.GrantLemmas.{All-implied, All-filtered, All-valid, singles-supported}
+
+pub same_content : (os ps : List Ownership) (gs hs : List Grant) (n m : ℕ) → os ≡ ps → gs ≡ hs → n ≡ m → ◌≡◌ {A = Content} (record { owners = os; in_force = gs; made = n }) (record { owners = ps; in_force = hs; made = m })
+same_content os ps gs hs n m e f g = cc
 
 pub made_by_all-more : (cs : List Change) (c : Change) → made_by_all (cs ++ c ∷ []) ≡ made_by_all cs + made_by c
 made_by_all-more [] c = omega arith
@@ -171,10 +174,6 @@ in_force-alike cs table owner alike =
     ap (λ k. valid k (unstruck_after (cs ++ c ∷ []))) (owners-more cs c)
     ∙ ap (valid (with_owner table owner o)) (unstruck-more cs c ∙ append-nil (filter (λ g. not (is_struck_by (1 + length cs) c g)) (unstruck_after cs)) ∙ none_struck (1 + length cs) c (unstruck_after cs) (λ g. refl))
     ∙ valid-owners o (with_owner table owner o) (unstruck_after cs) alike
-
--- **a creation of a table that has no mark leaves what is in force, where the tables of all grants have one**
-pub in_force-create : (cs : List Change) (table : Name) (owner : User) → was_granted (owners_after cs) table ≡ false → AreMarked (owners_after cs) (unstruck_after cs) → in_force_after (cs ++ change.Create table owner ∷ []) ≡ in_force_after cs
-in_force-create cs table owner fresh marked = in_force-alike cs table owner (alike-with_owner table owner (owners_after cs) (unstruck_after cs) fresh marked)
 
 pub none_of : (p : Grant → Bool) (gs : List Grant) → list_any p gs ≡ false → AllByRecursion (λ g. p g ≡ false) gs
 none_of p [] h = tt

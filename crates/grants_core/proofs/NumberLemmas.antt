@@ -98,12 +98,6 @@ IsNumbered-granted cs =
       below = λ k d within. let one = below k d within in omega arith;
     }
 
-pub IsNumbered-nil : (n : ℕ) → IsNumbered n []
-IsNumbered-nil n = record {
-  rising = λ i j d less within. absurd (omega arith);
-  below = λ k d within. absurd (omega arith);
-}
-
 pub IsNumbered-filter : (n : ℕ) (p : Grant → Bool) (grants : List Grant) → IsNumbered n grants → IsNumbered n (filter p grants)
 IsNumbered-filter n p grants h = record {
   rising = AllPairs-filter Rises p grants h.rising;

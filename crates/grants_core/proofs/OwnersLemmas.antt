@@ -2,7 +2,7 @@
 use Rattle.std.proofs.Common.{◌≡◌, ℕ, ◌+◌, ◌<◌, ◌≤◌, Bool, true, false, ◌||◌, ◌&&◌, cond, subst, List, [], ◌∷◌, ◌++◌, Option, Some, None, length, take, drop, get_or, set, refl, sym, ap, ◌∙◌, arith, ⊎_elim, suc, ltb, drop-cons}
 use Rattle.std.specs.List.{AllByRecursion, list_any, fold, find, position, position_or_len}
 use Rattle.std.specs.Option.{option_map}
-use Rattle.std.proofs.lemmas.Bool.{and_parts, or_cases, or_left, or_right, and_from, cases_Bool, both_ways, cases_lt, lt-ltb, cond-true, cond-false, false≢true, false_from_ne_true}
+use Rattle.std.proofs.lemmas.Bool.{and_parts, or_cases, or_left, or_right, and_from, cases_Bool, cases_lt, lt-ltb, cond-true, cond-false}
 use Rattle.std.proofs.lemmas.List.{take-append-drop, set_split, length-take, get_or-take, get_or_default}
 use Rattle.std.proofs.lemmas.List.Elements.{recursion_from_All}
 use Rattle.std.proofs.lemmas.List.Sums.{fails_before_first}
@@ -15,9 +15,8 @@ use Rattle.base_core.specs.Words.{same_name}
 use Rattle.base_core.specs.Users.{same_user}
 use Rattle.base_core.specs.Privileges.{same_atom}
 use Rattle.grants_core.specs.Owners.{owner_of, owns, was_granted, with_owner, marked, with_granted}
-use Rattle.grants_core.specs.Valid.{is_supported, supports, kept_with, valid, AreSupported}
+use Rattle.grants_core.specs.Valid.{is_supported, supports, kept_with, valid}
 use Rattle.grants_core.specs.Content.{gives, may_grant, to_each, singles}
-use Rattle.grants_core.specs.Log.{AreMarked}
 use Rattle.base_core.proofs.SameLemmas.{same_name-true}
 use Rattle.grants_core.specs.declared.grant.Grant.{Grant}
 use Rattle.grants_core.specs.declared.grant.Ownership.{Ownership}
@@ -99,35 +98,6 @@ unfolding owns
 owns-with_granted atoms os user atom =
     ap (λ (k : Option User). elim k as (λ _. Bool) [ Some o ↦ same_user o user | None ↦ false ]) (owner_of-marked atoms os atom.table)
 
--- a mark stays
-pub was_granted-with_granted : (atoms : List Atom) (os : List Ownership) (t : Name) → was_granted os t ≡ true → was_granted (with_granted atoms os) t ≡ true
-was_granted-with_granted atoms [] t h = h
-was_granted-with_granted atoms (o ∷ os) t h =
-    ⊎_elim
-    (λ (here : (o.granted && same_name o.table t) ≡ true).
-    let parts = and_parts o.granted (same_name o.table t) here in
-    let meant : Bool = list_any (λ a. same_name a.table o.table) atoms in
-    or_left ((o.granted || meant) && same_name o.table t) _ (and_from (o.granted || meant) (same_name o.table t) (or_left o.granted meant parts.0) parts.1))
-    (λ (there : was_granted os t ≡ true). or_right _ _ (was_granted-with_granted atoms os t there))
-    (or_cases _ _ h)
-
--- an owned table gets its mark
-pub was_granted-owned : (atoms : List Atom) (os : List Ownership) (user : User) (atom : Atom) → owns os user atom ≡ true → list_any (λ a. same_name a.table atom.table) atoms ≡ true → was_granted (with_granted atoms os) atom.table ≡ true
-unfolding owns
-was_granted-owned atoms [] user atom h meant = absurd (false≢true h)
-was_granted-owned atoms (o ∷ os) user atom h meant =
-    let own : Option User → Bool = λ (k : Option User). elim k as (λ _. Bool) [ Some p ↦ same_user p user | None ↦ false ] in
-    let more : Bool = list_any (λ a. same_name a.table o.table) atoms in
-    ⊎_elim
-    (λ (here : same_name o.table atom.table ≡ true).
-    let P : Name → Type 0 = λ n. list_any (λ a. same_name a.table n) atoms ≡ true in
-    let marks : more ≡ true = subst P (sym (same_name-true o.table atom.table here)) meant in
-    or_left ((o.granted || more) && same_name o.table atom.table) _ (and_from (o.granted || more) (same_name o.table atom.table) (or_right o.granted more marks) here))
-    (λ (there : same_name o.table atom.table ≡ false).
-    let rest : owner_of (o ∷ os) atom.table ≡ owner_of os atom.table = owner_of-cons o os atom.table ∙ cond-false _ _ _ there in
-    or_right ((o.granted || more) && same_name o.table atom.table) _ (was_granted-owned atoms os user atom (sym (ap own rest) ∙ h) meant))
-    (cases_Bool (same_name o.table atom.table))
-
 -- the same grants are valid under owners who own alike
 valid_alike : (o p : List Ownership) (kept grants : List Grant) → AllByRecursion (λ g. owns p g.grantor g.atom ≡ owns o g.grantor g.atom) grants → fold (kept_with p) kept grants ≡ fold (kept_with o) kept grants
 valid_alike o p kept [] h = refl
@@ -137,31 +107,9 @@ valid_alike o p kept (g ∷ gs) h =
 pub valid-owners : (o p : List Ownership) (grants : List Grant) → AllByRecursion (λ g. owns p g.grantor g.atom ≡ owns o g.grantor g.atom) grants → valid p grants ≡ valid o grants
 valid-owners o p grants h = valid_alike o p [] grants h
 
-pub AreSupported-owners : (o p : List Ownership) (all grants : List Grant) → AllByRecursion (λ g. owns p g.grantor g.atom ≡ owns o g.grantor g.atom) grants → AreSupported o all grants → AreSupported p all grants
-AreSupported-owners o p all [] h k = tt
-AreSupported-owners o p all (g ∷ gs) h k = (ap (λ b. b || list_any (λ e. supports e g) all) h.0 ∙ k.0, AreSupported-owners o p all gs h.1 k.1)
-
--- a new owner of a table without grants owns none of what was granted
-pub alike-with_owner : (table : Name) (owner : User) (os : List Ownership) (grants : List Grant) → was_granted os table ≡ false → AreMarked os grants → AllByRecursion (λ g. owns (with_owner table owner os) g.grantor g.atom ≡ owns os g.grantor g.atom) grants
-alike-with_owner table owner os [] fresh h = tt
-alike-with_owner table owner os (g ∷ gs) fresh h = (
-  owns-with_owner table owner os g.grantor g.atom (false_from_ne_true _ (λ same.
-      let P : Name → Type 0 = λ n. was_granted os n ≡ true in
-      both_ways _ fresh (subst P (sym (same_name-true table g.atom.table same)) h.0))),
-  alike-with_owner table owner os gs fresh h.1,
-)
-
 pub alike-with_granted : (atoms : List Atom) (os : List Ownership) (grants : List Grant) → AllByRecursion (λ g. owns (with_granted atoms os) g.grantor g.atom ≡ owns os g.grantor g.atom) grants
 alike-with_granted atoms os [] = tt
 alike-with_granted atoms os (g ∷ gs) = (owns-with_granted atoms os g.grantor g.atom, alike-with_granted atoms os gs)
-
-pub AreMarked-with_owner : (table : Name) (owner : User) (os : List Ownership) (grants : List Grant) → AreMarked os grants → AreMarked (with_owner table owner os) grants
-AreMarked-with_owner table owner os [] h = tt
-AreMarked-with_owner table owner os (g ∷ gs) h = (was_granted-with_owner table owner os g.atom.table ∙ h.0, AreMarked-with_owner table owner os gs h.1)
-
-pub AreMarked-with_granted : (atoms : List Atom) (os : List Ownership) (grants : List Grant) → AreMarked os grants → AreMarked (with_granted atoms os) grants
-AreMarked-with_granted atoms os [] h = tt
-AreMarked-with_granted atoms os (g ∷ gs) h = (was_granted-with_granted atoms os g.atom.table h.0, AreMarked-with_granted atoms os gs h.1)
 
 pub AllByRecursion-append : {A : Type 0} (P : A → Type 0) (xs ys : List A) → AllByRecursion P xs → AllByRecursion P ys → AllByRecursion P (xs ++ ys)
 AllByRecursion-append P [] ys h k = k

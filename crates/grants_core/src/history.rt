@@ -5,7 +5,8 @@ ghost use Rattle.grants_core.specs.Log.{unstruck, same_grant};
 ghost use Rattle.grants_core.specs.History.{owners_with, is_struck_by, grants_of, made_by, in_force_after};
 
 use crate::grant::{Change, Grant};
-use crate::log::{LoggedGrant, append, in_force, replay, strike};
+use crate::grants::keep_valid;
+use crate::log::{LoggedGrant, log_singles, strike, unstruck};
 use crate::owners::Owners;
 use base_core::{Moment, NoMemory};
 use std::alloc::Global;
@@ -36,7 +37,7 @@ fn apply(
             option,
         } => {
             let (atoms, whom) = (atoms.as_slice(), whom.as_slice());
-            append(alloc, made, by, atoms, whom, *option, moment)?;
+            log_singles(alloc, made, by, atoms, whom, *option, moment)?;
             owners.mark_granted(atoms);
         }
         Change::Revoke { by, atoms, whom } => {
@@ -58,8 +59,9 @@ fn in_force_after(alloc: Global, changes: &[Change]) -> Result<Vec<Grant>, NoMem
         moment += 1;
         apply(alloc, &mut owners, &mut made, Moment(moment), change)?;
     }
-    replay(&owners, &mut made);
-    in_force(alloc, &made)
+    let mut grants = unstruck(alloc, &made)?;
+    keep_valid(&owners, &mut grants);
+    Ok(grants)
 }
 
 // Whether two grants are the same.

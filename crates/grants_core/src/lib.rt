@@ -2,16 +2,17 @@
 //! revocation takes away (Griffiths and Wade 1976, Fagin 1978).
 //!
 //! A [`Grant`] is one privilege on one table, given by one user to another at one moment, with or
-//! without the option to grant it on. Every grant that was made is kept, repeated ones too. A grant
-//! is in force where its grantor could make it: he owns the table, or another grant in force gave
-//! him the privilege with the option at an earlier moment. So after a revocation exactly those
-//! grants are in force that would be if the revoked ones had never been made.
+//! without the option to grant it on. One that is made again is one more grant. A grant is in force
+//! where its grantor could make it: he owns the table, or another grant in force gave him the
+//! privilege with the option at an earlier moment. So after a revocation exactly those grants are
+//! in force that would be if the revoked ones had never been made.
 //!
 //! An [`Authority`] keeps this. Contracts see it as its `content`: the owners, the list of grants
 //! in force, and how many were ever made. Each of its changes says what it makes of that content,
-//! and each of its tests what it answers by it. [`Replay`] is the plain authority. [`audit`]
-//! compares a list of grants with what a list of [`Change`]s leaves in force, by definitions that
-//! know no authority; the [`laws`] say that the two tell the same, change by change.
+//! and each of its tests what it answers by it. [`Replay`] is the plain authority: it keeps the
+//! grants in force, and forgets those that fall. [`audit`] compares a list of grants with what a
+//! list of [`Change`]s leaves in force, by definitions that know no authority; the [`laws`] say that
+//! the two tell the same, change by change.
 //!
 //! ```text
 //! let mut rights = Replay::new(alloc);
@@ -22,20 +23,23 @@
 //! rights.holds(b, &select)                                // false: a could not have granted it
 //! ```
 //!
-//! How cost grows, with n the single grants ever made (struck ones are kept too) and t the tables:
+//! How cost grows, with n the grants in force and t the tables:
 //!
 //! - `holds`, `may_grant` and `has_made` go over n and t at most, `room` and `in_force` over n. No
 //!   index is kept.
 //! - `create` goes over t, and `grant` over t for each atom; it makes a grant for each atom and
 //!   user.
-//! - `revoke` compares each of n with the atoms and users that it names. Then it replays: each of n
-//!   looks for its owner among t and for its support among those before it. So it grows with the
-//!   square of n at worst, however few it strikes, and takes no memory.
-//! - `audit` does this once at the end, after going over n for each revocation.
+//! - `revoke` compares each of n with the atoms and users that it names. Then each that is left
+//!   looks for its owner among t and for its support among those kept before it. So it grows with
+//!   the square of n at worst, however few it takes out, and takes no memory. What fell before
+//!   costs nothing.
+//! - `audit` keeps every single grant that its changes make, and goes over these for each
+//!   revocation; at the end those that none named are replayed, as in `revoke`.
 #![tactic(auto)]
 
 mod authority;
 mod grant;
+mod grants;
 mod history;
 pub mod laws;
 mod log;

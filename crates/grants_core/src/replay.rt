@@ -1,39 +1,36 @@
-//! The plain authority: it keeps every grant that was made, and replays them at each revocation.
+//! The plain authority: it keeps the grants in force, and at each revocation replays those that are
+//! left.
 ghost use Rattle.std.specs.Prelude.{◌≡◌, []};
 
 use crate::authority::Authority;
 use crate::grant::Grant;
-use crate::log::{
-    LoggedGrant, any_gives, any_gives_option, any_made, append, count_of, in_force, replay, strike,
+use crate::grants::{
+    any_gives, any_gives_option, any_made, append, count_of, keep_valid, remove_named,
 };
 use crate::owners::Owners;
 use base_core::{Atom, Moment, Name, NoMemory, User};
 use std::alloc::Global;
 use std::marker::Model;
 
-/// Keeps every grant that was made, with whether it was struck, and replays them from the start at
-/// each revocation. Contracts see owners, grants in force, and how many were made.
+/// Keeps the grants in force, and at each revocation replays those that it does not name. Contracts
+/// see owners, grants in force, and how many were ever made.
 #[derive(Drop)]
 pub struct Replay {
     alloc: Global,
     owners: Owners,
-    made: Vec<LoggedGrant>,
+    in_force: Vec<Grant>,
+    made: u64,
 }
 
 impl Model for Replay {
-    ghost use Rattle.std.specs.Prelude.{length};
     ghost use Rattle.grants_core.specs.Content.{Content};
-    ghost use Rattle.grants_core.specs.Log.{in_force_of, IsReplayed};
+    ghost use Rattle.grants_core.specs.Numbers.{IsNumbered};
 
     ghost Value = { Content };
 
-    ghost view = { λ r. record {
-      owners = r.owners;
-      in_force = in_force_of r.made.items;
-      made = length r.made.items;
-    } };
+    ghost view = { λ r. record { owners = r.owners; in_force = r.in_force.items; made = r.made } };
 
-    ghost invariant = { λ r. IsReplayed r.owners r.made.items };
+    ghost invariant = { λ r. IsNumbered r.made r.in_force.items };
 }
 
 impl Replay {
@@ -44,7 +41,8 @@ impl Replay {
         Replay {
             alloc,
             owners: Owners::new(alloc),
-            made: Vec::new(alloc),
+            in_force: Vec::new(alloc),
+            made: 0,
         }
     }
 }
@@ -65,38 +63,41 @@ impl Authority for Replay {
         option: bool,
         at: Moment,
     ) -> Result<(), NoMemory> {
-        append(self.alloc, &mut self.made, &by, atoms, whom, option, at)?;
+        let grants = &mut self.in_force;
+        append(self.alloc, grants, self.made, &by, atoms, whom, option, at)?;
+        self.made += (atoms.len() * whom.len()) as u64;
         self.owners.mark_granted(atoms);
         Ok(())
     }
 
     fn revoke(&mut self, by: User, atoms: &[Atom], whom: &[User]) {
-        let made = self.made.as_mut_slice();
-        strike(made, &by, atoms, whom);
-        replay(&self.owners, made);
+        remove_named(&mut self.in_force, &by, atoms, whom);
+        keep_valid(&self.owners, &mut self.in_force);
     }
 
     fn holds(&self, user: User, atom: &Atom) -> bool {
-        self.owners.owns(&user, atom) || any_gives(&self.made, &user, atom)
+        self.owners.owns(&user, atom) || any_gives(&self.in_force, &user, atom)
     }
 
     fn may_grant(&self, user: User, atom: &Atom) -> bool {
-        self.owners.owns(&user, atom) || any_gives_option(&self.made, &user, atom)
+        self.owners.owns(&user, atom) || any_gives_option(&self.in_force, &user, atom)
     }
 
     fn has_made(&self, by: User, user: User, atom: &Atom) -> bool {
-        any_made(&self.made, &by, &user, atom)
+        any_made(&self.in_force, &by, &user, atom)
     }
 
     fn room(&self, atom: &Atom, more: u64, limit: u64) -> bool {
-        more <= limit && count_of(&self.made, atom) as u64 <= limit - more
+        more <= limit && count_of(&self.in_force, atom) as u64 <= limit - more
     }
 
     fn in_force(&self) -> Result<Vec<Grant>, NoMemory> {
-        in_force(self.alloc, &self.made)
+        let mut grants = Vec::new(self.alloc);
+        grants.extend_from_slice(&self.in_force)?;
+        Ok(grants)
     }
 
     fn made(&self) -> u64 {
-        self.made.len() as u64
+        self.made
     }
 }

@@ -13,13 +13,13 @@ returns-in-Other-clause-unstruck c = rw c.in-Other.is (kept-idle _)
 
 pub returns-in-Revoke-clause-unstruck : goal.returns-in-Revoke-clause-unstruck
 returns-in-Revoke-clause-unstruck c =
-    rw c.in-Revoke.is (ap unstruck (with_items_is c.args.made.now c.strike.new.made (omega arith)) ∙ c.strike.ensures.unstruck
+    rw c.in-Revoke.is (ap unstruck (with_items_is c.args.made.now c.strike.new.made (omega arith)) ∙ c.strike.ensures
     ∙ rw (c.deref_mut.ensures.value, c.as_slice.ensures, c.as_slice-in-Revoke.ensures) (kept-revoke _ c.args.moment.0 c.in-Revoke.by c.in-Revoke.atoms c.in-Revoke.whom c.requires))
 
-pub returns-in_ok-append-in-Grant-clause-unstruck : goal.returns-in_ok-append-in-Grant-clause-unstruck
-returns-in_ok-append-in-Grant-clause-unstruck c =
-    rw (c.in-Grant.is, c.in_ok-append-in-Grant.ensures.ok, c.as_slice-atoms.ensures, c.as_slice-whom.ensures) (kept-grant c.args.made.now.items _)
+pub returns-in_ok-log_singles-in-Grant-clause-unstruck : goal.returns-in_ok-log_singles-in-Grant-clause-unstruck
+returns-in_ok-log_singles-in-Grant-clause-unstruck c =
+    rw (c.in-Grant.is, c.in_ok-log_singles-in-Grant.ensures.ok, c.as_slice-atoms.ensures, c.as_slice-whom.ensures) (kept-grant c.args.made.now.items _)
 
-pub returns-in_ok-append-in-Grant-clause-made : goal.returns-in_ok-append-in-Grant-clause-made
-returns-in_ok-append-in-Grant-clause-made c =
-    rw (c.in-Grant.is, c.in_ok-append-in-Grant.ensures.ok, c.as_slice-atoms.ensures, c.as_slice-whom.ensures) (length-added c.args.made.now.items _ _ _ _ _ _)
+pub returns-in_ok-log_singles-in-Grant-clause-made : goal.returns-in_ok-log_singles-in-Grant-clause-made
+returns-in_ok-log_singles-in-Grant-clause-made c =
+    rw (c.in-Grant.is, c.in_ok-log_singles-in-Grant.ensures.ok, c.as_slice-atoms.ensures, c.as_slice-whom.ensures) (length-added c.args.made.now.items _ _ _ _ _ _)

@@ -1,11 +1,10 @@
-use Rattle.std.proofs.Common.{◌≡◌, ◌+◌, ◌<◌, ◌++◌, ℕ, List, [], ◌∷◌, not, ap, sym, ◌∙◌, take, length, arith, subst, IfOk}
+use Rattle.std.proofs.Common.{◌≡◌, ◌+◌, ◌<◌, ◌++◌, ℕ, List, [], ◌∷◌, not, ap, sym, ◌∙◌, take, length, arith}
 use Rattle.std.specs.List.{All, filter}
-use Rattle.std.proofs.lemmas.List.{take_more, take_all, length-take, with_items_is}
+use Rattle.std.proofs.lemmas.List.{take_more, take_all, length-take}
 use Rattle.std.proofs.lemmas.List.Elements.{All-from_recursion}
 use Rattle.grants_core.specs.Valid.{valid}
-use Rattle.grants_core.specs.Log.{unstruck, in_force_of}
-use Rattle.grants_core.specs.declared.grant.Grant.{Grant}
-use Rattle.grants_core.specs.History.{in_force_after, owners_after, owners_with, is_struck_by, grants_of, unstruck_after, made_by_all, made_by}
+use Rattle.grants_core.specs.Log.{unstruck}
+use Rattle.grants_core.specs.History.{owners_after, owners_with, is_struck_by, grants_of, unstruck_after, made_by_all, made_by}
 use Rattle.grants_core.specs.declared.grant.Change.{Change}
 use Rattle.grants_core.proofs.HistoryLemmas.{unstruck-early, unstruck-more, owners-more, made_by_all-more}
 use Rattle.grants_core.proofs.history.in_force_after.Goals as goal
@@ -39,9 +38,5 @@ pub returns : goal.returns
 returns c =
     let all : take c.loop-change.change-index c.args.changes.now ≡ c.args.changes.now = take_all c.loop-change.change-index c.args.changes.now c.loop-change-test.false in
     let owned : c.loop-change.owners ≡ owners_after c.args.changes.now = c.loop-change.invariant.owned ∙ ap owners_after all in
-    let left : unstruck c.deref_mut.result.now ≡ unstruck_after c.args.changes.now = ap unstruck c.deref_mut.ensures.value ∙ c.loop-change.invariant.left ∙ ap unstruck_after all in
-    let items : c.deref.result.now ≡ c.replay.new.made = c.deref.ensures.value ∙ with_items_is c.loop-change.made c.replay.new.made (omega arith) in
-    let in_force : in_force_of c.deref.result.now ≡ in_force_after c.args.changes.now =
-    ap in_force_of items ∙ c.replay.ensures.valid ∙ ap (valid c.loop-change.owners) left ∙ ap (λ o. valid o (unstruck_after c.args.changes.now)) owned in
-    let Answered : List Grant → Type 0 = λ v. IfOk c.in_force.result (λ grants. grants.items ≡ v) in
-    subst Answered in_force c.in_force.ensures
+    let left : unstruck c.loop-change.made.items ≡ unstruck_after c.args.changes.now = c.loop-change.invariant.left ∙ ap unstruck_after all in
+    c.keep_valid.ensures ∙ ap (valid c.loop-change.owners) (c.in_ok-grants.ensures ∙ ap unstruck c.deref.ensures.value ∙ left) ∙ ap (λ o. valid o (unstruck_after c.args.changes.now)) owned
