@@ -1,6 +1,7 @@
 -- What one more change leaves in force.
 use Rattle.std.proofs.Common.{◌≡◌, ℕ, ◌+◌, ◌<◌, ◌≤◌, Bool, true, false, not, ◌||◌, ◌&&◌, cond, ltb, List, [], ◌∷◌, ◌++◌, length, refl, sym, ap, subst, ◌∙◌, append_assoc, add_assoc, add-zero, arith, map, ⊎_elim}
 use Rattle.std.specs.List.{AllByRecursion, All, filter, list_any}
+use Rattle.std.proofs.Math.Bool.{or_assoc}
 use Rattle.std.proofs.lemmas.Bool.{lt-ltb, le-ltb, or_from, or_parts, and_left, cond-true, cond-false, cases_Bool}
 use Rattle.std.proofs.lemmas.List.{append-nil}
 use Rattle.std.proofs.lemmas.List.Sums.{fold-append}
@@ -32,10 +33,6 @@ same_content os ps gs hs n m e f g = cc
 pub made_by_all-more : (cs : List Change) (c : Change) → made_by_all (cs ++ c ∷ []) ≡ made_by_all cs + made_by c
 made_by_all-more [] c = omega arith
 made_by_all-more (x ∷ xs) c = let rest = made_by_all-more xs c in omega (arith, rest)
-
-pub or_assoc : (a b c : Bool) → ((a || b) || c) ≡ (a || (b || c))
-or_assoc true b c = refl
-or_assoc false b c = refl
 
 not_or : (a b : Bool) → not (a || (b || false)) ≡ (not a && not b)
 not_or true b = refl

@@ -1,6 +1,7 @@
 pub mod WorkedExamples
 pub mod ValidLemmas
 pub mod OwnersLemmas
+pub mod OwnedLemmas
 pub mod SinglesLemmas
 pub mod NumberLemmas
 pub mod GrantLemmas

@@ -1,6 +1,7 @@
 -- Which tables are marked after a list of changes.
 use Rattle.std.proofs.Common.{◌≡◌, ℕ, ◌+◌, ◌<◌, Bool, true, false, not, ◌||◌, ◌&&◌, cond, List, [], ◌∷◌, ◌++◌, Option, Some, None, length, drop, take, zero, suc, refl, sym, ap, ◌∙◌, subst, arith, append_assoc, ⊎_elim, mul-zero}
 use Rattle.std.specs.List.{AllByRecursion, list_any, fold, prefix_len, before_first, after_first}
+use Rattle.std.proofs.Math.Bool.{or_assoc}
 use Rattle.std.proofs.lemmas.Bool.{and_parts, or_cases, or_left, or_right, or_from, or_parts, cases_Bool, both_ways, cond-true, cond-false, false_from_ne_true, false≢true}
 use Rattle.std.proofs.lemmas.List.Folds.{list_any-append}
 use Rattle.std.proofs.lemmas.List.Elements.{recursion_from_All}
@@ -22,7 +23,7 @@ use Rattle.grants_core.specs.Marks.{is_marked, creates, grants_on, is_granted_on
 use Rattle.base_core.proofs.SameLemmas.{same_name-true, same_name-refl, same_atom-true}
 use Rattle.grants_core.proofs.OwnersLemmas.{was_granted-with_owner, owner_of-cons}
 use Rattle.grants_core.proofs.GrantLemmas.{All-filtered, All-valid}
-use Rattle.grants_core.proofs.HistoryLemmas.{or_assoc, none_of}
+use Rattle.grants_core.proofs.HistoryLemmas.{none_of}
 
 or_false : (b : Bool) → b ≡ (b || false)
 or_false true = refl

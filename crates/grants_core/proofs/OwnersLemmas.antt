@@ -1,12 +1,8 @@
 -- What a change of the owners leaves.
-use Rattle.std.proofs.Common.{◌≡◌, ℕ, ◌+◌, ◌<◌, ◌≤◌, Bool, true, false, ◌||◌, ◌&&◌, cond, subst, List, [], ◌∷◌, ◌++◌, Option, Some, None, length, take, drop, get_or, set, refl, sym, ap, ◌∙◌, arith, ⊎_elim, suc, ltb, drop-cons}
-use Rattle.std.specs.List.{AllByRecursion, list_any, fold, find, position, position_or_len}
+use Rattle.std.proofs.Common.{◌≡◌, ℕ, ◌+◌, ◌<◌, Bool, true, false, ◌||◌, ◌&&◌, cond, subst, List, [], ◌∷◌, ◌++◌, Option, Some, None, length, refl, sym, ap, ◌∙◌, ⊎_elim, ltb}
+use Rattle.std.specs.List.{AllByRecursion, list_any, fold, find}
 use Rattle.std.specs.Option.{option_map}
-use Rattle.std.proofs.lemmas.Bool.{and_parts, or_cases, or_left, or_right, and_from, cases_Bool, cases_lt, lt-ltb, cond-true, cond-false}
-use Rattle.std.proofs.lemmas.List.{take-append-drop, set_split, length-take, get_or-take, get_or_default}
-use Rattle.std.proofs.lemmas.List.Elements.{recursion_from_All}
-use Rattle.std.proofs.lemmas.List.Sums.{fails_before_first}
-use Rattle.std.proofs.lemmas.List.Quantifiers.{position-Some}
+use Rattle.std.proofs.lemmas.Bool.{and_parts, or_cases, or_left, or_right, and_from, cases_Bool, lt-ltb, cond-true, cond-false}
 use Rattle.base_core.specs.declared.name.Name.{Name}
 use Rattle.base_core.specs.declared.name.User.{User}
 use Rattle.base_core.specs.declared.privilege.Atom.{Atom}
@@ -20,37 +16,6 @@ use Rattle.grants_core.specs.Content.{gives, may_grant, to_each, singles}
 use Rattle.base_core.proofs.SameLemmas.{same_name-true}
 use Rattle.grants_core.specs.declared.grant.Grant.{Grant}
 use Rattle.grants_core.specs.declared.grant.Ownership.{Ownership}
-
--- `position` finds none where none passes
-pub none_from_position : {A : Type 0} (p : A → Bool) (xs : List A) → position p xs ≡ None → AllByRecursion (λ g. p g ≡ false) xs
-none_from_position p xs h =
-    let far : length xs ≤ position_or_len p xs =
-    ⊎_elim (λ (near : position_or_len p xs < length xs).
-    let some : position p xs ≡ Some (position_or_len p xs) = cond-true _ _ _ (lt-ltb _ _ near) in
-    let no : ⊥ = cc in absurd no)
-    (λ (le : length xs ≤ position_or_len p xs). le)
-    (cases_lt (position_or_len p xs) (length xs)) in
-    recursion_from_All (λ g. p g ≡ false) xs (λ k d lt. let near : k < position_or_len p xs = omega arith in fails_before_first p xs k d near)
-
-pub with_owner-none : (table : Name) (user : User) (os : List Ownership) → AllByRecursion (λ o. same_name o.table table ≡ false) os → with_owner table user os ≡ os ++ record { table = table; owner = user; granted = false } ∷ []
-with_owner-none table user [] h = refl
-with_owner-none table user (o ∷ os) h =
-    cond-false (same_name o.table table) _ _ h.0 ∙ ap (λ k. o ∷ k) (with_owner-none table user os h.1)
-
-with_owner-past : (table : Name) (user : User) (before : List Ownership) (o : Ownership) (after : List Ownership) → AllByRecursion (λ p. same_name p.table table ≡ false) before → same_name o.table table ≡ true → with_owner table user (before ++ o ∷ after) ≡ before ++ record o { owner = user } ∷ after
-with_owner-past table user [] o after h here = cond-true (same_name o.table table) _ _ here
-with_owner-past table user (p ∷ ps) o after h here =
-    cond-false (same_name p.table table) _ _ h.0 ∙ ap (λ k. p ∷ k) (with_owner-past table user ps o after h.1 here)
-
-pub with_owner-at : (table : Name) (user : User) (os : List Ownership) (i : ℕ) (d : Ownership) → position (λ o. same_name o.table table) os ≡ Some i → set os i (record (get_or os i d) { owner = user }) ≡ with_owner table user os
-with_owner-at table user os i d found =
-    let p : Ownership → Bool = λ o. same_name o.table table in
-    let at = position-Some p os i d found in
-    let before : List Ownership = take i os in
-    let split : os ≡ before ++ get_or os i d ∷ drop (suc i) os = sym (take-append-drop i os) ∙ ap (λ k. take i os ++ k) (drop-cons os i d at.0) in
-    let none : AllByRecursion (λ o. p o ≡ false) before = recursion_from_All (λ o. p o ≡ false) before (λ k e lt. let near : k < i = omega (arith, length-take i os) in let far : k < length os = omega arith in rw (get_or-take i os k e near) (rw (get_or_default os k e d far) (at.2 k near))) in
-    let within : i < length os = at.0 in
-    rw (set_split os i (record (get_or os i d) { owner = user })) (sym (ap (with_owner table user) split ∙ with_owner-past table user before (get_or os i d) (drop (suc i) os) none at.1))
 
 pub owner_of-cons : (o : Ownership) (os : List Ownership) (t : Name) → owner_of (o ∷ os) t ≡ cond (same_name o.table t) (Some o.owner) (owner_of os t)
 owner_of-cons o os t = elim (same_name o.table t) as (λ b. option_map (λ (p : Ownership). p.owner) (cond b (Some o) (find (λ p. same_name p.table t) os)) ≡ cond b (Some o.owner) (owner_of os t)) [ true ↦ refl | false ↦ refl ]

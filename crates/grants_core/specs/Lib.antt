@@ -1,4 +1,5 @@
 pub mod Owners
+pub mod Owned
 pub mod Valid
 pub mod Numbers
 pub mod Content

@@ -23,16 +23,15 @@
 //! rights.holds(b, &select)                                // false: a could not have granted it
 //! ```
 //!
-//! How cost grows, with n the grants in force and t the tables:
+//! How cost grows, with n the grants in force ([`Owners`] finds a table by a hash of its name):
 //!
-//! - `holds`, `may_grant` and `has_made` go over n and t at most, `room` and `in_force` over n. No
-//!   index is kept.
-//! - `create` goes over t, and `grant` over t for each atom; it makes a grant for each atom and
-//!   user.
+//! - `holds` and `may_grant` are a look-up of the owner, and go over n at most; `has_made`, `room`
+//!   and `in_force` go over n. The grants have no index.
+//! - `create` is a look-up, and `grant` one for each atom; it makes a grant for each atom and user.
 //! - `revoke` compares each of n with the atoms and users that it names. Then each that is left
-//!   looks for its owner among t and for its support among those kept before it. So it grows with
-//!   the square of n at worst, however few it takes out, and takes no memory. What fell before
-//!   costs nothing.
+//!   looks its owner up, and looks for its support among those kept before it. So it grows with the
+//!   square of n at worst, however few it takes out, and takes no memory. What fell before costs
+//!   nothing.
 //! - `audit` keeps every single grant that its changes make, and goes over these for each
 //!   revocation; at the end those that none named are replayed, as in `revoke`.
 #![tactic(auto)]

@@ -1,50 +1,35 @@
 //! The tables' owners.
-ghost use Rattle.std.specs.Prelude.{◌≡◌, [], OnOk, OnErr, position};
-ghost use Rattle.std.specs.List.{list_any};
-ghost use Rattle.base_core.specs.Words.{same_name};
+ghost use Rattle.std.specs.Prelude.{◌≡◌, [], ◌∷◌, OnOk, OnErr};
 ghost use Rattle.grants_core.specs.Owners.{owner_of, owns, with_owner, with_granted};
 
-use crate::grant::Ownership;
 use base_core::{Atom, Name, NoMemory, User};
+use indexmap::IndexMap;
 use std::alloc::Global;
 use std::marker::Model;
 
-/// The tables' owners, each with whether a grant on the table was ever made. Contracts see the list
-/// of them, in the order in which the tables were first given an owner.
+/// What is kept of a table: its owner, and whether a grant on it was ever made.
+#[derive(Clone, Copy)]
+pub struct Owned {
+    pub owner: User,
+    pub granted: bool,
+}
+
+/// The tables' owners, each with whether a grant on the table was ever made, looked up by a hash of
+/// the table's name. Contracts see the list of them, in the order in which the tables were first
+/// given an owner.
 #[derive(Drop)]
 pub struct Owners {
-    entries: Vec<Ownership>,
+    tables: IndexMap<Name, Owned>,
 }
 
 impl Model for Owners {
     ghost use Rattle.std.specs.Prelude.{List};
     ghost use Rattle.grants_core.specs.declared.grant.Ownership.{Ownership};
+    ghost use Rattle.grants_core.specs.Owned.{ownerships};
 
     ghost Value = { List Ownership };
 
-    ghost view = { λ o. o.entries.items };
-}
-
-// The index of the table's entry.
-fn index_of(entries: &[Ownership], table: Name) -> Option<usize>
-    ensures { result ≡ position (λ o. same_name o.table table) entries.now }
-{
-    entries.iter().position(|entry| entry.table == table)
-}
-
-// Whether one of the atoms is of the table.
-fn is_meant(atoms: &[Atom], table: Name) -> bool
-    ensures { result ≡ list_any (λ a. same_name a.table table) atoms.now }
-{
-    atoms.iter().any(|atom| atom.table == table)
-}
-
-fn mark(entries: &mut [Ownership], atoms: &[Atom])
-    ensures { entries.new ≡ with_granted atoms.now entries.old }
-{
-    for entry in entries.iter_mut() {
-        entry.granted |= is_meant(atoms, entry.table);
-    }
+    ghost view = { λ o. ownerships o.tables.entries };
 }
 
 impl Owners {
@@ -53,43 +38,53 @@ impl Owners {
         ensures { result ≡ [] }
     {
         Owners {
-            entries: Vec::new(alloc),
+            tables: IndexMap::new(alloc),
         }
     }
 
-    /// Sets a table's owner. A table that has one gets the new one.
+    /// Sets a table's owner. A table that has one gets the new one. `NoMemory` where a request for
+    /// memory was refused; then nothing has changed.
     pub fn set(&mut self, table: Name, owner: User) -> Result<(), NoMemory>
         ensures ok { OnOk result (self.new ≡ with_owner table owner self.old) }
         ensures err { OnErr result (self.new ≡ self.old) }
     {
-        match index_of(&self.entries, table) {
-            Some(at) => self.entries[at].owner = owner,
-            None => self.entries.push(Ownership {
-                table,
-                owner,
-                granted: false,
-            })?,
+        match self.tables.get_mut(&table) {
+            Some(owned) => owned.owner = owner,
+            None => {
+                let granted = false;
+                self.tables.insert(table, Owned { owner, granted })?;
+            }
         }
         Ok(())
     }
 
-    /// Notes that a grant of these atoms was made.
+    // Notes that a grant of the atom was made.
+    fn mark(&mut self, atom: &Atom)
+        ensures { self.new ≡ with_granted (atom.now ∷ []) self.old }
+    {
+        if let Some(owned) = self.tables.get_mut(&atom.table) {
+            owned.granted = true;
+        }
+    }
+
+    /// Notes that a grant of these atoms was made: of those of tables without an owner nothing. It
+    /// takes no memory.
     pub fn mark_granted(&mut self, atoms: &[Atom])
         ensures { self.new ≡ with_granted atoms.now self.old }
     {
-        mark(&mut self.entries, atoms);
+        for atom in atoms {
+            self.mark(atom);
+        }
     }
 
+    #[tactic(auto, using(crate::proofs::OwnedLemmas::owner_of_entries))]
     fn owner_of(&self, table: Name) -> Option<User>
         ensures { result ≡ owner_of self.now table }
     {
-        self.entries
-            .iter()
-            .find(|entry| entry.table == table)
-            .map(|entry| entry.owner)
+        Some(self.tables.get(&table)?.owner)
     }
 
-    /// Whether the user owns the atom's table.
+    /// Whether the user owns the atom's table. Nobody owns one that has no owner.
     #[tactic(auto, unfolding(crate::specs::Owners::owns))]
     pub fn owns(&self, user: &User, atom: &Atom) -> bool
         ensures { result ≡ owns self.now user.now atom.now }
