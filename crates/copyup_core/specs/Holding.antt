@@ -1,0 +1,46 @@
+-- What a store holds, as callers see it: a plain list of numbered items.
+use Rattle.std.specs.Prelude.{ℕ, ◌+◌, ◌≤◌, cond, ◌==◌, nat_le, List, [], ◌∷◌, Option, Some, None, refl}
+use Rattle.std.specs.Coded.{Coded, code_by, coded×, coded_ℕ, coded_list}
+
+-- the items with their numbers, in number order; the number that comes next; and how many pushes
+-- have their room already
+pub record Holding (V : Type 0) : Type 0 where
+  pub contents : List (ℕ × V)
+  pub next : ℕ
+  pub spare : ℕ
+
+-- equal holdings are those with equal parts
+abbrev pub holding_code : {V : Type 0} → Coded V → Coded (Holding V)
+holding_code {V} c =
+    let items : Coded (List (ℕ × V)) = coded_list (coded× coded_ℕ c) in
+    code_by
+      (List (ℕ × V) × (ℕ × ℕ))
+      (coded× items (coded× coded_ℕ coded_ℕ))
+      (λ h. (h.contents, (h.next, h.spare)))
+      (λ p. record { contents = p.0; next = p.1.0; spare = p.1.1 })
+      (λ _. refl)
+
+-- the numbers of the items rise, from low on and below high
+abbrev pub Rise : {V : Type 0} → ℕ → ℕ → List (ℕ × V) → Type 0
+Rise low high [] = low ≤ high
+Rise low high (e ∷ es) = (low ≤ e.0) × Rise (e.0 + 1) high es
+
+-- the value of the item numbered n
+abbrev pub value_at : {V : Type 0} → ℕ → List (ℕ × V) → Option V
+value_at n [] = None
+value_at n (e ∷ es) = cond (e.0 == n) (Some e.1) (value_at n es)
+
+-- the first item with a number of at least n
+abbrev pub first_from : {V : Type 0} → ℕ → List (ℕ × V) → Option (ℕ × V)
+first_from n [] = None
+first_from n (e ∷ es) = cond (nat_le n e.0) (Some e) (first_from n es)
+
+-- the items, with value v at number n
+abbrev pub with_value : {V : Type 0} → ℕ → V → List (ℕ × V) → List (ℕ × V)
+with_value n v [] = []
+with_value n v (e ∷ es) = cond (e.0 == n) ((n, v) ∷ es) (e ∷ with_value n v es)
+
+-- the items but the one numbered n
+abbrev pub without : {V : Type 0} → ℕ → List (ℕ × V) → List (ℕ × V)
+without n [] = []
+without n (e ∷ es) = cond (e.0 == n) es (e ∷ without n es)

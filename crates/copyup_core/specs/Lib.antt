@@ -1,0 +1,4 @@
+pub mod Holding
+pub mod Calls
+pub mod Slot
+pub mod Sound
