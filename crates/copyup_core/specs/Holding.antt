@@ -1,5 +1,5 @@
 -- What a store holds, as callers see it: a plain list of numbered items.
-use Rattle.std.specs.Prelude.{ℕ, ◌+◌, ◌≤◌, cond, ◌==◌, nat_le, List, [], ◌∷◌, Option, Some, None, refl}
+use Rattle.std.specs.Prelude.{ℕ, ◌+◌, ◌≤◌, if◌then◌else◌, ◌==◌, nat_le, List, [], ◌∷◌, Option, Some, None, refl}
 use Rattle.std.specs.Coded.{Coded, code_by, coded×, coded_ℕ, coded_list}
 
 -- the items with their numbers, in number order; the number that comes next; and how many pushes
@@ -28,19 +28,19 @@ Rise low high (e ∷ es) = (low ≤ e.0) × Rise (e.0 + 1) high es
 -- the value of the item numbered n
 abbrev pub value_at : {V : Type 0} → ℕ → List (ℕ × V) → Option V
 value_at n [] = None
-value_at n (e ∷ es) = cond (e.0 == n) (Some e.1) (value_at n es)
+value_at n (e ∷ es) = if e.0 == n then Some e.1 else value_at n es
 
 -- the first item with a number of at least n
 abbrev pub first_from : {V : Type 0} → ℕ → List (ℕ × V) → Option (ℕ × V)
 first_from n [] = None
-first_from n (e ∷ es) = cond (nat_le n e.0) (Some e) (first_from n es)
+first_from n (e ∷ es) = if nat_le n e.0 then Some e else first_from n es
 
 -- the items, with value v at number n
 abbrev pub with_value : {V : Type 0} → ℕ → V → List (ℕ × V) → List (ℕ × V)
 with_value n v [] = []
-with_value n v (e ∷ es) = cond (e.0 == n) ((n, v) ∷ es) (e ∷ with_value n v es)
+with_value n v (e ∷ es) = if e.0 == n then (n, v) ∷ es else e ∷ with_value n v es
 
 -- the items but the one numbered n
 abbrev pub without : {V : Type 0} → ℕ → List (ℕ × V) → List (ℕ × V)
 without n [] = []
-without n (e ∷ es) = cond (e.0 == n) es (e ∷ without n es)
+without n (e ∷ es) = if e.0 == n then es else e ∷ without n es

@@ -1,0 +1,79 @@
+//! What no clause says: that calls which take memory succeed, and how much room a store takes.
+use crate::{PushFault, Store};
+use base_core::{Row, Sequence, Value};
+use std::test::Fail;
+
+#[test]
+fn items_keep_their_numbers(rt: HostRuntime) -> Result<(), Fail> {
+    let mut store: Store<u64> = Store::new(rt.alloc());
+    assert_eq!(rt; store.push(50)?, 0);
+    assert_eq!(rt; store.push(51)?, 1);
+    assert_eq!(rt; store.push(52)?, 2);
+    assert!(rt; store.get(1).is_some());
+    if store.get(1).is_some() {
+        assert_eq!(rt; store.replace(1, 61), Some(51));
+    }
+    assert!(rt; store.remove(2));
+    assert!(rt; !store.remove(2));
+    assert_eq!(rt; store.len(), 2);
+    assert_eq!(rt; store.push(53)?, 3);
+    assert!(rt; store.remove(0));
+    assert_eq!(rt; store.get(0), None);
+    assert_eq!(rt; store.get(3), Some(&53));
+    assert_eq!(rt; store.next_from(0), Some((1, &61)));
+    assert_eq!(rt; store.next_from(2), Some((3, &53)));
+    assert_eq!(rt; store.next_from(4), None);
+    Ok(())
+}
+
+#[test]
+fn the_greatest_number_is_never_given(rt: HostRuntime) -> Result<(), Fail> {
+    let mut store: Store<u64> = Store::starting_at(rt.alloc(), u64::MAX - 1);
+    assert_eq!(rt; store.push(50)?, u64::MAX - 1);
+    assert_eq!(rt; store.push(51), Err(PushFault::Full(51)));
+    assert_eq!(rt; store.get(u64::MAX - 1), Some(&50));
+    Ok(())
+}
+
+#[test]
+fn rows_are_items_too(rt: HostRuntime) -> Result<(), Fail> {
+    let mut store = Store::new(rt.alloc());
+    store.reserve(1)?;
+    assert!(rt; store.spare() >= 1);
+    let values: Sequence<Value> = Sequence::new(rt.alloc());
+    let stored = store.push(Row { values }).is_ok();
+    assert!(rt; stored);
+    assert!(rt; store.get(0).is_some_and(|row| row.values.is_empty()));
+    assert!(rt; store.remove(0));
+    assert_eq!(rt; store.len(), 0);
+    Ok(())
+}
+
+/// A store that grows one by one has room for an eighth more at most.
+#[test]
+fn little_room_is_idle(rt: HostRuntime) -> Result<(), Fail> {
+    let mut store = Store::new(rt.alloc());
+    for number in 0..1000 {
+        store.push(number)?;
+        assert!(rt; store.spare() <= number / 8);
+    }
+    Ok(())
+}
+
+/// Removed items leave no more dead slots than there are items, and one.
+#[test]
+fn removed_items_give_their_room_back(rt: HostRuntime) -> Result<(), Fail> {
+    let mut store = Store::new(rt.alloc());
+    store.reserve(1000)?;
+    let room = store.spare();
+    for number in 0..1000 {
+        store.push(number)?;
+    }
+    for number in 0..1000 {
+        store.remove(number);
+        let taken = room.saturating_sub(store.spare());
+        assert!(rt; taken <= 2 * (999 - number) + 1);
+        assert_eq!(rt; store.next_from(0).is_some(), number < 999);
+    }
+    Ok(())
+}
