@@ -1,8 +1,7 @@
 -- The contents of slots whose numbers rise.
-use Rattle.std.proofs.Common.{◌≡◌, ◌≢◌, ℕ, zero, suc, ◌+◌, ◌-◌, ◌<◌, ◌≤◌, Bool, true, false, cond, eqb, List, [], ◌∷◌, ◌++◌, Option, Some, None, length, get_or, set, take, drop, refl, sym, ap, ◌∙◌, arith, append_assoc, append-nil, length-append, add-one, is_some, length-set, get_or-set_other, get_or-set_same, ◌⊎◌, inl, inr}
-use Rattle.std.specs.List.{flat_map, filter, AllWithin}
+use Rattle.std.proofs.Common.{◌≡◌, ◌≢◌, ℕ, zero, suc, ◌+◌, ◌<◌, ◌≤◌, Bool, true, false, cond, List, [], ◌∷◌, ◌++◌, Option, Some, None, length, get_or, set, drop, refl, sym, ap, ◌∙◌, arith, is_some, ◌⊎◌, inl, inr}
+use Rattle.std.specs.List.{filter, AllWithin}
 use Rattle.std.proofs.lemmas.Bool.{false≢true, cases_lt, ne_eqb, eq-eqb, lt-leb, le-leb}
-use Rattle.std.proofs.lemmas.Bool.Decides.{eqb_tells}
 use Rattle.std.proofs.lemmas.List.{get_or_default, drop_more}
 use Rattle.copyup_core.specs.declared.slots.Slot.{Slot}
 use Rattle.copyup_core.specs.Holding.{value_at, with_value, without, first_from}

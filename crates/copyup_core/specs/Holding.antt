@@ -14,11 +14,11 @@ abbrev pub holding_code : {V : Type 0} → Coded V → Coded (Holding V)
 holding_code {V} c =
     let items : Coded (List (ℕ × V)) = coded_list (coded× coded_ℕ c) in
     code_by
-      (List (ℕ × V) × (ℕ × ℕ))
-      (coded× items (coded× coded_ℕ coded_ℕ))
-      (λ h. (h.contents, (h.next, h.spare)))
-      (λ p. record { contents = p.0; next = p.1.0; spare = p.1.1 })
-      (λ _. refl)
+    (List (ℕ × V) × (ℕ × ℕ))
+    (coded× items (coded× coded_ℕ coded_ℕ))
+    (λ h. (h.contents, (h.next, h.spare)))
+    (λ p. record { contents = p.0; next = p.1.0; spare = p.1.1 })
+    (λ _. refl)
 
 -- the numbers of the items rise, from low on and below high
 abbrev pub Rise : {V : Type 0} → ℕ → ℕ → List (ℕ × V) → Type 0

@@ -16,8 +16,9 @@
 //! store.next_from(1)                  // Some((2, &c))
 //! ```
 //!
-//! Each item stands in a slot beside its number. An item that is removed leaves a dead slot, so that
-//! nothing is moved for it. Once more than half of the slots are dead, the dead ones are dropped.
+//! Each item stands in a slot beside its number. An item that is removed leaves a dead slot, so
+//! that nothing is moved for it. Once more than half of the slots are dead, the dead ones are
+//! dropped.
 //!
 //! A caller who must not fail half way asks for room first: once `reserve` of k has answered Ok, k
 //! pushes can't be refused memory. Whatever `replace` and `remove` do in between, `spare` doesn't
@@ -28,11 +29,11 @@
 //! With n the slots, at most twice the items and one more:
 //!
 //! - `new`, `starting_at`, `len` and `spare` are constant.
-//! - `get` and `replace` look first where the number stands if no slot before it was dropped since the
-//!   first one, which takes constant time. Elsewhere they search, with the logarithm of n.
+//! - `get` and `replace` look first where the number stands if no slot was dropped between the first
+//!   one and it, which is constant. Elsewhere they search, with the logarithm of n.
 //! - `next_from` does the same, and then passes over the dead slots up to the item that it finds.
-//! - `push` is constant and `remove` a look-up, but for moves of slots now and then, which come to a
-//!   constant for each call: to remove n items one by one grows with n.
+//! - `push` is constant and `remove` a look-up, but for moves of slots now and then, which come to
+//!   a constant for each call: to remove all items, one by one, grows with how many there are.
 //! - A store that has to grow does so by an eighth of its slots at least. Pushed one by one, items
 //!   leave no more than that idle.
 //!

@@ -47,12 +47,10 @@ pub(crate) fn find<V>(slots: &[Slot<V>], n: u64) -> Option<usize>
     requires { (low : ℕ) × (high : ℕ) × SlotsRise low high slots.now }
     ensures within { IfSome result (λ i. i < length slots.now) }
     ensures number { IfSome result (HoldsAt (λ s. s.number ≡ n) slots.now) }
-    ensures item {
-        MatchOption
-          result
-          (value_at n (contents_of slots.now) ≡ None)
-          (HoldsAt (HasItemOf n (contents_of slots.now)) slots.now)
-    }
+    ensures item { MatchOption
+        result
+        (value_at n (contents_of slots.now) ≡ None)
+        (HoldsAt (HasItemOf n (contents_of slots.now)) slots.now) }
 {
     let i = place(slots, n);
     if i < slots.len() && slots[i].number == n && slots[i].item.is_some() {

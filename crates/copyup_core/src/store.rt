@@ -12,8 +12,8 @@ use std::mem;
 
 /// Items with numbers, in number order.
 ///
-/// Contracts see a store as the record of its `contents`, the `next` number, and `spare`, the pushes
-/// that have their room.
+/// Contracts see a store as the record of its `contents`, the `next` number, and `spare`, the
+/// pushes that have their room.
 #[derive(Drop)]
 pub struct Store<V: Drop> {
     slots: Vec<Slot<V>>,
@@ -32,13 +32,11 @@ impl<V: Drop> Model for Store<V> {
     ghost use Rattle.copyup_core.specs.Slot.{contents_of};
     ghost use Rattle.copyup_core.specs.Sound.{IsSound};
 
-    ghost view = {
-        λ s. record {
-            contents = contents_of s.slots.items;
-            next = s.next;
-            spare = s.slots.cap - s.slots.len
-        }
-    };
+    ghost view = { λ s. record {
+      contents = contents_of s.slots.items;
+      next = s.next;
+      spare = s.slots.cap - s.slots.len;
+    } };
 
     ghost invariant = { λ s. IsSound s.slots.items s.next s.len };
 }
@@ -85,7 +83,8 @@ impl<V: Drop> Store<V> {
 
     /// The first item with a number of at least `number`, and its number. None where there is none.
     pub fn next_from(&self, number: u64) -> Option<(u64, &V)>
-        ensures { option_map (λ found. (found.0, found.1.now)) result ≡ first_from number self.now.contents }
+        ensures { option_map (λ found. (found.0, found.1.now)) result
+            ≡ first_from number self.now.contents }
     {
         let start = slots::place(self.slots.as_slice(), number);
         let place = slots::next_live(self.slots.as_slice(), start)?;
@@ -126,9 +125,7 @@ impl<V: Drop> Store<V> {
         ensures number { IfOk result (λ number. number ≡ self.old.next) }
         ensures ok { OnOk result (self.new ≡ record (pushed item self.old) { spare = self.new.spare }) }
         ensures full { (result ≡ Err (PushFault.Full item)) ↔ (self.old.next ≡ u64.MAX) }
-        ensures no_memory {
-            OnErr result (self.old.next < u64.MAX → result ≡ Err (PushFault.NoMemory item))
-        }
+        ensures no_memory { OnErr result (self.old.next < u64.MAX → result ≡ Err (PushFault.NoMemory item)) }
         ensures roomy { 0 < self.old.spare → self.old.next < u64.MAX → IsOk result }
         ensures spare { self.old.spare ≤ self.new.spare + 1 }
         ensures err { OnErr result (self.new ≡ self.old) }
