@@ -65,7 +65,8 @@ pub(crate) fn next_live<V>(slots: &[Slot<V>], from: usize) -> Option<usize>
     requires { from ≤ length slots.now }
     ensures within { IfSome result (λ i. (from ≤ i) × (i < length slots.now)) }
     ensures live { IfSome result (HoldsAt (λ s. IsSome s.item) slots.now) }
-    ensures dead { IfSome result (λ i. contents_of (drop from slots.now) ≡ contents_of (drop i slots.now)) }
+    ensures dead { IfSome result
+        (λ i. contents_of (drop from slots.now) ≡ contents_of (drop i slots.now)) }
     ensures none { IfNone result (contents_of (drop from slots.now) ≡ []) }
 {
     for i in from..slots.len() {
@@ -97,7 +98,9 @@ pub(crate) fn make_room<V>(slots: &mut Vec<Slot<V>>, count: usize) -> Result<(),
 pub(crate) fn compact<V>(slots: &mut Vec<Slot<V>>, live: usize)
 where
     V: Drop,
-    ensures rises { (high : ℕ) → SlotsRise 0 high slots.old.items → SlotsRise 0 high slots.new.items }
+    ensures rises { (high : ℕ)
+        → SlotsRise 0 high slots.old.items
+        → SlotsRise 0 high slots.new.items }
     ensures contents { contents_of slots.new.items ≡ contents_of slots.old.items }
     ensures capacity { vec_capacity slots.new ≡ vec_capacity slots.old }
     ensures len { vec_len slots.new ≤ vec_len slots.old }

@@ -123,9 +123,11 @@ impl<V: Drop> Store<V> {
     /// Each gives the item back, and the store is as before.
     pub fn push(&mut self, item: V) -> Result<u64, PushFault<V>>
         ensures number { IfOk result (λ number. number ≡ self.old.next) }
-        ensures ok { OnOk result (self.new ≡ record (pushed item self.old) { spare = self.new.spare }) }
+        ensures ok { OnOk result
+            (self.new ≡ record (pushed item self.old) { spare = self.new.spare }) }
         ensures full { (result ≡ Err (PushFault.Full item)) ↔ (self.old.next ≡ u64.MAX) }
-        ensures no_memory { OnErr result (self.old.next < u64.MAX → result ≡ Err (PushFault.NoMemory item)) }
+        ensures no_memory { OnErr result
+            (self.old.next < u64.MAX → result ≡ Err (PushFault.NoMemory item)) }
         ensures roomy { 0 < self.old.spare → self.old.next < u64.MAX → IsOk result }
         ensures spare { self.old.spare ≤ self.new.spare + 1 }
         ensures err { OnErr result (self.new ≡ self.old) }
