@@ -4,7 +4,7 @@ use Rattle.std.specs.List.{filter, AllWithin}
 use Rattle.std.proofs.lemmas.Bool.{false≢true, cases_lt, ne_eqb, eq-eqb, lt-leb, le-leb}
 use Rattle.std.proofs.lemmas.List.{get_or_default, drop_more}
 use Rattle.copyup_core.specs.declared.slots.Slot.{Slot}
-use Rattle.copyup_core.specs.Holding.{value_at, with_value, without, first_from}
+use Rattle.copyup_core.specs.Holding.{value_at, with_item, without_item, first_from}
 use Rattle.copyup_core.specs.Slot.{numbered, numbered_item, contents_of, SlotsRise}
 
 module _ {V : Type 0} where
@@ -12,13 +12,13 @@ module _ {V : Type 0} where
   value_at-skip n m None l ne = refl
   value_at-skip n m (Some v) l ne = rw (ne_eqb m n ne)
 
-  with_value-skip : (n m : ℕ) (v : V) (o : Option V) (l : List (ℕ × V)) → m ≢ n → with_value n v (numbered m o ++ l) ≡ numbered m o ++ with_value n v l
-  with_value-skip n m v None l ne = refl
-  with_value-skip n m v (Some w) l ne = rw (ne_eqb m n ne)
+  with_item-skip : (n m : ℕ) (v : V) (o : Option V) (l : List (ℕ × V)) → m ≢ n → with_item n v (numbered m o ++ l) ≡ numbered m o ++ with_item n v l
+  with_item-skip n m v None l ne = refl
+  with_item-skip n m v (Some w) l ne = rw (ne_eqb m n ne)
 
-  without-skip : (n m : ℕ) (o : Option V) (l : List (ℕ × V)) → m ≢ n → without n (numbered m o ++ l) ≡ numbered m o ++ without n l
-  without-skip n m None l ne = refl
-  without-skip n m (Some w) l ne = rw (ne_eqb m n ne)
+  without_item-skip : (n m : ℕ) (o : Option V) (l : List (ℕ × V)) → m ≢ n → without_item n (numbered m o ++ l) ≡ numbered m o ++ without_item n l
+  without_item-skip n m None l ne = refl
+  without_item-skip n m (Some w) l ne = rw (ne_eqb m n ne)
 
   first_from-skip : (n m : ℕ) (o : Option V) (l : List (ℕ × V)) → m < n → first_from n (numbered m o ++ l) ≡ first_from n l
   first_from-skip n m None l lt = refl
@@ -80,20 +80,20 @@ module _ {V : Type 0} where
       value_at-skip n x.number x.item (contents_of xs) (λ q. absurd (omega arith)) ∙ value_at-slot n (x.number + 1) high xs i d r.1 (omega arith) e
 
   -- a new value at a live slot
-  pub contents-replace : (n low high : ℕ) (xs : List (Slot V)) (i : ℕ) (y : Slot V) (v w : V) → SlotsRise low high xs → i < length xs → (get_or xs i y).number ≡ n → (get_or xs i y).item ≡ Some w → y.number ≡ n → y.item ≡ Some v → contents_of (set xs i y) ≡ with_value n v (contents_of xs)
+  pub contents-replace : (n low high : ℕ) (xs : List (Slot V)) (i : ℕ) (y : Slot V) (v w : V) → SlotsRise low high xs → i < length xs → (get_or xs i y).number ≡ n → (get_or xs i y).item ≡ Some w → y.number ≡ n → y.item ≡ Some v → contents_of (set xs i y) ≡ with_item n v (contents_of xs)
   contents-replace n low high [] i y v w r h e l f g = absurd (omega arith)
   contents-replace n low high (x ∷ xs) zero y v w r h e l f g = rw (g, l, f, eq-eqb x.number n e)
   contents-replace n low high (x ∷ xs) (suc i) y v w r h e l f g =
       let b = SlotsRise-low (x.number + 1) high xs i y r.1 (omega arith) in
-      ap (λ t. numbered_item x ++ t) (contents-replace n (x.number + 1) high xs i y v w r.1 (omega arith) e l f g) ∙ sym (with_value-skip n x.number v x.item (contents_of xs) (λ q. absurd (omega arith)))
+      ap (λ t. numbered_item x ++ t) (contents-replace n (x.number + 1) high xs i y v w r.1 (omega arith) e l f g) ∙ sym (with_item-skip n x.number v x.item (contents_of xs) (λ q. absurd (omega arith)))
 
   -- a live slot goes dead
-  pub contents-remove : (n low high : ℕ) (xs : List (Slot V)) (i : ℕ) (y : Slot V) (w : V) → SlotsRise low high xs → i < length xs → (get_or xs i y).number ≡ n → (get_or xs i y).item ≡ Some w → y.item ≡ None → contents_of (set xs i y) ≡ without n (contents_of xs)
+  pub contents-remove : (n low high : ℕ) (xs : List (Slot V)) (i : ℕ) (y : Slot V) (w : V) → SlotsRise low high xs → i < length xs → (get_or xs i y).number ≡ n → (get_or xs i y).item ≡ Some w → y.item ≡ None → contents_of (set xs i y) ≡ without_item n (contents_of xs)
   contents-remove n low high [] i y w r h e l g = absurd (omega arith)
   contents-remove n low high (x ∷ xs) zero y w r h e l g = rw (g, l, eq-eqb x.number n e)
   contents-remove n low high (x ∷ xs) (suc i) y w r h e l g =
       let b = SlotsRise-low (x.number + 1) high xs i y r.1 (omega arith) in
-      ap (λ t. numbered_item x ++ t) (contents-remove n (x.number + 1) high xs i y w r.1 (omega arith) e l g) ∙ sym (without-skip n x.number x.item (contents_of xs) (λ q. absurd (omega arith)))
+      ap (λ t. numbered_item x ++ t) (contents-remove n (x.number + 1) high xs i y w r.1 (omega arith) e l g) ∙ sym (without_item-skip n x.number x.item (contents_of xs) (λ q. absurd (omega arith)))
 
   -- the place of n holds another number, or is past the end
   pub value_at-missed : (n low high : ℕ) (xs : List (Slot V)) (i : ℕ) (d : Slot V) → SlotsRise low high xs → AllWithin (λ s. s.number < n) xs 0 i → AllWithin (λ s. n ≤ s.number) xs i (length xs) → (i < length xs → (get_or xs i d).number ≢ n) → value_at n (contents_of xs) ≡ None

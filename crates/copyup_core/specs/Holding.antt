@@ -36,11 +36,11 @@ first_from n [] = None
 first_from n (e ∷ es) = if nat_le n e.0 then Some e else first_from n es
 
 -- the items, with value v at number n
-abbrev pub with_value : {V : Type 0} → ℕ → V → List (ℕ × V) → List (ℕ × V)
-with_value n v [] = []
-with_value n v (e ∷ es) = if e.0 == n then (n, v) ∷ es else e ∷ with_value n v es
+abbrev pub with_item : {V : Type 0} → ℕ → V → List (ℕ × V) → List (ℕ × V)
+with_item n v [] = []
+with_item n v (e ∷ es) = if e.0 == n then (n, v) ∷ es else e ∷ with_item n v es
 
 -- the items but the one numbered n
-abbrev pub without : {V : Type 0} → ℕ → List (ℕ × V) → List (ℕ × V)
-without n [] = []
-without n (e ∷ es) = if e.0 == n then es else e ∷ without n es
+abbrev pub without_item : {V : Type 0} → ℕ → List (ℕ × V) → List (ℕ × V)
+without_item n [] = []
+without_item n (e ∷ es) = if e.0 == n then es else e ∷ without_item n es

@@ -4,6 +4,6 @@ use Rattle.copyup_core.specs.declared.slots.Slot.{Slot}
 use Rattle.copyup_core.specs.Slot.{SlotsRise, contents_of}
 
 -- the numbers of the slots rise and are below the next one, and the items are counted
-pub record IsSound {V : Type 0} (xs : List (Slot V)) (next len : ℕ) : Type 0 where
+pub record IsSoundStore {V : Type 0} (xs : List (Slot V)) (next len : ℕ) : Type 0 where
   pub rises : SlotsRise 0 next xs
   pub counted : len ≡ length (contents_of xs)

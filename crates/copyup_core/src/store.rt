@@ -30,7 +30,7 @@ impl<V: Drop> Model for Store<V> {
     ghost coded = { holding_code V.code };
 
     ghost use Rattle.copyup_core.specs.Slot.{contents_of};
-    ghost use Rattle.copyup_core.specs.Sound.{IsSound};
+    ghost use Rattle.copyup_core.specs.Sound.{IsSoundStore};
 
     ghost view = { λ s. record {
       contents = contents_of s.slots.items;
@@ -38,7 +38,7 @@ impl<V: Drop> Model for Store<V> {
       spare = s.slots.cap - s.slots.len;
     } };
 
-    ghost invariant = { λ s. IsSound s.slots.items s.next s.len };
+    ghost invariant = { λ s. IsSoundStore s.slots.items s.next s.len };
 }
 
 impl<V: Drop> Store<V> {

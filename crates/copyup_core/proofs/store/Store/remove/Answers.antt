@@ -1,11 +1,11 @@
 use Rattle.std.proofs.Common.{sym, ◌∙◌, refl, None}
-use Rattle.copyup_core.proofs.Soundness.{found, sound-taken, contents-taken, without_absent, same_holding}
+use Rattle.copyup_core.proofs.Soundness.{found, sound-taken, contents-taken, without_item-absent, same_holding}
 use Rattle.copyup_core.proofs.store.Store.remove.Goals as goal
 
 pub returns-in_default-clause-same : goal.returns-in_default-clause-same
 returns-in_default-clause-same g c =
     let absent = rw c.as_slice.ensures.value at c.in_default.ensures.item in
-    rw (← c.self.view_is) (same_holding _ _ _ _ (sym (without_absent c.args.number _ absent)))
+    rw (← c.self.view_is) (same_holding _ _ _ _ (sym (without_item-absent c.args.number _ absent)))
 
 pub invariant_of-self : goal.invariant_of-self
 invariant_of-self g c =
