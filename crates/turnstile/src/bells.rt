@@ -1,5 +1,5 @@
 //! Where those who wait for their turn sleep.
-ghost use Rattle.std.specs.Prelude.{◌≡◌, ◌<◌};
+ghost use Rattle.std.specs.Prelude.{◌≡◌, ◌<◌, ◌≤◌, ◌^◌};
 
 use atomic_table::{Play, Table, TableRule};
 use base_core::NoMemory;
@@ -15,8 +15,11 @@ const UNSET: u64 = 0;
 /// A bell at which one may sleep.
 const SET: u64 = 1;
 
-/// So often the next in line looks before it sleeps: about as long as a wake takes.
-const LOOKS: u32 = 200;
+/// So near its turn one looks before it sleeps.
+const NEAR: u64 = 2;
+
+/// So often it looks: about as long as a wake takes.
+const LOOKS: u32 = 400;
 
 /// A row of words, each of which says whether one may sleep at it. A ticket's bell goes by its
 /// number: tickets that are out at one time follow one another, and are no more than the passes, so
@@ -62,8 +65,18 @@ impl Bells {
             .swap_new_seat::<Unruled>(bell(ticket), word);
     }
 
+    /// Wakes those who may sleep at the bells of this ticket and of the next two, so that each is
+    /// awake by the time that it is near its turn.
+    pub(crate) fn ring_from(&self, ticket: u64)
+        requires { ticket ≤ 2 ^ 62 }
+    {
+        for ahead in 0..=NEAR {
+            self.ring(ticket + ahead);
+        }
+    }
+
     /// Wakes the one who may sleep at the ticket's bell, if there is one.
-    pub(crate) fn ring(&self, ticket: u64) {
+    fn ring(&self, ticket: u64) {
         if self.table.shared.peek(bell(ticket)) == SET {
             self.put(ticket, UNSET);
             self.table.shared.wake_one(bell(ticket));
@@ -89,11 +102,11 @@ impl Waiter {
         }
     }
 
-    /// What it does after it found `serving` in the served word. The next in line looks again, if
+    /// What it does after it found `serving` in the served word. One who is near looks again, if
     /// it may. Any other sets its bell, looks once more, and then sleeps until that is rung. It may
     /// also wake for no reason.
     pub(crate) fn pause<R: Wait>(&mut self, rt: &R, bells: &Bells, serving: u64) {
-        if self.looks > 0 && self.ticket.saturating_sub(serving) <= 1 {
+        if self.looks > 0 && self.ticket.saturating_sub(serving) <= NEAR {
             self.looks -= 1;
             spin_loop();
         } else if self.set {

@@ -32,11 +32,12 @@
 //! **How it works.** There are two words and one slot. The ticket word counts the turns drawn, the
 //! served word says which turn is served, and the slot has the object. A turn raises the ticket
 //! word by one, and what it found there is its ticket. It reads the served word until that is its
-//! ticket. Meanwhile the next in line looks for about as long as a wake takes, and then sleeps, as
-//! all others do at once, each at its bell, one of a row of words that mean nothing to the rule.
-//! Then it takes the object out of the slot, lets it act, gives it back, raises the served word by
-//! one, and rings the bells of the next two tickets: the second so that it is awake by the time it
-//! is next. The stretch between taking the object and giving it back is the event, and its entry
+//! ticket. Meanwhile one whose turn is at most two away looks for some microseconds, about as long
+//! as a wake takes, and then sleeps, as all others do at once, each at its bell, one of a row of
+//! words that mean nothing to the rule. Then it takes the object out of the slot, lets it act, gives
+//! it back, raises the served word by one, and rings the bells of the next three tickets, so that
+//! each is awake by the time that it is near its turn. The stretch between taking the object and
+//! giving it back is the event, and its entry
 //! joins the history as the served word rises. No other lock stands beside it, and between two
 //! calls a pass holds neither a ticket nor the object.
 //!

@@ -176,9 +176,8 @@ impl<O: Object> Turnstile<O> {
         let mut object = self.take(rt, &mut pass.seat, ticket);
         let reply = object.act(pass.number, ask);
         self.end(&mut pass.seat, object);
-        // the one after the next is awake by the time it is next
-        self.bells.ring(ticket + 1);
-        self.bells.ring(ticket + 2);
+        // those who are near are awake by the time of their turn
+        self.bells.ring_from(ticket + 1);
         Ok(reply)
     }
 
