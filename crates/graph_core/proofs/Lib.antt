@@ -1,0 +1,4 @@
+pub mod MarkedLemmas
+pub mod SoundLemmas
+pub mod PruningLemmas
+pub mod NamedLemmas

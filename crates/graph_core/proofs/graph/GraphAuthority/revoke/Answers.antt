@@ -1,0 +1,17 @@
+use Rattle.std.proofs.Common.{sym, subst, refl, List}
+use Rattle.grants_core.specs.declared.grant.Grant.{Grant}
+use Rattle.graph_core.proofs.MarkedLemmas.{AreMarked}
+use Rattle.graph_core.proofs.SoundLemmas.{AreMarked-revoked, same_content}
+use Rattle.graph_core.proofs.graph.GraphAuthority.revoke.Goals as goal
+
+pub invariant_of-self : goal.invariant_of-self
+invariant_of-self c =
+    let Marked : List Grant → Type 0 = λ k. AreMarked c.self.inside.owners k in
+    record {
+      in_order = c.revoke.ensures.in_order;
+      supported = c.revoke.ensures.supported;
+      marked = subst Marked (sym c.revoke.ensures.valid) (AreMarked-revoked c.self.inside.owners c.self.inside.edges.edges c.args.by c.args.atoms.now c.args.whom.now c.self.invariant.marked);
+    }
+
+pub returns : goal.returns
+returns c = rw (← c.self.view_is) (same_content _ _ _ _ _ _ refl c.revoke.ensures.valid c.revoke.ensures.next)

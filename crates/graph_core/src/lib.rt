@@ -1,0 +1,57 @@
+//! The grants in force as a graph: users, and an edge from grantor to grantee for each grant.
+//!
+//! [`Graph`] is an [`Authority`](grants_core::Authority), and that is its one contract: contracts
+//! see owners, the grants in force, and how many were ever made. After any creations, grants and
+//! revocations its edges are exactly the grants that the replay of all of them would find valid
+//! (Griffiths and Wade 1976, Fagin 1978), though a revocation replays nothing.
+//!
+//! ```text
+//! let mut rights = Graph::new(alloc);
+//! rights.create(t, o)?;
+//! rights.grant(o, &[select], &[a], true, Moment(2))?;
+//! rights.grant(a, &[select], &[b], false, Moment(3))?;
+//! rights.revoke(o, &[select], &[a]);
+//! rights.holds(b, &select)                                // false: a could not have granted it
+//! ```
+//!
+//! # Mechanism
+//!
+//! Each edge has the moment at which it was made. It stands as long as its grantor owns the table,
+//! or received an edge of the same privilege with the option at an earlier moment. A revocation
+//! takes the edges out that it names. Then their grantees are pruned: a user's first edge of the
+//! privilege falls if it has no such support, and its grantee is pruned in turn, by recursion; then
+//! the user's next edge is the first. As the support of a user's edges depends on their moments
+//! alone, the first that has support ends it: the later ones have it too.
+//!
+//! Here o owns the table, and the numbers are moments. With o's grant to a revoked, the edge of
+//! moment 4 falls, since c had nothing to grant before 5, and that of moment 6 is held by b's:
+//!
+//! ```text
+//!          2       3       4                                        4
+//!      ┌──────▶ a ────▶ c ────▶ d              o        a       c  ╌╌▶  d
+//!      o                ▲ │                    │                ▲ │
+//!      └──────▶ b ──────┘ └───▶ d              └─────▶ b ───────┘ └───▶ d
+//!          2        5       6                     2         5       6
+//! ```
+//!
+//! That each edge stands by an earlier one, or by the owner, is in the type. It ends all cycles:
+//! users who grant to one another in a circle hold nothing once the edge falls that came first.
+//!
+//! # Cost
+//!
+//! With n the edges of one privilege (of the system at most 1,024):
+//!
+//! - `holds`, `may_grant`, `has_made` and `room` look the privilege up by a hash of its table, and
+//!   the user with the logarithm of n. Edges of other tables and grants that fell cost nothing.
+//! - `grant` makes its room first, and then adds each edge: a move of n ends of 40 bytes at most.
+//! - `revoke` costs that for each edge that falls, and one look-up for each user who is pruned and
+//!   for each pair of atom and user that is named. It takes no memory and never fails; it calls
+//!   itself at most as deep as there are edges of one privilege.
+//! - `in_force` goes over all edges.
+#![tactic(auto)]
+
+mod graph;
+mod prune;
+mod revocation;
+
+pub use graph::Graph;
