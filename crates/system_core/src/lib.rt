@@ -47,12 +47,12 @@
 //! # Cost
 //!
 //! Beside the rights, a CREATE TABLE or an INSERT is constant, amortised, and a SELECT, DELETE or UPDATE
-//! goes over the rows of its table once. Rights are kept in plain lists: a question after one goes over
-//! the owners and, of who is not the owner, over all grants that were ever made; a CREATE TABLE goes over
-//! the owners, a REVOKE replays all grants, and an audit the whole journal. A CHECKPOINT copies all rows and
-//! grants in force, and its steps count; an EXPORT asks two rights of each table and then costs what it
-//! writes. The journal keeps each change, the tables each row, the rights each grant, also what was
-//! revoked, and each checkpoint all rows and grants of its point.
+//! goes over the rows of its table once. A question after a right is a look-up of the owner and, of who
+//! is not the owner, of the privilege and then of the user among its grants in force, by halves. A REVOKE
+//! costs what falls, and an audit replays the whole journal. A CHECKPOINT copies all rows and grants in
+//! force, and its steps count; an EXPORT asks two rights of each table and then costs what it writes. The
+//! journal keeps each change, the tables each row, the rights each grant in force, and each checkpoint all
+//! rows and grants of its point.
 #![tactic(auto)]
 
 pub mod laws;

@@ -10,7 +10,8 @@ ghost use Rattle.system_core.specs.Carrying.{CanCarry, CanGrant, HasFewColumns, 
 
 use crate::machine::atoms::atoms_of;
 use base_core::{Column, Distinct, Moment, Name, NoMemory, Row, Sequence, User, twins_of};
-use grants_core::{Authority, Replay};
+use grants_core::Authority;
+use graph_core::Graph;
 use monitor_core::columns_of;
 use reader_core::{MAX_ITEMS, MAX_USERS, Privileges, Statement};
 use std::alloc::Global;
@@ -20,7 +21,7 @@ use tables_core::Tables;
 fn create(
     alloc: Global,
     tables: &mut Tables,
-    rights: &mut Replay,
+    rights: &mut Graph,
     user: &User,
     table: &Name,
     columns: &Distinct<Column, MAX_ITEMS>,
@@ -43,7 +44,7 @@ fn create(
 fn grant(
     alloc: Global,
     tables: &Tables,
-    rights: &mut Replay,
+    rights: &mut Graph,
     moment: Moment,
     user: User,
     privileges: &Privileges,
@@ -69,7 +70,7 @@ fn grant(
 fn revoke(
     alloc: Global,
     tables: &Tables,
-    rights: &mut Replay,
+    rights: &mut Graph,
     user: User,
     privileges: &Privileges,
     table: Name,
@@ -91,7 +92,7 @@ fn revoke(
 pub fn carry_out(
     alloc: Global,
     tables: &mut Tables,
-    rights: &mut Replay,
+    rights: &mut Graph,
     moment: Moment,
     user: User,
     statement: &Statement,

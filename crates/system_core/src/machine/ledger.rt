@@ -12,7 +12,8 @@ use crate::machine::carry::carry_out;
 use crate::machine::change::changes_of;
 use crate::machine::event::Entry;
 use base_core::{Column, Condition, Distinct, Lack, Limits, Moment, Name, NoMemory, Row, User};
-use grants_core::{Authority, Change, Replay, audit};
+use grants_core::{Authority, Change, audit};
+use graph_core::Graph;
 use monitor_core::{Allowed, columns_of, judge};
 use reader_core::{MAX_ITEMS, Statement};
 use std::alloc::{AllocError, Global};
@@ -26,7 +27,7 @@ pub struct Ledger {
     limits: Limits,
     journal: Vec<Entry>,
     tables: Tables,
-    rights: Replay,
+    rights: Graph,
 }
 
 impl Model for Ledger {
@@ -84,7 +85,7 @@ impl Ledger {
             limits,
             journal: Vec::new(alloc),
             tables: Tables::new(alloc),
-            rights: Replay::new(alloc),
+            rights: Graph::new(alloc),
         }
     }
 
@@ -122,7 +123,7 @@ impl Ledger {
     }
 
     /// The rights that the journal makes, but for owners of names that are no tables.
-    pub fn rights(&self) -> &Replay
+    pub fn rights(&self) -> &Graph
         ensures rights { AgreeOn (contents self.now.journal) result.now
             (rights_at self.now.journal) }
         ensures lawful { IsLawful self.now.limits self.now.journal }
