@@ -153,6 +153,22 @@ def many(program, check):
     check("many: the end", ended == (0, b"served 8\n", []), ended)
 
 
+def chain(program, check):
+    """As many grants as may be in force, each by the one before, fall in a worker's thread."""
+    server = Server(program, 1026)
+    answers = [talk(server, "USER own\nCREATE TABLE t (x INTEGER)\n")]
+    names = ["own"] + [f"u{n}" for n in range(1024)]
+    for by, to in zip(names, names[1:]):
+        answers.append(talk(server, f"USER {by}\nGRANT SELECT ON t TO {to} WITH GRANT OPTION\n"))
+    check("a chain stands", all("done @" in answer for answer in answers), answers[-3:])
+    seen = talk(server, "USER own\nREVOKE SELECT ON t FROM u0\nGRANT SELECT ON t TO u1\nREVOKE SELECT ON t FROM u1\n"
+        "REVOKE SELECT ON t FROM u1\n")
+    wanted = "welcome own\ndone @1026\ndone @1027\ndone @1028\ndenied @1028: own granted no SELECT on t to u1\n"
+    check("a chain falls", seen == wanted, seen)
+    ended = server.end()
+    check("a chain: the end", ended == (0, b"served 1026\n", []), ended)
+
+
 def taken_port(program, check):
     with socket.socket() as taken:
         taken.bind(("127.0.0.1", 0))

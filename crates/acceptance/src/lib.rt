@@ -19,6 +19,8 @@ mod loopback;
 #[cfg(test)]
 mod printer;
 #[cfg(test)]
+mod rights;
+#[cfg(test)]
 mod sessions;
 #[cfg(test)]
 mod slow;

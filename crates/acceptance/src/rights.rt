@@ -1,0 +1,205 @@
+//! The graph of grants beside the plain replay: changes by chance, told to both.
+use base_core::{Atom, Kind, Moment, Name, User};
+use grants_core::{Authority, Replay};
+use graph_core::Graph;
+use std::alloc::Global;
+use std::process::Abort;
+
+const USERS: &[u8] = b"abcdef";
+
+const TABLES: &[u8] = b"tv";
+
+const CHANGES: u64 = 150;
+
+/// Numbers by chance, the same ones for the same seed.
+#[derive(Drop)]
+struct Chance(u64);
+
+impl Chance {
+    fn next(&mut self) -> usize {
+        self.0 = self
+            .0
+            .wrapping_mul(6_364_136_223_846_793_005)
+            .wrapping_add(1_442_695_040_888_963_407);
+        (self.0 >> 33) as usize
+    }
+
+    fn name(&mut self, rt: &impl Abort, letters: &[u8]) -> Name {
+        let at = self
+            .next()
+            .checked_rem(letters.len())
+            .expect(rt, "a letter");
+        Name::read(&letters[at..at + 1]).expect(rt, "a name")
+    }
+
+    fn user(&mut self, rt: &impl Abort) -> User {
+        User(self.name(rt, USERS))
+    }
+
+    fn atom(&mut self, rt: &impl Abort) -> Atom {
+        let kind = if self.next() % 2 == 0 {
+            Kind::Select
+        } else {
+            Kind::Update(self.name(rt, b"c"))
+        };
+        Atom {
+            table: self.name(rt, TABLES),
+            kind,
+        }
+    }
+}
+
+/// Grants where the user may, at a moment after all others.
+fn grant<A: Authority>(
+    rt: &impl Abort,
+    rights: &mut A,
+    by: &User,
+    atom: &Atom,
+    user: &User,
+    option: bool,
+    at: u64,
+) {
+    let in_force = rights.in_force().expect(rt, "memory");
+    assert!(rt; in_force.iter().all(|grant| grant.moment.0 < at));
+    assert!(rt; rights.made() < 10_000);
+    if rights.may_grant(*by, atom) {
+        rights
+            .grant(*by, &[*atom], &[*user], option, Moment(at))
+            .expect(rt, "memory");
+    }
+}
+
+/// What is answered of two users and an atom.
+fn answers<A: Authority>(rights: &A, by: &User, user: &User, atom: &Atom) -> [bool; 4] {
+    let holds = rights.holds(*user, atom);
+    let may_grant = rights.may_grant(*user, atom);
+    let has_made = rights.has_made(*by, *user, atom);
+    let room = rights.room(atom, 1, 5);
+    [holds, may_grant, has_made, room]
+}
+
+/// Both have the same grants in force, of which it says how many there are.
+fn compare(rt: &impl Abort, graph: &Graph, replay: &Replay) -> usize {
+    let found = graph.in_force().expect(rt, "memory");
+    let wanted = replay.in_force().expect(rt, "memory");
+    assert!(rt; found.as_slice() == wanted.as_slice());
+    assert!(rt; graph.made() == replay.made());
+    found.len()
+}
+
+/// A revocation, or a grant with or without the option.
+fn tell<A: Authority>(
+    rt: &impl Abort,
+    rights: &mut A,
+    by: &User,
+    user: &User,
+    atom: &Atom,
+    kind: usize,
+    at: u64,
+) {
+    if kind % 3 == 0 {
+        rights.revoke(*by, &[*atom], &[*user]);
+    } else {
+        grant(rt, rights, by, atom, user, kind % 4 != 0, at);
+    }
+}
+
+/// A change by chance, of both; and both answer alike.
+fn change(rt: &impl Abort, graph: &mut Graph, replay: &mut Replay, chance: &mut Chance, at: u64) {
+    let kind = chance.next();
+    let by = chance.user(rt);
+    let user = chance.user(rt);
+    let atom = chance.atom(rt);
+    tell(rt, graph, &by, &user, &atom, kind, at);
+    tell(rt, replay, &by, &user, &atom, kind, at);
+    let found = answers(graph, &by, &user, &atom);
+    let wanted = answers(replay, &by, &user, &atom);
+    assert!(rt; found == wanted);
+}
+
+fn named(rt: &impl Abort, letter: u8) -> Name {
+    Name::read(&[letter]).expect(rt, "a name")
+}
+
+/// Two tables, of two owners.
+fn open(rt: &impl Abort, alloc: Global) -> (Graph, Replay) {
+    let mut graph = Graph::new(alloc);
+    let mut replay = Replay::new(alloc);
+    graph
+        .create(named(rt, b't'), User(named(rt, b'a')))
+        .expect(rt, "memory");
+    replay
+        .create(named(rt, b't'), User(named(rt, b'a')))
+        .expect(rt, "memory");
+    graph
+        .create(named(rt, b'v'), User(named(rt, b'b')))
+        .expect(rt, "memory");
+    replay
+        .create(named(rt, b'v'), User(named(rt, b'b')))
+        .expect(rt, "memory");
+    (graph, replay)
+}
+
+/// Plays changes by chance on both, and says how many grants were in force at the most and how often
+/// some fell.
+fn play(rt: &impl Abort, alloc: Global, seed: u64) -> (usize, usize) {
+    let (mut graph, mut replay) = open(rt, alloc);
+    let mut chance = Chance(seed);
+    let mut most = 0;
+    let mut falls = 0_usize;
+    let mut before = 0;
+    for at in 3..CHANGES {
+        change(rt, &mut graph, &mut replay, &mut chance, at);
+        let now = compare(rt, &graph, &replay);
+        if now < before {
+            falls = falls.saturating_add(1);
+        }
+        most = most.max(now);
+        before = now;
+    }
+    (most, falls)
+}
+
+#[test]
+fn graph_and_replay_agree(rt: HostRuntime) {
+    for seed in 1976..1980 {
+        let (most, falls) = play(&rt, rt.alloc(), seed);
+        assert!(&rt; most > 10 && falls > 5);
+    }
+}
+
+/// The user of this number, below 26^3.
+fn numbered(rt: &impl Abort, number: usize) -> User {
+    let letter = |part: usize| b'a'.wrapping_add((part % 26) as u8);
+    let letters = [
+        b'u',
+        letter(number / 676),
+        letter(number / 26),
+        letter(number),
+    ];
+    User(Name::read(&letters).expect(rt, "a name"))
+}
+
+/// As many as may be in force of one privilege fall at once, and each by the one before.
+#[test]
+fn a_chain_falls(rt: HostRuntime) {
+    let mut graph = Graph::new(rt.alloc());
+    let owner = User(named(&rt, b'o'));
+    let atom = Atom {
+        table: named(&rt, b't'),
+        kind: Kind::Select,
+    };
+    graph
+        .create(named(&rt, b't'), User(named(&rt, b'o')))
+        .expect(&rt, "memory");
+    grant(&rt, &mut graph, &owner, &atom, &numbered(&rt, 0), true, 2);
+    for number in 1..1024 {
+        let by = numbered(&rt, number - 1);
+        let user = numbered(&rt, number);
+        grant(&rt, &mut graph, &by, &atom, &user, true, number as u64 + 2);
+    }
+    assert!(&rt; graph.made() == 1024);
+    assert!(&rt; !graph.room(&atom, 1, 1024) && graph.room(&atom, 0, 1024));
+    graph.revoke(User(named(&rt, b'o')), &[atom], &[numbered(&rt, 0)]);
+    assert!(&rt; graph.in_force().expect(&rt, "memory").is_empty());
+}
