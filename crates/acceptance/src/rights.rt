@@ -5,11 +5,11 @@ use graph_core::Graph;
 use std::alloc::Global;
 use std::process::Abort;
 
-const USERS: &[u8] = b"abcdef";
+const USERS: &[u8] = b"abcd";
 
 const TABLES: &[u8] = b"tv";
 
-const CHANGES: u64 = 150;
+const CHANGES: u64 = 300;
 
 /// Numbers by chance, the same ones for the same seed.
 #[derive(Drop)]
@@ -121,31 +121,23 @@ fn named(rt: &impl Abort, letter: u8) -> Name {
     Name::read(&[letter]).expect(rt, "a name")
 }
 
-/// Two tables, of two owners.
-fn open(rt: &impl Abort, alloc: Global) -> (Graph, Replay) {
+/// Two tables, of these owners.
+fn open(rt: &impl Abort, alloc: Global, first: &User, second: &User) -> (Graph, Replay) {
     let mut graph = Graph::new(alloc);
     let mut replay = Replay::new(alloc);
-    graph
-        .create(named(rt, b't'), User(named(rt, b'a')))
-        .expect(rt, "memory");
-    replay
-        .create(named(rt, b't'), User(named(rt, b'a')))
-        .expect(rt, "memory");
-    graph
-        .create(named(rt, b'v'), User(named(rt, b'b')))
-        .expect(rt, "memory");
-    replay
-        .create(named(rt, b'v'), User(named(rt, b'b')))
-        .expect(rt, "memory");
+    graph.create(named(rt, b't'), *first).expect(rt, "memory");
+    replay.create(named(rt, b't'), *first).expect(rt, "memory");
+    graph.create(named(rt, b'v'), *second).expect(rt, "memory");
+    replay.create(named(rt, b'v'), *second).expect(rt, "memory");
     (graph, replay)
 }
 
-/// Plays changes by chance on both, and says how many grants were in force at the most and how often
-/// some fell.
-fn play(rt: &impl Abort, alloc: Global, seed: u64) -> (usize, usize) {
-    let (mut graph, mut replay) = open(rt, alloc);
+/// Plays changes by chance on both, of tables with owners by chance, and says how often grants fell.
+fn play(rt: &impl Abort, alloc: Global, seed: u64) -> usize {
     let mut chance = Chance(seed);
-    let mut most = 0;
+    let first = chance.user(rt);
+    let second = chance.user(rt);
+    let (mut graph, mut replay) = open(rt, alloc, &first, &second);
     let mut falls = 0_usize;
     let mut before = 0;
     for at in 3..CHANGES {
@@ -154,18 +146,18 @@ fn play(rt: &impl Abort, alloc: Global, seed: u64) -> (usize, usize) {
         if now < before {
             falls = falls.saturating_add(1);
         }
-        most = most.max(now);
         before = now;
     }
-    (most, falls)
+    falls
 }
 
 #[test]
 fn graph_and_replay_agree(rt: HostRuntime) {
+    let mut falls = 0_usize;
     for seed in 1976..1980 {
-        let (most, falls) = play(&rt, rt.alloc(), seed);
-        assert!(&rt; most > 10 && falls > 5);
+        falls = falls.saturating_add(play(&rt, rt.alloc(), seed));
     }
+    assert!(&rt; falls > 100);
 }
 
 /// The user of this number, below 26^3.
