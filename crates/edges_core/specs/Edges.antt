@@ -26,6 +26,7 @@ made_by user atom g = same_user g.grantor user && same_atom g.atom atom
 abbrev pub numbered_as : List Grant → List (ℕ × Grant)
 numbered_as edges = map (λ g. (g.number, g)) edges
 
+-- the edges of a store
 abbrev pub edges_in : List (ℕ × Grant) → List Grant
 edges_in contents = map (λ p. p.1) contents
 
@@ -42,13 +43,16 @@ grantee_of g = g.grantee
 
 -- an index lists for each privilege and user the numbers of exactly the edges that end there, in
 -- order, and for each privilege as many ends as there are edges of it
-pub record Agrees {S : Type 0} (index : IndexMap Key Held S) (end : Grant → User) (edges : List Grant) : Type 0 where
-  pub at : (atom : Atom) (user : User) → numbers index atom user ≡ map (λ g. g.number) (filter (ends_at end atom user) edges)
+pub record Agrees {S : Type 0} (index : IndexMap Key Held S) (end : Grant → User)
+    (edges : List Grant) : Type 0 where
+  pub at : (atom : Atom) (user : User)
+      → numbers index atom user ≡ map (λ g. g.number) (filter (ends_at end atom user) edges)
   pub counted : (atom : Atom) → count index atom ≡ count_of edges atom
 
 -- each edge stands under its own number, numbers rise and are below the next, and both indexes
 -- agree with the edges
-pub record IsKept {S : Type 0} (contents : List (ℕ × Grant)) (next : ℕ) (received given : IndexMap Key Held S) : Type 0 where
+pub record IsKept {S : Type 0} (contents : List (ℕ × Grant)) (next : ℕ)
+    (received given : IndexMap Key Held S) : Type 0 where
   pub own : contents ≡ numbered_as (edges_in contents)
   pub numbered : IsNumbered next (edges_in contents)
   pub received_at : Agrees received grantee_of (edges_in contents)
@@ -72,6 +76,7 @@ abbrev pub passes : (Grant → Bool) → Option Grant → Bool
 passes test None = false
 passes test (Some g) = test g
 
+-- whether the edge of this number is there, and passes the test
 abbrev pub passes_at : (Grant → Bool) → List (ℕ × Grant) → ℕ → Bool
 passes_at test contents n = passes test (value_at n contents)
 

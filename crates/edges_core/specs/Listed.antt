@@ -8,6 +8,7 @@ use Rattle.edges_core.specs.declared.key.Key.{Key}
 use Rattle.edges_core.specs.Keys.{same_key}
 use Rattle.edges_core.specs.Ends.{Held, numbers_at}
 
+-- the ends of a list, and its room, if there is one
 abbrev pub ends_of : Option Held → List End
 ends_of None = []
 ends_of (Some held) = held.ends

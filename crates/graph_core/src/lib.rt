@@ -41,7 +41,7 @@
 //!
 //! With n the edges of one privilege (of the system at most 1,024):
 //!
-//! - `holds`, `may_grant`, `has_made` and `room` look the privilege up by a hash of its table, and
+//! - `holds`, `may_grant`, `has_made` and `room` look the privilege up by hash, and
 //!   the user with the logarithm of n. Edges of other tables and grants that fell cost nothing.
 //! - `grant` makes its room first, and then adds each edge: a move of n ends of 40 bytes at most.
 //! - `revoke` costs that for each edge that falls, and one look-up for each user who is pruned and
