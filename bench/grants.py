@@ -105,14 +105,16 @@ def theirs(place, edges, privilege):
     (user, folder), work = place
     names = sorted({name for edge in edges for name in edge})
     listed = privilege if privilege == "SELECT" else f"{privilege} ({', '.join(COLUMNS)})"
-    script = ["CREATE SCHEMA IF NOT EXISTS s;", "GRANT ALL ON SCHEMA s TO PUBLIC;", "SET search_path = s;"]
+    script = ["SET client_min_messages = warning;", "CREATE SCHEMA IF NOT EXISTS s;"]
+    script += ["GRANT ALL ON SCHEMA s TO PUBLIC;", "SET search_path = s;"]
     script += [f"CREATE ROLE {name};" for name in names]
     script += [f"CREATE TABLE t ({', '.join(f'{name} integer' for name in COLUMNS)});", "ALTER TABLE t OWNER TO own;"]
     for _ in range(ROUNDS):
         script += [
             f"SET ROLE {by}; GRANT {listed} ON t TO {to} WITH GRANT OPTION; RESET ROLE;" for by, to in edges
         ]
-        script += ["SET ROLE own;", "\\timing on", f"REVOKE {listed} ON t FROM u0 CASCADE;", "\\timing off", "RESET ROLE;"]
+        script += ["SET ROLE own;", "\\timing on", f"REVOKE {listed} ON t FROM u0 CASCADE;"]
+        script += ["\\timing off", "RESET ROLE;"]
     script += ["DROP TABLE t;"] + [f"DROP OWNED BY {name}; DROP ROLE {name};" for name in names]
     words = [*user, f"{folder}/psql", "-q", "-h", work, "-U", "postgres", "postgres", "-v", "ON_ERROR_STOP=1"]
     done = subprocess.run(words, input="\n".join(script), stdout=subprocess.PIPE, text=True, check=True)
@@ -121,7 +123,8 @@ def theirs(place, edges, privilege):
 
 
 def shapes(program):
-    with tempfile.TemporaryDirectory() as work, running(work, "-c fsync=off -c max_locks_per_transaction=2000") as place:
+    settings = "-c fsync=off -c max_locks_per_transaction=2000"
+    with tempfile.TemporaryDirectory() as work, running(work, settings) as place:
         for name, (edges, privilege) in SHAPES.items():
             found = f"REVOKE, {name}: {ours(program, edges, privilege):,.0f} us"
             if place:
