@@ -127,7 +127,7 @@ def shapes(program):
     with tempfile.TemporaryDirectory() as work, running(work, settings) as place:
         for name, (edges, privilege) in SHAPES.items():
             found = f"REVOKE, {name}: {ours(program, edges, privilege):,.0f} us"
-            if place:
+            if place and "cycle" not in name:  # PostgreSQL refuses a grant back to its grantor
                 found += f", PostgreSQL {theirs((place, work), edges, privilege):,.0f} us"
             print(found, flush=True)
 
