@@ -1,4 +1,5 @@
 pub mod Numbers
+pub mod Sums
 pub mod Words
 pub mod Marks
 pub mod Chars
