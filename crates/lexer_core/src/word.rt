@@ -16,7 +16,14 @@ pub fn word_len(bytes: &[u8]) -> usize
     ensures len { result ≡ prefix_len is_word_byte bytes.now }
     ensures within { result ≤ length bytes.now }
 {
-    bytes.iter().take_while(|byte| is_word_byte(**byte)).count()
+    let mut len = 0;
+    while len < bytes.len() {
+        if !is_word_byte(bytes[len]) {
+            return len;
+        }
+        len += 1;
+    }
+    len
 }
 
 /// The keyword or the name that stands first.
