@@ -1,3 +1,5 @@
+pub mod Capitals
+pub mod EachByte
 pub mod Filled
 pub mod Folded
 pub mod Initials

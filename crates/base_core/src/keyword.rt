@@ -1,8 +1,13 @@
 //! The reserved words.
 
-ghost use Rattle.std.specs.Prelude.{◌≡◌, map};
-ghost use Rattle.std.specs.List.{filter, find};
-ghost use Rattle.base_core.specs.Words.{all_keywords, begins_with, text_of, is_spelled_by, keyword_of};
+ghost use Rattle.std.specs.Prelude.{◌≡◌, true, map};
+ghost use Rattle.std.specs.List.{filter, find, list_all};
+ghost use Rattle.std.specs.Str.{bytes_eq};
+ghost use Rattle.std.specs.Char.{is_ascii_uppercase};
+ghost use Rattle.base_core.specs.Words.{all_keywords, begins_with, folded, text_of, is_spelled_by, keyword_of};
+
+/// All bits but the one by which a small letter differs from its capital.
+const CAPITAL_BITS: u8 = 0xDF;
 
 #[derive(Clone, Copy, PartialEq, Eq)]
 pub enum Keyword {
@@ -70,7 +75,7 @@ impl Keyword {
     fn is_spelled(self, word: &[u8]) -> bool
         ensures { result ≡ is_spelled_by word.now self }
     {
-        self.text().as_bytes().eq_ignore_ascii_case(word)
+        spells(word, self.text().as_bytes())
     }
 
     /// The keyword that a word spells, in any case.
@@ -80,6 +85,23 @@ impl Keyword {
         let initial = word.first()?.to_ascii_lowercase();
         first_spelled(beginning_with(initial), word)
     }
+}
+
+/// Whether a word in any case spells these capitals: a byte without the bit that makes a letter
+/// small is a capital only where it is that letter.
+fn spells(word: &[u8], capitals: &[u8]) -> bool
+    requires { list_all is_ascii_uppercase capitals.now ≡ true }
+    ensures { result ≡ bytes_eq (folded capitals.now) (folded word.now) }
+{
+    if word.len() != capitals.len() {
+        return false;
+    }
+    for i in 0..word.len() {
+        if word[i] & CAPITAL_BITS != capitals[i] {
+            return false;
+        }
+    }
+    true
 }
 
 /// The keywords that begin with a small letter: three at most, so that a word is compared with few.
