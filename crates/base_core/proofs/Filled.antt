@@ -1,6 +1,6 @@
 -- A name's bytes, put in place.
-use Rattle.std.proofs.Common.{◌≡◌, ℕ, zero, suc, ◌-◌, ◌+◌, ◌≤◌, List, ◌∷◌, ◌++◌, length, map, take, drop, replicate, refl, sym, ◌∙◌, ap, arith}
-use Rattle.std.proofs.lemmas.List.{replicate-append-replicate, length-replicate, drop_at, take_at, length-append, length-map, map-append}
+use Rattle.std.proofs.Common.{◌≡◌, ℕ, ◌-◌, ◌+◌, ◌≤◌, List, ◌++◌, length, map, take, drop, replicate, sym, ◌∙◌, ap, arith}
+use Rattle.std.proofs.lemmas.List.{replicate-append-replicate, length-replicate, drop_at, take_at, length-append, length-map}
 use Rattle.std.specs.Char.{to_ascii_lowercase}
 use Rattle.base_core.specs.Named.{IsPadded}
 
@@ -10,24 +10,15 @@ len_zeros n = length-replicate n (let z : ℕ = 0 in z)
 abbrev pub zeros : ℕ → List ℕ
 zeros n = replicate n 0
 
-lower_zeros : (n : ℕ) → map to_ascii_lowercase (zeros n) ≡ zeros n
-lower_zeros zero = refl
-lower_zeros (suc n) = ap (λ (r : List ℕ). 0 ∷ r) (lower_zeros n)
-
 some_zeros : (n : ℕ) → n ≤ 30 → drop n (zeros 30) ≡ zeros (30 - n)
 some_zeros n h =
     let e : n + (30 - n) ≡ 30 = omega arith in
     ap (λ (k : ℕ). drop n (zeros k)) (sym e)
     ∙ (ap (drop n) (sym (replicate-append-replicate n (30 - n) (let z : ℕ = 0 in z))) ∙ drop_at (zeros n) (zeros (30 - n)) n (length-replicate n (let z : ℕ = 0 in z)))
 
-module _ (word : List ℕ) (m : ℕ) (w bytes : List ℕ) (e : bytes ≡ map to_ascii_lowercase (w ++ drop m (zeros 30))) (same : w ≡ word) (at : m ≡ length word) (h : length word ≤ 30) where
+module _ (word bytes : List ℕ) (e : bytes ≡ map to_ascii_lowercase word ++ drop (length word) (zeros 30)) (h : length word ≤ 30) where
   laid : bytes ≡ map to_ascii_lowercase word ++ zeros (30 - length word)
-  laid =
-      e ∙ (ap (λ (k : ℕ). map to_ascii_lowercase (w ++ drop k (zeros 30))) at
-      ∙ (ap (λ (u : List ℕ). map to_ascii_lowercase (u ++ drop (length word) (zeros 30))) same
-      ∙ (ap (λ (z : List ℕ). map to_ascii_lowercase (word ++ z)) (some_zeros (length word) h)
-      ∙ (map-append to_ascii_lowercase word (zeros (30 - length word))
-      ∙ ap (λ (z : List ℕ). map to_ascii_lowercase word ++ z) (lower_zeros (30 - length word))))))
+  laid = e ∙ ap (λ (z : List ℕ). map to_ascii_lowercase word ++ z) (some_zeros (length word) h)
 
   pub filled : IsPadded record { len = length word; bytes = bytes }
   filled = record {

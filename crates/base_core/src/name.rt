@@ -88,8 +88,9 @@ impl Name {
         ensures { result ≡ folded word.now }
     {
         let mut bytes = [0; MAX_NAME];
-        bytes[..word.len()].copy_from_slice(word);
-        bytes.make_ascii_lowercase();
+        let front = &mut bytes[..word.len()];
+        front.copy_from_slice(word);
+        front.make_ascii_lowercase();
         Name {
             len: word.len() as u8,
             bytes,
