@@ -3,3 +3,5 @@ pub mod ContentsLemmas
 pub mod NumberLemmas
 pub mod FittingLemmas
 pub mod ColumnLemmas
+pub mod ResolvedLemmas
+pub mod CellLemmas

@@ -1,13 +1,15 @@
 //! Work on the rows of one table.
-ghost use Rattle.std.specs.Prelude.{◌≡◌, ◌↔◌, IfOk, OnOk, OnErr, IsTrue, replicate, count_by, map, filter, not};
+ghost use Rattle.std.specs.Prelude.{◌≡◌, ◌↔◌, IfOk, IsTrue, map, filter, not};
 ghost use Rattle.std.specs.List.{list_all, zip};
+ghost use Rattle.std.specs.Option.{option_copied};
+ghost use Rattle.base_core.specs.Filter.{at_index};
 ghost use Rattle.base_core.specs.Values.{has_type};
-ghost use Rattle.tables_core.specs.Contents.{satisfies, projected_values, assigned_values, updated_row};
+ghost use Rattle.tables_core.specs.Contents.{satisfies, projected_values};
 ghost use Rattle.tables_core.specs.Fitting.{ValuesFit, assignment_fits};
 
+use crate::resolved::Resolved;
 use base_core::{
-    Assignment, Column, Condition, Name, NoMemory, Row, Sequence, Twin, Value, cell, column_index,
-    is_chosen, twins_of,
+    Assignment, Column, Condition, Name, NoMemory, Row, Sequence, Twin, Value, column_index,
 };
 use std::alloc::Global;
 
@@ -51,34 +53,22 @@ pub fn assignments_fit(columns: &[Column], sets: &[Assignment]) -> bool
     sets.iter().all(|set| assignment_fits(columns, set))
 }
 
-/// Whether the filter chooses a row of these columns.
-pub fn chooses(columns: &[Column], filter: &[Condition], numbered: &NumberedRow) -> bool
-    ensures { result ≡ satisfies columns.now filter.now numbered.now }
+/// The value of a row at this index. None where there is no index, or no value there.
+pub fn value_at(values: &[Value], index: Option<usize>) -> Option<&Value>
+    ensures { option_copied result ≡ at_index values.now index }
 {
-    is_chosen(columns, filter, numbered.1.values.as_slice())
-}
-
-/// How many of the rows the filter chooses.
-fn count_chosen(columns: &[Column], filter: &[Condition], rows: &[NumberedRow]) -> usize
-    ensures { result ≡ count_by (satisfies columns.now filter.now) rows.now }
-{
-    rows.iter()
-        .filter(|numbered| chooses(columns, filter, *numbered))
-        .count()
+    values.get(index?)
 }
 
 /// Copies of the values of the named columns.
-pub fn cut(
-    alloc: Global,
-    columns: &[Column],
-    names: &[Name],
-    values: &[Value],
-) -> Result<Row, NoMemory>
-    ensures { IfOk result (λ row. row.values ≡ projected_values columns.now names.now values.now) }
+pub fn cut(alloc: Global, names: &Resolved<'_, Name>, values: &[Value]) -> Result<Row, NoMemory>
+    ensures { IfOk result
+        (λ row.
+        row.values ≡ projected_values names.now.columns.now names.now.items.now values.now) }
 {
-    let mut items = Vec::new(alloc);
-    for name in names {
-        if let Some(value) = cell(columns, values, *name) {
+    let mut items = Vec::with_capacity(alloc, names.items().len())?;
+    for (at, name) in names.items().iter().enumerate() {
+        if let Some(value) = value_at(values, names.index_of(at, name)) {
             items.push(value.try_twin()?)?;
         }
     }
@@ -87,57 +77,28 @@ pub fn cut(
     })
 }
 
-/// So many copies of the assignments.
-fn copies_of(
+/// The named columns of the rows that the filter chooses.
+pub fn select_chosen(
     alloc: Global,
-    sets: &[Assignment],
-    count: usize,
-) -> Result<Vec<Vec<Assignment>>, NoMemory>
-    ensures { IfOk result (λ copies. map (λ c. c.items) copies.items ≡ replicate count sets.now) }
+    names: &Resolved<'_, Name>,
+    conditions: &Resolved<'_, Condition>,
+    rows: &[NumberedRow],
+) -> Result<Vec<Row>, NoMemory>
+    ensures { IfOk result
+        (λ chosen.
+        chosen.items
+        ≡ map
+        (λ r.
+        record { values = projected_values names.now.columns.now names.now.items.now r.1.values })
+        (filter (satisfies conditions.now.columns.now conditions.now.items.now) rows.now)) }
 {
-    let mut copies = Vec::with_capacity(alloc, count)?;
-    for _made in 0..count {
-        copies.push(twins_of(alloc, sets)?)?;
-    }
-    Ok(copies)
-}
-
-/// Moves the assigned values into a row.
-fn assign(columns: &[Column], sets: Vec<Assignment>, values: &mut Sequence<Value>)
-    ensures { values.new ≡ assigned_values columns.now sets.items values.old }
-{
-    for set in sets {
-        if let Some(place) = column_index(columns, set.column) {
-            if place < values.len() {
-                values.set(place, set.value);
-            }
+    let mut chosen = Vec::new(alloc);
+    for numbered in rows {
+        if conditions.choose(numbered) {
+            chosen.push(cut(alloc, names, numbered.1.values.as_slice())?)?;
         }
     }
-}
-
-/// Makes the assignments in each row that the filter chooses. The copies are made first, so that
-/// nothing has changed where one of them finds no memory.
-pub fn update_chosen(
-    alloc: Global,
-    columns: &[Column],
-    rows: &mut [NumberedRow],
-    sets: &[Assignment],
-    filter: &[Condition],
-) -> Result<(), NoMemory>
-    ensures ok { OnOk result
-        (rows.new ≡ map (updated_row columns.now sets.now filter.now) rows.old) }
-    ensures no_memory { OnErr result (rows.new ≡ rows.old) }
-{
-    let count = count_chosen(columns, filter, rows);
-    let mut copies = copies_of(alloc, sets, count)?;
-    for numbered in rows.iter_mut() {
-        if chooses(columns, filter, numbered) {
-            if let Some(copy) = copies.pop() {
-                assign(columns, copy, &mut numbered.1.values);
-            }
-        }
-    }
-    Ok(())
+    Ok(chosen)
 }
 
 /// Drops the rows that the filter chooses.
@@ -145,5 +106,6 @@ pub fn drop_chosen(columns: &[Column], rows: &mut Vec<NumberedRow>, conditions: 
     ensures { rows.new.items
         ≡ filter (λ r. not (satisfies columns.now conditions.now r)) rows.old.items }
 {
-    rows.retain(|numbered| !chooses(columns, conditions, numbered));
+    let filter = Resolved::new(columns, conditions);
+    rows.retain(|numbered| !filter.choose(numbered));
 }

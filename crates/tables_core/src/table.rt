@@ -3,7 +3,9 @@ ghost use Rattle.std.specs.Prelude.{◌≡◌, ◌<◌, ◌^◌, ◌↔◌, IfOk
 ghost use Rattle.tables_core.specs.Contents.{empty_table, with_row, without_chosen_rows, with_updated_rows, selected_rows};
 ghost use Rattle.tables_core.specs.Fitting.{ColumnsDiffer, ValuesFit, AssignmentsFit, IsWellTyped};
 
+use crate::resolved::Resolved;
 use crate::rows::{self, NumberedRow};
+use crate::update::update_chosen;
 use base_core::{Assignment, Column, Condition, Name, NoMemory, Row, Sequence, User, Value};
 use std::alloc::Global;
 use std::marker::Model;
@@ -120,14 +122,9 @@ impl Table {
         ensures { IfOk result (λ rows. rows.items ≡ selected_rows names.now filter.now self.now) }
     {
         let columns = self.columns.as_slice();
-        let mut chosen = Vec::new(alloc);
-        for numbered in &self.rows {
-            if rows::chooses(columns, filter, numbered) {
-                let values = numbered.1.values.as_slice();
-                chosen.push(rows::cut(alloc, columns, names, values)?)?;
-            }
-        }
-        Ok(chosen)
+        let names = Resolved::new(columns, names);
+        let conditions = Resolved::new(columns, filter);
+        rows::select_chosen(alloc, &names, &conditions, &self.rows)
     }
 
     /// Makes the assignments in the chosen rows.
@@ -141,7 +138,7 @@ impl Table {
         ensures ok { OnOk result (self.new ≡ with_updated_rows sets.now filter.now self.old) }
         ensures no_memory { OnErr result (self.new ≡ self.old) }
     {
-        rows::update_chosen(
+        update_chosen(
             alloc,
             self.columns.as_slice(),
             self.rows.as_mut_slice(),

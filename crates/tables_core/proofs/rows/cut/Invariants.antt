@@ -2,5 +2,5 @@ use Rattle.std.proofs.Common.{◌≡◌, take}
 use Rattle.tables_core.specs.Contents.{projected_values}
 use Rattle.tables_core.proofs.rows.cut.Given as goal
 
-abbrev pub invariant-loop-name : goal.invariant-loop-name
-invariant-loop-name l = l.items.items ≡ projected_values l.columns (take l.name-index l.names) l.values
+abbrev pub invariant-loop-at : goal.invariant-loop-at
+invariant-loop-at l = l.items.items ≡ projected_values l.names.columns.now (take l.at l.names.items.now) l.values
