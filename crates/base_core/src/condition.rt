@@ -1,10 +1,8 @@
 //! Conditions on rows, and assignments to them.
 ghost use Rattle.std.specs.Prelude.{◌≡◌};
-ghost use Rattle.std.specs.Option.{option_copied};
-ghost use Rattle.base_core.specs.Filter.{accepts, compares, column_index, cell, meets, is_chosen};
+ghost use Rattle.base_core.specs.Filter.{accepts, compares, column_index};
 
 use crate::bounded::Named;
-use crate::memory::{NoMemory, Twin};
 use crate::name::Name;
 use crate::value::{Column, Value};
 use std::cmp::Ordering;
@@ -84,42 +82,4 @@ pub fn column_index(columns: &[Column], name: Name) -> Option<usize>
     ensures { result ≡ column_index columns.now name }
 {
     columns.iter().position(|column| column.name == name)
-}
-
-/// The value that a row of these columns has in the column of this name.
-pub fn cell<'a>(columns: &[Column], values: &'a [Value], name: Name) -> Option<&'a Value>
-    ensures { option_copied result ≡ cell columns.now values.now name }
-{
-    values.get(column_index(columns, name)?)
-}
-
-impl Condition {
-    /// Whether a row of these columns meets the condition.
-    pub fn is_met(&self, columns: &[Column], values: &[Value]) -> bool
-        ensures { result ≡ meets columns.now values.now self.now }
-    {
-        match cell(columns, values, self.column) {
-            Some(value) => value.compares(self.comparison, &self.literal),
-            None => false,
-        }
-    }
-}
-
-/// Whether a row of these columns meets every condition.
-pub fn is_chosen(columns: &[Column], filter: &[Condition], values: &[Value]) -> bool
-    ensures { result ≡ is_chosen columns.now filter.now values.now }
-{
-    filter
-        .iter()
-        .all(|condition| condition.is_met(columns, values))
-}
-
-impl Twin for Assignment {
-    fn try_twin(&self) -> Result<Assignment, NoMemory> {
-        let value = self.value.try_twin()?;
-        Ok(Assignment {
-            column: self.column,
-            value,
-        })
-    }
 }

@@ -40,7 +40,7 @@ mod value;
 mod word;
 
 pub use bounded::{Distinct, Limited, Named, Several};
-pub use condition::{Assignment, Comparison, Condition, cell, column_index, is_chosen};
+pub use condition::{Assignment, Comparison, Condition, column_index};
 pub use keyword::Keyword;
 pub use lack::{Lack, What};
 pub use limits::Limits;
