@@ -18,7 +18,7 @@
 //!
 //! Each item stands in a slot beside its number. An item that is removed leaves a dead slot, so
 //! that nothing is moved for it. Once more than half of the slots are dead, the dead ones are
-//! dropped, and their room is given back but for that of the pushes that have theirs.
+//! dropped.
 //!
 //! A caller who must not fail half way asks for room first: once `reserve` of k has answered Ok, k
 //! pushes can't be refused memory. Whatever `replace` and `remove` do in between, `spare` doesn't

@@ -1,5 +1,5 @@
 //! Slots in number order: where a number stands, room for more, and how dead slots are dropped.
-ghost use Rattle.std.specs.Prelude.{◌≡◌, ℕ, ◌+◌, ◌-◌, ◌<◌, ◌≤◌, [], None, length, drop, vec_len, vec_capacity, MatchOption, IsSome, IfSome, IfNone, IsOk, OnOk, OnErr};
+ghost use Rattle.std.specs.Prelude.{◌≡◌, ℕ, ◌+◌, ◌<◌, ◌≤◌, [], None, length, drop, vec_len, vec_capacity, MatchOption, IsSome, IfSome, IfNone, IsOk, OnOk, OnErr};
 ghost use Rattle.std.specs.List.{AllWithin, HoldsAt};
 ghost use Rattle.copyup_core.specs.Slot.{SlotsRise, contents_of, HasItemOf};
 ghost use Rattle.copyup_core.specs.Holding.{value_at};
@@ -94,8 +94,7 @@ pub(crate) fn make_room<V>(slots: &mut Vec<Slot<V>>, count: usize) -> Result<(),
     Ok(())
 }
 
-/// Drops dead slots, once more than half are dead, and gives their room back; `live` counts the
-/// others.
+/// Drops dead slots, once more than half are dead; `live` counts the others.
 pub(crate) fn compact<V>(slots: &mut Vec<Slot<V>>, live: usize)
 where
     V: Drop,
@@ -103,12 +102,10 @@ where
         → SlotsRise 0 high slots.old.items
         → SlotsRise 0 high slots.new.items }
     ensures contents { contents_of slots.new.items ≡ contents_of slots.old.items }
-    ensures room { vec_capacity slots.old - vec_len slots.old
-        ≤ vec_capacity slots.new - vec_len slots.new }
+    ensures capacity { vec_capacity slots.new ≡ vec_capacity slots.old }
+    ensures len { vec_len slots.new ≤ vec_len slots.old }
 {
     if slots.len() / 2 > live {
-        let spare = slots.capacity() - slots.len();
         slots.retain(|slot| slot.item.is_some());
-        slots.shrink_to(slots.len() + spare);
     }
 }
