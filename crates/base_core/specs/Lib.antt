@@ -10,3 +10,4 @@ pub mod Filter
 pub mod Lacks
 pub mod Full
 pub mod Streams
+pub mod Held

@@ -2,14 +2,14 @@
 //! limits, and streams of bytes.
 //!
 //! A value of this crate is plain data, and contracts see it as such: a [`Name`] and a [`Text`] as
-//! the list of their bytes, a [`Sequence`], [`Several`], [`Limited`] or [`Distinct`] as the list of
-//! its items, the enums and the structs with public fields as themselves. So two values are `≡` in
-//! a contract exactly where a client can't tell them apart.
+//! the list of their bytes, a [`Sequence`], [`Compact`], [`Limited`], [`Distinct`], [`Values`] or
+//! [`SeveralValues`] as the list of its items, the enums and the structs with public fields as
+//! themselves. So two values are `≡` in a contract exactly where a client can't tell them apart.
 //!
 //! What a type promises stands in its invariant, once: a [`Name`] is a word of at most 30 bytes in
 //! small letters that is no keyword, a [`Text`] is at most 1,024 bytes of UTF-8 with no control
-//! character, a [`Several`] holds between one item and its limit, a [`Limited`] none to its limit,
-//! a [`Distinct`] what a `Several` does with different names, and [`Limits`] stay within what the
+//! character, a [`Limited`] holds no item to its limit, a [`Distinct`] one to its limit with
+//! different names, [`SeveralValues`] are one to their limit, and [`Limits`] stay within what the
 //! core can count.
 //!
 //! ```text
@@ -22,10 +22,12 @@
 //! contracts above can name the bytes.
 //!
 //! A name is `Copy`, and its comparison and hash go over its bytes. A look-up by name in a row goes
-//! over the columns. Copies of rows and texts take memory for each of their values.
+//! over the columns. Copies of rows, values and texts take no memory: the [`Values`] of a row and a
+//! long text stand on the heap once for all copies, and a short text stands in the value.
 #![tactic(auto)]
 
 mod bounded;
+mod compact;
 mod condition;
 mod keyword;
 mod lack;
@@ -34,12 +36,14 @@ mod memory;
 mod name;
 mod privilege;
 mod sequence;
+mod shared;
 mod stream;
 mod text;
 mod value;
 mod word;
 
-pub use bounded::{Distinct, Limited, Named, Several};
+pub use bounded::{Distinct, Limited, Named, SeveralValues};
+pub use compact::Compact;
 pub use condition::{Assignment, Comparison, Condition, column_index};
 pub use keyword::Keyword;
 pub use lack::{Lack, What};
@@ -48,6 +52,7 @@ pub use memory::{NoMemory, Twin};
 pub use name::{Name, User};
 pub use privilege::{Atom, Kind};
 pub use sequence::{Sequence, twins_of};
+pub use shared::Values;
 pub use stream::{Broken, Sink, Source, StdSink, StdSource, write_all};
 pub use text::Text;
 pub use value::{ColType, Column, Moment, Row, Value};

@@ -1,5 +1,5 @@
 //! A list on the heap.
-ghost use Rattle.std.specs.Prelude.{◌≡◌, ◌<◌, ◌↔◌, [], IfOk, IsTrue, length, slice_set};
+ghost use Rattle.std.specs.Prelude.{◌≡◌, ◌↔◌, [], IfOk, IsTrue, length};
 
 use crate::memory::{NoMemory, Twin};
 use std::alloc::Global;
@@ -36,14 +36,6 @@ impl<T> Sequence<T> {
         Sequence { items }
     }
 
-    /// The items, in the memory that they have.
-    pub fn into_vec(self) -> Vec<T>
-        ensures { result.items ≡ self }
-    {
-        let Sequence { items } = self;
-        items
-    }
-
     pub fn as_slice(&self) -> &[T]
         ensures { result.now ≡ self.now }
     {
@@ -60,16 +52,6 @@ impl<T> Sequence<T> {
         ensures { IsTrue result ↔ (self.now ≡ []) }
     {
         self.items.is_empty()
-    }
-}
-
-impl<T: Drop> Sequence<T> {
-    /// Puts an item in the place of the one at `index`, which has to be below the length.
-    pub fn set(&mut self, index: usize, item: T)
-        requires { index < length self.old }
-        ensures { self.new ≡ slice_set self.old index item }
-    {
-        self.items[index] = item;
     }
 }
 

@@ -1,11 +1,12 @@
 //! Columns, values and rows.
-ghost use Rattle.std.specs.Prelude.{◌≡◌};
+ghost use Rattle.std.specs.Prelude.{◌≡◌, pos};
 ghost use Rattle.base_core.specs.Values.{value_order, has_type};
+ghost use Rattle.base_core.specs.declared.value.Value.TheVariants as values;
 
 use crate::bounded::Named;
 use crate::memory::{NoMemory, Twin};
 use crate::name::Name;
-use crate::sequence::Sequence;
+use crate::shared::Values;
 use crate::text::Text;
 use std::cmp::Ordering;
 
@@ -52,6 +53,15 @@ pub enum Value {
     Text(Text),
 }
 
+/// The number 0.
+impl Default for Value {
+    ghost is_default = { λ value. value ≡ values.Int (pos 0) };
+
+    fn default() -> Value {
+        Value::Int(0)
+    }
+}
+
 impl Value {
     /// The order of two values of one type: numbers as whole numbers, texts by their bytes. None
     /// for values of different types.
@@ -85,10 +95,10 @@ impl Twin for Value {
     }
 }
 
-/// The values of one row, in the order of its table's columns.
+/// The values of one row, in the order of its table's columns. Copies share them.
 #[derive(Drop)]
 pub struct Row {
-    pub values: Sequence<Value>,
+    pub values: Values,
 }
 
 impl Twin for Row {
