@@ -6,7 +6,7 @@ use Rattle.std.proofs.lemmas.Bool.Decides.{nat_tests}
 use Rattle.std.specs.Prelude.{◌==◌, if◌then◌else◌}
 use Rattle.std.specs.Char.{encode_utf8}
 use Rattle.std.specs.List.{list_any}
-use Rattle.std.specs.Str.{IsUtf8, encode_utf8_all}
+use Rattle.std.specs.Str.{encode_utf8_all}
 use Rattle.base_core.specs.Texts.{IsText}
 use Rattle.lexer_core.specs.Text.{written_all}
 use Rattle.lexer_core.specs.Lexing.{QuotesText, undoubled, unquoted}
@@ -86,9 +86,6 @@ module _ (t quoted : List ℕ) (q : QuotesText t quoted) (none : list_any (λ b.
 
   pub inside_said : inside_of quoted ≡ unquoted quoted
   inside_said = sym said ∙ says_unquoted t quoted q
-
-  pub inside_is_utf8 : IsUtf8 (inside_of quoted)
-  inside_is_utf8 = (q.chars, (q.quoted.plain.scalars, sym q.value ∙ said))
 
   pub inside_is_text : IsText (inside_of quoted)
   inside_is_text = subst IsText said (quoted_text t quoted q)

@@ -3,6 +3,7 @@
 ghost use Rattle.std.specs.Prelude.{◌≡◌};
 ghost use Rattle.lexer_core.specs.Codes.{code_number, code_text};
 
+use base_core::NoMemory;
 use std::alloc::AllocFailed;
 use thiserror::Error;
 
@@ -93,6 +94,16 @@ impl<T: Drop> From<AllocFailed<T>> for ReadFault {
     ghost from_gives = { λ _ e. e ≡ NoMemory };
 
     fn from(_e: AllocFailed<T>) -> ReadFault {
+        ReadFault::NoMemory
+    }
+}
+
+impl From<NoMemory> for ReadFault {
+    ghost use Rattle.lexer_core.specs.declared.fault.ReadFault.TheVariants as faults;
+
+    ghost from_gives = { λ _ e. e ≡ faults.NoMemory };
+
+    fn from(_e: NoMemory) -> ReadFault {
         ReadFault::NoMemory
     }
 }

@@ -108,11 +108,12 @@ fn with_quotes_once(alloc: Global, quoted: &[u8]) -> Result<Text, AllocError>
             None => unreachable!(),
         }
     }
-    Ok(Text::from_string(text))
+    Text::from_bytes(alloc, text.as_bytes())
 }
 
 /// What a quoted text says: its characters, a doubled quote once. The bytes are those of a token
-/// of kind `Text`, with its quotes. Takes memory for the text, once.
+/// of kind `Text`, with its quotes. Takes memory for a long text, and for a while where quotes are
+/// doubled.
 pub fn unquoted(alloc: Global, quoted: &[u8]) -> Result<Text, AllocError>
     requires text { IsSomeText quoted.now }
     requires short { length quoted.now ≤ 4096 }
@@ -122,8 +123,5 @@ pub fn unquoted(alloc: Global, quoted: &[u8]) -> Result<Text, AllocError>
     if inside.contains(&b'\'') {
         return with_quotes_once(alloc, quoted);
     }
-    match str::from_utf8(inside) {
-        Ok(text) => Ok(Text::from_string(String::from_str(alloc, text)?)),
-        Err(_) => unreachable!(),
-    }
+    Text::from_bytes(alloc, inside)
 }

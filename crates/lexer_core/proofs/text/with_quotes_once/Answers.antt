@@ -1,5 +1,6 @@
-use Rattle.std.proofs.Common.{List, ℕ, ◌+◌, subst, sym, ◌∙◌}
+use Rattle.std.proofs.Common.{List, ℕ, ◌≡◌, ◌+◌, IfOk, subst, sym, ◌∙◌}
 use Rattle.std.specs.String.{string_bytes}
+use Rattle.base_core.specs.Texts.{IsText}
 use Rattle.lexer_core.proofs.Halfway.{IsHalfway, halfway_start, some_char, next_char, all_said}
 use Rattle.lexer_core.proofs.Undoubled.{says_unquoted, quoted_text}
 use Rattle.lexer_core.proofs.text.with_quotes_once.Goals as goal
@@ -15,8 +16,10 @@ loop-at-preserved c =
 pub unreachable-requires : goal.unreachable-requires
 unreachable-requires c = some_char c.args.quoted.now c.loop-at.at _ c.loop-at.invariant c.loop-at-test.true c.in-None.ensures
 
-pub from_string-requires : goal.from_string-requires
-from_string-requires c = quoted_text _ c.args.quoted.now (all_said c.args.quoted.now c.loop-at.at _ c.loop-at.invariant c.loop-at-test.false)
+pub from_bytes-requires : goal.from_bytes-requires
+from_bytes-requires c = subst IsText (sym c.as_bytes.ensures.value) (quoted_text _ c.args.quoted.now (all_said c.args.quoted.now c.loop-at.at _ c.loop-at.invariant c.loop-at-test.false))
 
 pub returns : goal.returns
-returns c = c.from_string.ensures ∙ says_unquoted _ c.args.quoted.now (all_said c.args.quoted.now c.loop-at.at _ c.loop-at.invariant c.loop-at-test.false)
+returns c =
+    let said = c.as_bytes.ensures.value ∙ says_unquoted _ c.args.quoted.now (all_said c.args.quoted.now c.loop-at.at _ c.loop-at.invariant c.loop-at-test.false) in
+    subst (λ (bytes : List ℕ). IfOk c.from_bytes.result (λ text. text ≡ bytes)) said c.from_bytes.ensures
