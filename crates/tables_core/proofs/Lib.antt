@@ -4,4 +4,3 @@ pub mod NumberLemmas
 pub mod FittingLemmas
 pub mod ColumnLemmas
 pub mod ResolvedLemmas
-pub mod CellLemmas

@@ -35,9 +35,9 @@
 //! `column` and `takes_row` go over the table's columns, `takes_assignments` does so for each
 //! assignment, and `columns_differ` for each column. `select`, `update` and `delete` look up once
 //! the columns of the first 32 items of each list that they are given, and go once over the rows of
-//! the table, with the filter at each row; to that `select` adds the copies of the values that it
-//! gives, and `update`, where a text is assigned, a list of the cells to be set. `create`, `insert`
-//! and `select` take memory, `update` where a text is assigned, and no other call does.
+//! the table, with the filter at each row; to that `select` and `update` add a new list of values
+//! for each row that the filter chooses. `create`, `insert`, `select` and `update` take memory, and
+//! no other call does.
 #![tactic(auto)]
 
 mod columns;

@@ -9,7 +9,7 @@ ghost use Rattle.tables_core.specs.Fitting.{ValuesFit, assignment_fits};
 
 use crate::resolved::Resolved;
 use base_core::{
-    Assignment, Column, Condition, Name, NoMemory, Row, Sequence, Twin, Value, column_index,
+    Assignment, Column, Condition, Name, NoMemory, Row, Twin, Value, Values, column_index,
 };
 use std::alloc::Global;
 
@@ -60,7 +60,7 @@ pub fn value_at(values: &[Value], index: Option<usize>) -> Option<&Value>
     values.get(index?)
 }
 
-/// Copies of the values of the named columns.
+/// The values of the named columns.
 pub fn cut(alloc: Global, names: &Resolved<'_, Name>, values: &[Value]) -> Result<Row, NoMemory>
     ensures { IfOk result
         (λ row.
@@ -72,9 +72,8 @@ pub fn cut(alloc: Global, names: &Resolved<'_, Name>, values: &[Value]) -> Resul
             items.push(value.try_twin()?)?;
         }
     }
-    Ok(Row {
-        values: Sequence::from_vec(items),
-    })
+    let values = Values::from_vec(alloc, items)?;
+    Ok(Row { values })
 }
 
 /// The named columns of the rows that the filter chooses.
