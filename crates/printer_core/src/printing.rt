@@ -7,7 +7,7 @@ ghost use Rattle.printer_core.specs.Printing.{Prints, canonical};
 use crate::page::Page;
 use crate::printed::write_list;
 use base_core::{
-    Assignment, Column, Condition, Distinct, Keyword, Limited, Name, NoMemory, Several, User, Value,
+    Assignment, Column, Condition, Distinct, Keyword, Limited, Name, NoMemory, SeveralValues, User,
 };
 use lexer_core::{MAX_LINE, Mark};
 use reader_core::{CheckpointNumber, MAX_ITEMS, MAX_USERS, Privileges, Statement};
@@ -50,7 +50,7 @@ impl Page {
         Ok(())
     }
 
-    fn insert(&mut self, table: Name, values: &Several<Value, MAX_ITEMS>) -> Result<(), NoMemory>
+    fn insert(&mut self, table: Name, values: &SeveralValues<MAX_ITEMS>) -> Result<(), NoMemory>
         ensures written { OnOk result (Prints
             (statement_says (statements.Insert table values.now)) self.old self.new) }
         ensures well_formed { OnOk result (IsWellFormed (statements.Insert table values.now)) }

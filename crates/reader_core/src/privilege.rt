@@ -1,11 +1,12 @@
 //! Privileges as GRANT and REVOKE name them.
-ghost use Rattle.std.specs.Prelude.{◌≡◌, ◌<◌, ◌≤◌, true, length};
+ghost use Rattle.std.specs.Prelude.{◌≡◌, ◌<◌, ◌≤◌, true, length, IfOk};
 ghost use Rattle.lexer_core.specs.declared.token.TokenKind.TheVariants as kinds;
 ghost use Rattle.reader_core.specs.Grammar.{is_keyword};
 ghost use Rattle.reader_core.specs.Privileges.{word_of, word_keyword, are_different};
 
 use crate::statement::MAX_ITEMS;
-use base_core::{Distinct, Name};
+use base_core::{Compact, Distinct, Name, NoMemory};
+use std::alloc::Global;
 use std::marker::Model;
 
 /// How many words privileges have.
@@ -53,7 +54,7 @@ impl Privilege {
 /// them.
 #[derive(Drop)]
 pub struct Privileges {
-    items: Vec<Privilege>,
+    items: Compact<Privilege>,
 }
 
 impl Model for Privileges {
@@ -63,21 +64,22 @@ impl Model for Privileges {
 
     ghost Value = { List Privilege };
 
-    ghost view = { λ s. s.items.items };
+    ghost view = { λ s. s.items };
 
-    ghost invariant = { λ s. (0 < length s.items.items) × (length s.items.items ≤ 4)
-        × (are_different s.items.items ≡ true) };
+    ghost invariant = { λ s. (0 < length s.items) × (length s.items ≤ 4)
+        × (are_different s.items ≡ true) };
 }
 
 impl Privileges {
-    /// These privileges, in the memory that they have.
-    pub fn from_vec(items: Vec<Privilege>) -> Privileges
+    /// These privileges. `NoMemory` where a request for memory was refused.
+    pub fn from_vec(alloc: Global, items: Vec<Privilege>) -> Result<Privileges, NoMemory>
         requires some { 0 < length items.items }
         requires few { length items.items ≤ 4 }
         requires different { are_different items.items ≡ true }
-        ensures { result ≡ items.items }
+        ensures { IfOk result (λ privileges. privileges ≡ items.items) }
     {
-        Privileges { items }
+        let items = Compact::from_vec(alloc, items)?;
+        Ok(Privileges { items })
     }
 
     /// The privileges, in the order written.

@@ -2,7 +2,7 @@
 
 use crate::checkpoint::CheckpointNumber;
 use crate::privilege::Privileges;
-use base_core::{Assignment, Column, Condition, Distinct, Limited, Name, Several, User, Value};
+use base_core::{Assignment, Column, Condition, Distinct, Limited, Name, SeveralValues, User};
 
 /// The most columns, names, values, assignments or conditions in one list.
 pub const MAX_ITEMS: usize = 32;
@@ -20,7 +20,7 @@ pub enum Statement {
     },
     Insert {
         table: Name,
-        values: Several<Value, MAX_ITEMS>,
+        values: SeveralValues<MAX_ITEMS>,
     },
     /// These columns, or with no list all of them, in the order of the table.
     Select {

@@ -22,7 +22,7 @@ impl Reader<'_> {
         ensures { Reads (name_list 32) (λ names. names_say names) result self.old self.new }
     {
         let names = list::<Name>(self, alloc)?;
-        Ok(Distinct::from_vec(names))
+        Ok(Distinct::from_vec(alloc, names)?)
     }
 
     pub fn users(&mut self, alloc: Global) -> Result<Distinct<User, MAX_USERS>, ReadFault>
@@ -30,7 +30,7 @@ impl Reader<'_> {
             result self.old self.new }
     {
         let users = list::<User>(self, alloc)?;
-        Ok(Distinct::from_vec(users))
+        Ok(Distinct::from_vec(alloc, users)?)
     }
 
     /// The columns of SELECT, or None for all.
@@ -94,7 +94,7 @@ impl Reader<'_> {
         ensures well_formed { IfOk result (λ ps. ArePrivileges ps) }
     {
         let privileges = list::<Privilege>(self, alloc)?;
-        Ok(Privileges::from_vec(privileges))
+        Ok(Privileges::from_vec(alloc, privileges)?)
     }
 
     fn conditions(&mut self, alloc: Global) -> Result<Limited<Condition, MAX_ITEMS>, ReadFault>
@@ -102,7 +102,7 @@ impl Reader<'_> {
     {
         self.keyword(Keyword::Where)?;
         let conditions = list::<Condition>(self, alloc)?;
-        Ok(Limited::from_vec(conditions))
+        Ok(Limited::from_vec(alloc, conditions)?)
     }
 
     /// The conditions behind WHERE, or none.
@@ -111,7 +111,7 @@ impl Reader<'_> {
             result self.old self.new }
     {
         if !self.at_keyword(Keyword::Where) {
-            return Ok(Limited::new(alloc));
+            return Ok(Limited::none());
         }
         self.conditions(alloc)
     }

@@ -9,7 +9,7 @@ ghost use Rattle.system_core.specs.Journal.{tables_after, change_of};
 ghost use Rattle.system_core.specs.Carrying.{CanCarry, CanGrant, HasFewColumns, MayLeave, most_columns, most_grants, rights_after};
 
 use crate::machine::atoms::atoms_of;
-use base_core::{Column, Distinct, Moment, Name, NoMemory, Row, Sequence, User, twins_of};
+use base_core::{Column, Distinct, Moment, Name, NoMemory, Row, Sequence, Twin, User};
 use grants_core::Authority;
 use graph_core::Graph;
 use monitor_core::columns_of;
@@ -114,7 +114,7 @@ pub fn carry_out(
             create(alloc, tables, rights, &user, table, columns)
         }
         Statement::Insert { table, values } => {
-            let values = Sequence::from_vec(twins_of(alloc, values.as_slice())?);
+            let values = values.values().try_twin()?;
             tables.insert(*table, Row { values })
         }
         Statement::Delete { table, filter } => {

@@ -4,7 +4,7 @@ use Rattle.reader_core.specs.Language.{names_rule}
 use Rattle.reader_core.proofs.Fine.{few_if_fine, distinct_if_fine}
 use Rattle.reader_core.proofs.parsing.reader.Reader.create.Goals as goal
 
-pub from_vec-columns-requires : goal.from_vec-columns-requires
-from_vec-columns-requires c =
-    let columns = c.in_ok-list.field-0.items in
-    (omega arith, (c.in_ok-list.ensures.some, (few_if_fine (names_rule 32) (λ x. kinds.Name x.name) columns c.in_ok-list.ensures.faultless, distinct_if_fine 32 (λ x. x.name) columns c.in_ok-list.ensures.faultless)))
+pub from_vec-requires : goal.from_vec-requires
+from_vec-requires c =
+    let columns = c.in_ok-items.items.items in
+    (omega arith, (c.in_ok-items.ensures.some, (few_if_fine (names_rule 32) (λ x. kinds.Name x.name) columns c.in_ok-items.ensures.faultless, distinct_if_fine 32 (λ x. x.name) columns c.in_ok-items.ensures.faultless)))

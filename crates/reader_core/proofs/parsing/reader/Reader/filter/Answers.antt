@@ -9,7 +9,7 @@ abbrev behind : Grammar → Grammar
 behind k = Items conditions_rule [] condition_item k
 
 pub returns-then-not-at_keyword : goal.returns-then-not-at_keyword
-returns-then-not-at_keyword c = rw c.new.ensures (skipped (Key keywords.Where) behind c.args.self.now (sym c.if-not-at_keyword.ensures.next))
+returns-then-not-at_keyword c = rw c.none.ensures (skipped (Key keywords.Where) behind c.args.self.now (sym c.if-not-at_keyword.ensures.next))
 
 pub returns : goal.returns
 returns c = entered (Key keywords.Where) behind (λ k. k) c.args.self.now (λ cs. filter_says cs) c.conditions.result c.conditions.new.self (sym c.if-not-at_keyword.ensures.next) c.conditions.ensures
