@@ -1,8 +1,7 @@
-pub mod OrderLemmas
-pub mod EndsLemmas
-pub mod LookUpLemmas
-pub mod EdgesLemmas
-pub mod RoomLemmas
-pub mod WalkLemmas
-pub mod AddLemmas
-pub mod PositionLemmas
+pub mod IndexLemmas
+pub mod ExtendLemmas
+pub mod OverLemmas
+pub mod LinkLemmas
+pub mod PlaceLemmas
+pub mod SplitLemmas
+pub mod NumberLemmas

@@ -1,6 +1,4 @@
-pub mod Order
-pub mod Ends
+pub mod Edges
 pub mod Keys
 pub mod KeyLaws
-pub mod Listed
-pub mod Edges
+pub mod Indices

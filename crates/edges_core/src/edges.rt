@@ -1,5 +1,5 @@
 //! The edges in number order, with an index at each of their sides.
-ghost use Rattle.std.specs.Prelude.{◌≡◌, ◌<◌, ◌≤◌, ◌+◌, ◌*◌, ◌^◌, ◌++◌, ◌∷◌, ◌&&◌, [], length, find, OnOk, OnErr, IfOk};
+ghost use Rattle.std.specs.Prelude.{◌≡◌, ◌≤◌, ◌+◌, ◌*◌, ◌^◌, ◌++◌, ◌&&◌, [], length, find, OnOk, OnErr, IfOk};
 ghost use Rattle.std.specs.List.{list_any};
 ghost use Rattle.base_core.specs.Users.{same_user};
 ghost use Rattle.grants_core.specs.Content.{singles, gives, count_of};
@@ -7,14 +7,11 @@ ghost use Rattle.grants_core.specs.Numbers.{IsNumbered};
 ghost use Rattle.grants_core.specs.Valid.{supports};
 ghost use Rattle.edges_core.specs.Edges.{made_by, HasEdge, TakesOut};
 
-use crate::held::{any_option, any_supports, first_made_by};
-use crate::index::{Index, count_of, ends_at, take_end};
-use crate::rooms::{make_rooms, put};
-use crate::walk::all_of;
+use crate::indices::Indices;
+use crate::linking::{grants_of, links_of};
 use base_core::{Atom, Moment, NoMemory, User};
-use copyup_core::Store;
 use grants_core::{Grant, single_grants};
-use indexmap::IndexMap;
+use links_core::Links;
 use std::alloc::Global;
 use std::marker::Model;
 
@@ -22,22 +19,24 @@ use std::marker::Model;
 #[derive(Drop)]
 pub struct Edges {
     alloc: Global,
-    store: Store<Grant>,
-    received: Index,
-    given: Index,
-    next: u64,
+    indices: Indices,
+    links: Links,
 }
 
 impl Model for Edges {
-    ghost use Rattle.std.specs.Prelude.{◌≡◌};
-    ghost use Rattle.edges_core.specs.Edges.{Kept, edges_in, IsKept};
+    ghost use Rattle.std.specs.Prelude.{map};
+    ghost use Rattle.std.specs.List.{AllByRecursion};
+    ghost use Rattle.edges_core.specs.Edges.{Kept};
+    ghost use Rattle.edges_core.specs.Indices.{grant_of, IsWithin};
 
     ghost Value = { Kept };
 
-    ghost view = { λ e. record { edges = edges_in e.store.contents; next = e.next } };
+    ghost view = { λ e. record {
+      edges = map (grant_of e.indices) e.links.links;
+      next = e.links.next;
+    } };
 
-    ghost invariant = { λ e. IsKept e.store.contents e.next e.received e.given
-        × (e.store.next ≡ e.next) };
+    ghost invariant = { λ e. AllByRecursion (IsWithin e.indices) e.links.links };
 }
 
 impl Edges {
@@ -47,10 +46,8 @@ impl Edges {
     {
         Edges {
             alloc,
-            store: Store::new(alloc),
-            received: IndexMap::new(alloc),
-            given: IndexMap::new(alloc),
-            next: 0,
+            indices: Indices::new(alloc),
+            links: Links::new(alloc),
         }
     }
 
@@ -58,21 +55,27 @@ impl Edges {
     pub fn next(&self) -> u64
         ensures { result ≡ self.now.next }
     {
-        self.next
+        self.links.next()
     }
 
     /// How many edges there are of the privilege.
     pub fn count(&self, atom: &Atom) -> usize
         ensures { result ≡ count_of self.now.edges atom.now }
     {
-        count_of(&self.received, atom)
+        match self.indices.atom(atom) {
+            Some(atom) => self.links.count(atom),
+            None => 0,
+        }
     }
 
     /// Whether an edge gives the user the privilege.
     pub fn any_gives(&self, user: &User, atom: &Atom) -> bool
         ensures { result ≡ list_any (gives user.now atom.now) self.now.edges }
     {
-        !ends_at(&self.received, atom, user).is_empty()
+        match self.indices.place(user, atom) {
+            Some(place) => self.links.any_to(place.user, place.atom),
+            None => false,
+        }
     }
 
     /// Whether an edge gives the user the privilege with the option.
@@ -80,25 +83,32 @@ impl Edges {
         ensures { result
             ≡ list_any (λ g. g.option && gives user.now atom.now g) self.now.edges }
     {
-        any_option(&self.store, ends_at(&self.received, atom, user))
+        match self.indices.place(user, atom) {
+            Some(place) => self.links.any_option_to(place.user, place.atom),
+            None => false,
+        }
     }
 
     /// Whether an edge supports this one.
     pub fn any_supports(&self, edge: &Grant) -> bool
         ensures { result ≡ list_any (λ h. supports h edge.now) self.now.edges }
     {
-        let ends = ends_at(&self.received, &edge.atom, &edge.grantor);
-        any_supports(&self.store, ends, edge.moment)
+        match self.indices.place(&edge.grantor, &edge.atom) {
+            Some(place) => {
+                self.links
+                    .any_earlier_option_to(place.user, place.atom, edge.moment)
+            }
+            None => false,
+        }
     }
 
     /// The first edge of the privilege that the user made.
     pub fn first_made(&self, user: &User, atom: &Atom) -> Option<Grant>
         ensures { result ≡ find (made_by user.now atom.now) self.now.edges }
     {
-        match ends_at(&self.given, atom, user).first() {
-            Some(end) => self.store.get(end.number).copied(),
-            None => None,
-        }
+        let place = self.indices.place(user, atom)?;
+        let link = self.links.first_from(place.user, place.atom)?;
+        Some(self.indices.grant(&link))
     }
 
     /// The first edge of the privilege by the one user to the other.
@@ -106,11 +116,10 @@ impl Edges {
         ensures { result
             ≡ find (λ g. same_user g.grantor by.now && gives user.now atom.now g) self.now.edges }
     {
-        let ends = ends_at(&self.received, atom, user);
-        match first_made_by(&self.store, ends, by) {
-            Some(end) => self.store.get(end.number).copied(),
-            None => None,
-        }
+        let by = self.indices.user(by)?;
+        let place = self.indices.place(user, atom)?;
+        let link = self.links.first_between(by, place.user, place.atom)?;
+        Some(self.indices.grant(&link))
     }
 
     /// Adds the single grants of the atoms to the users. On `NoMemory` nothing has changed.
@@ -130,12 +139,9 @@ impl Edges {
             (self.new.next ≡ self.old.next + length atoms.now * length whom.now) }
         ensures err { OnErr result (self.new ≡ self.old) }
     {
-        let more = single_grants(self.alloc, self.next, at, by, atoms, whom, option)?;
-        self.store.reserve(more.len() as u64)?;
-        make_rooms(self.alloc, &mut self.received, &more)?;
-        make_rooms(self.alloc, &mut self.given, &more)?;
-        put(&mut self.store, &mut self.received, &mut self.given, &more);
-        self.next += more.len() as u64;
+        let grants = single_grants(self.alloc, self.links.next(), at, by, atoms, whom, option)?;
+        let more = links_of(self.alloc, &mut self.indices, &grants)?;
+        self.links.add(&more)?;
         Ok(())
     }
 
@@ -145,9 +151,10 @@ impl Edges {
         ensures taken { TakesOut edge.now self.old.edges self.new.edges }
         ensures next { self.new.next ≡ self.old.next }
     {
-        take_end(&mut self.received, &edge.atom, &edge.grantee, edge.number);
-        take_end(&mut self.given, &edge.atom, &edge.grantor, edge.number);
-        self.store.remove(edge.number);
+        match self.indices.link(edge) {
+            Some(link) => self.links.take_out(&link),
+            None => unreachable!(),
+        }
     }
 
     /// All edges, in number order. `NoMemory` where their copy has no room. Each number is below
@@ -156,7 +163,7 @@ impl Edges {
         ensures edges { IfOk result (λ grants. grants.items ≡ self.now.edges) }
         ensures numbered { IsNumbered self.now.next self.now.edges }
     {
-        let _next = self.next;
-        all_of(self.alloc, &self.store)
+        let links = self.links.all()?;
+        grants_of(self.alloc, &self.indices, &links)
     }
 }

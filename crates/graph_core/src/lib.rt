@@ -41,11 +41,11 @@
 //!
 //! With n the edges of one privilege (of the system at most 1,024):
 //!
-//! - `holds`, `may_grant`, `has_made` and `room` look the privilege up by hash, and
-//!   the user with the logarithm of n. Edges of other tables and grants that fell cost nothing.
-//! - `grant` makes its room first, and then adds each edge: a move of n ends of 40 bytes at most.
+//! - `holds`, `may_grant`, `has_made` and `room` look the privilege and the user up by hash, and then
+//!   his edges with the logarithm of n. Edges of other tables and grants that fell cost nothing.
+//! - `grant` makes its room first, and then adds each edge: a move of n ends of 16 bytes at most.
 //! - `revoke` costs that for each edge that falls, and one look-up for each user who is pruned and
-//!   for each pair of atom and user that is named. It takes no memory and never fails; it calls
+//!   for each pair of atom and user that is named. It needs no memory and never fails; it calls
 //!   itself at most as deep as there are edges of one privilege.
 //! - `in_force` goes over all edges.
 #![tactic(auto)]

@@ -1,99 +1,76 @@
-use Rattle.std.proofs.Common.{◌≡◌, ◌+◌, ◌*◌, ◌≤◌, ◌++◌, ◌∙◌, ℕ, List, ap, sym, subst, arith, length}
-use Rattle.grants_core.specs.Content.{count_of, singles}
-use Rattle.grants_core.specs.Numbers.{IsNumbered}
+use Rattle.std.proofs.Common.{◌≡◌, ◌*◌, ◌++◌, ◌∙◌, ℕ, List, map, ap, sym, subst, arith, length}
+use Rattle.std.specs.List.{AllByRecursion}
+use Rattle.std.proofs.lemmas.List.{map-append, length-map}
+use Rattle.std.proofs.lemmas.Result.{err_from_is_err_and}
+use Rattle.grants_core.specs.Content.{singles}
 use Rattle.grants_core.specs.declared.grant.Grant.{Grant}
-use Rattle.grants_core.proofs.NumberLemmas.{IsNumbered-added}
+use Rattle.grants_core.proofs.NumberLemmas.{numbers-singles}
 use Rattle.grants_core.proofs.SinglesLemmas.{length-singles}
-use Rattle.copyup_core.specs.Holding.{Holding}
-use Rattle.edges_core.specs.Listed.{room}
-use Rattle.edges_core.specs.Edges.{Kept, Agrees, AreNumbered, edges_in, numbered_as, grantee_of, grantor_of}
-use Rattle.edges_core.proofs.EdgesLemmas.{singles-numbered, edges_in-numbered_as}
-use Rattle.edges_core.proofs.AddLemmas.{agrees_same, kept_is}
+use Rattle.links_core.specs.declared.link.Link.{Link}
+use Rattle.links_core.specs.Links.{Linked, AreNumbered}
+use Rattle.links_core.proofs.EndsLemmas.{all_join}
+use Rattle.edges_core.specs.Edges.{Kept}
+use Rattle.edges_core.specs.Indices.{grant_of, IsWithin}
+use Rattle.edges_core.proofs.ExtendLemmas.{grants_kept, all_within_kept}
+use Rattle.edges_core.proofs.NumberLemmas.{numbered_alike}
 use Rattle.edges_core.proofs.edges.Edges.add.Goals as goal
 
-pub put-requires-clause-numbered : goal.put-requires-clause-numbered
-put-requires-clause-numbered c =
-    let next = c.self.inside.next in
-    let more_is = c.deref-3.ensures.value ∙ c.in_ok-more.ensures in
-    let next_is = ap (λ (h : Holding Grant). h.next) c.reserve.ensures.same ∙ c.self.invariant.1 in
-    subst (λ (k : List Grant). AreNumbered c.reserve.new.self.next k) (sym more_is)
-    (subst (λ (n : ℕ). AreNumbered n (singles next c.args.at c.args.by.now c.args.atoms.now c.args.whom.now c.args.option)) (sym next_is)
-    (singles-numbered next c.args.at c.args.by.now c.args.atoms.now c.args.whom.now c.args.option))
+pub returns-in_err-more-clause-err : goal.returns-in_err-more-clause-err
+returns-in_err-more-clause-err c =
+    let e = c.self.inside in
+    let p = err_from_is_err_and c.from_residual-in_err-more.result c.from_residual-in_err-more.ensures.1 in
+    rw (p.1, ← c.self.view_is) (ap (λ (k : List Grant). record { edges = k; next = e.links.next }) (grants_kept e.indices c.links_of.new.indices e.links.links c.links_of.ensures.extends c.self.invariant))
 
-pub put-requires-clause-own : goal.put-requires-clause-own
-put-requires-clause-own c =
-    let is = ap (λ (h : Holding Grant). h.contents) c.reserve.ensures.same in
-    is ∙ c.self.invariant.0.own ∙ ap (λ k. numbered_as (edges_in k)) (sym is)
+pub add-requires-clause-numbered : goal.add-requires-clause-numbered
+add-requires-clause-numbered c =
+    let new = c.links_of.new.indices in
+    let numbers = ap (map (λ (g : Grant). g.number)) (c.deref.ensures.value ∙ c.in_ok-grants.ensures) ∙ numbers-singles c.next.result c.args.at c.args.by.now c.args.atoms.now c.args.whom.now c.args.option in
+    let numbered = numbered_alike new c.in_ok-more.more.items c.deref.result.now c.next.result (length c.args.atoms.now * length c.args.whom.now) c.in_ok-more.ensures.grants numbers in
+    subst (λ (n : ℕ). AreNumbered n c.deref-2.result.now) c.next.ensures (subst (λ (k : List Link). AreNumbered c.next.result k) (sym c.deref-2.ensures.value) numbered)
 
-pub put-requires-clause-spare : goal.put-requires-clause-spare
-put-requires-clause-spare c =
-    let enough = c.in_ok-reserve.ensures.ok in
-    let counted = c.len.ensures in
-    let long = c.deref-3.ensures.len in
-    omega (arith, enough, counted, long)
-
-pub put-requires-clause-within : goal.put-requires-clause-within
-put-requires-clause-within c =
-    let next = c.self.inside.next in
-    let next_is = ap (λ (h : Holding Grant). h.next) c.reserve.ensures.same ∙ c.self.invariant.1 in
-    let view : next ≡ c.args.self.now.next = ap (λ (k : Kept). k.next) c.self.view_is in
-    let long : length c.deref-3.result.now ≡ length c.args.atoms.now * length c.args.whom.now = ap length (c.deref-3.ensures.value ∙ c.in_ok-more.ensures) ∙ length-singles next c.args.at c.args.by.now c.args.atoms.now c.args.whom.now c.args.option in
+pub add-requires-clause-within : goal.add-requires-clause-within
+add-requires-clause-within c =
+    let view : c.self.inside.links.next ≡ c.args.self.now.next = ap (λ (k : Kept). k.next) c.self.view_is in
+    let long : length c.deref-2.result.now ≡ length c.args.atoms.now * length c.args.whom.now =
+    ap length c.deref-2.ensures.value ∙ sym (length-map c.in_ok-more.more.items (grant_of c.links_of.new.indices)) ∙ ap length (c.in_ok-more.ensures.grants ∙ c.deref.ensures.value ∙ c.in_ok-grants.ensures)
+    ∙ length-singles c.next.result c.args.at c.args.by.now c.args.atoms.now c.args.whom.now c.args.option in
     let within = c.requires in
-    omega (arith, next_is, view, long, within)
-
-pub put-requires-clause-received : goal.put-requires-clause-received
-put-requires-clause-received c =
-    let is = ap (λ (h : Holding Grant). edges_in h.contents) c.reserve.ensures.same in
-    subst (λ k. Agrees c.make_rooms.new.index grantee_of k) (sym is) (agrees_same c.self.inside.received c.make_rooms.new.index grantee_of (edges_in c.self.inside.store.contents) c.make_rooms.ensures.lists c.self.invariant.0.received_at)
-
-pub put-requires-clause-given : goal.put-requires-clause-given
-put-requires-clause-given c =
-    let is = ap (λ (h : Holding Grant). edges_in h.contents) c.reserve.ensures.same in
-    subst (λ k. Agrees c.make_rooms-2.new.index grantor_of k) (sym is) (agrees_same c.self.inside.given c.make_rooms-2.new.index grantor_of (edges_in c.self.inside.store.contents) c.make_rooms-2.ensures.lists c.self.invariant.0.given_at)
-
-pub put-requires-clause-rooms : goal.put-requires-clause-rooms
-put-requires-clause-rooms c = λ b. (
-  subst (λ (k : List Grant). count_of k b ≤ room c.make_rooms.new.index b) (c.deref.ensures.value ∙ sym c.deref-3.ensures.value) (c.in_ok-make_rooms.ensures.ok b),
-  subst (λ (k : List Grant). count_of k b ≤ room c.make_rooms-2.new.index b) (c.deref-2.ensures.value ∙ sym c.deref-3.ensures.value) (c.in_ok-make_rooms-2.ensures.ok b),
-)
+    omega (arith, view, long, within)
 
 pub invariant_of-self-2 : goal.invariant_of-self-2
 invariant_of-self-2 c =
-    let next = c.self.inside.next in
-    let edges = edges_in c.self.inside.store.contents in
-    let more = c.deref-3.result.now in
-    let before_is = ap (λ (h : Holding Grant). edges_in h.contents) c.reserve.ensures.same in
-    let more_is = c.deref-3.ensures.value ∙ c.in_ok-more.ensures in
-    let all_is = ap (λ k. k ++ more) before_is in
-    let long = ap length more_is ∙ length-singles next c.args.at c.args.by.now c.args.atoms.now c.args.whom.now c.args.option in
-    let counted = c.len-2.ensures in
-    let whole = c.deref-3.ensures.len in
-    let len_is : length c.args.atoms.now * length c.args.whom.now ≡ c.len-2.result = omega (arith, long, counted, whole) in
-    let numbered : IsNumbered (next + c.len-2.result) (edges ++ more) =
-    subst (λ k. IsNumbered (next + c.len-2.result) (edges ++ k)) (sym more_is)
-    (subst (λ (n : ℕ). IsNumbered (next + n) (edges ++ singles next c.args.at c.args.by.now c.args.atoms.now c.args.whom.now c.args.option)) len_is
-    (IsNumbered-added next edges c.args.at c.args.by.now c.args.atoms.now c.args.whom.now c.args.option c.self.invariant.0.numbered)) in
-    let next_put = c.put.ensures.next in
-    let next_is = ap (λ (h : Holding Grant). h.next) c.reserve.ensures.same ∙ c.self.invariant.1 in (
-      kept_is c.put.new.store.contents (edges ++ more) (next + c.len-2.result) c.put.new.received c.put.new.given
-          (c.put.ensures.contents ∙ ap numbered_as all_is) numbered
-          (subst (λ k. Agrees c.put.new.received grantee_of k) all_is c.put.ensures.received)
-          (subst (λ k. Agrees c.put.new.given grantor_of k) all_is c.put.ensures.given),
-      omega (arith, next_put, next_is, counted, whole),
-    )
+    let e = c.self.inside in
+    let new = c.links_of.new.indices in
+    let more = c.deref-2.result.now in
+    subst (λ (k : List Link). AllByRecursion (IsWithin new) k) (sym c.in_ok-add.ensures.links)
+    (all_join (IsWithin new) e.links.links more (all_within_kept e.indices new e.links.links c.links_of.ensures.extends c.self.invariant)
+    (subst (λ (k : List Link). AllByRecursion (IsWithin new) k) (sym c.deref-2.ensures.value) c.in_ok-more.ensures.within))
 
 pub returns-clause-edges : goal.returns-clause-edges
 returns-clause-edges c =
-    let more = c.deref-3.result.now in
-    let before_is = ap (λ (h : Holding Grant). edges_in h.contents) c.reserve.ensures.same in
-    let more_is = c.deref-3.ensures.value ∙ c.in_ok-more.ensures in
-    rw (← c.self.view_is) (ap edges_in c.put.ensures.contents ∙ edges_in-numbered_as (edges_in c.reserve.new.self.contents ++ more) ∙ ap (λ k. k ++ more) before_is ∙ ap (λ k. edges_in c.self.inside.store.contents ++ k) more_is)
+    let e = c.self.inside in
+    let new = c.links_of.new.indices in
+    let more = c.deref-2.result.now in
+    let made : map (grant_of new) more ≡ singles e.links.next c.args.at c.args.by.now c.args.atoms.now c.args.whom.now c.args.option =
+    ap (map (grant_of new)) c.deref-2.ensures.value ∙ c.in_ok-more.ensures.grants ∙ c.deref.ensures.value ∙ c.in_ok-grants.ensures
+    ∙ ap (λ n. singles n c.args.at c.args.by.now c.args.atoms.now c.args.whom.now c.args.option) c.next.ensures in
+    rw (← c.self.view_is) (ap (map (grant_of new)) c.in_ok-add.ensures.links ∙ map-append (grant_of new) e.links.links more
+    ∙ ap (λ k. k ++ map (grant_of new) more) (grants_kept e.indices new e.links.links c.links_of.ensures.extends c.self.invariant)
+    ∙ ap (λ k. map (grant_of e.indices) e.links.links ++ k) made)
 
 pub returns-clause-next : goal.returns-clause-next
 returns-clause-next c =
-    let next = c.self.inside.next in
-    let view : next ≡ c.args.self.now.next = ap (λ (k : Kept). k.next) c.self.view_is in
-    let long = ap length (c.deref-3.ensures.value ∙ c.in_ok-more.ensures) ∙ length-singles next c.args.at c.args.by.now c.args.atoms.now c.args.whom.now c.args.option in
-    let counted = c.len-2.ensures in
-    let whole = c.deref-3.ensures.len in
-    omega (arith, view, long, counted, whole)
+    let view : c.self.inside.links.next ≡ c.args.self.now.next = ap (λ (k : Kept). k.next) c.self.view_is in
+    let long : length c.deref-2.result.now ≡ length c.args.atoms.now * length c.args.whom.now =
+    ap length c.deref-2.ensures.value ∙ sym (length-map c.in_ok-more.more.items (grant_of c.links_of.new.indices)) ∙ ap length (c.in_ok-more.ensures.grants ∙ c.deref.ensures.value ∙ c.in_ok-grants.ensures)
+    ∙ length-singles c.next.result c.args.at c.args.by.now c.args.atoms.now c.args.whom.now c.args.option in
+    let is = c.in_ok-add.ensures.next in
+    omega (arith, view, long, is)
+
+pub returns-in_err-add-clause-err : goal.returns-in_err-add-clause-err
+returns-in_err-add-clause-err c =
+    let e = c.self.inside in
+    let new = c.links_of.new.indices in
+    let p = err_from_is_err_and c.from_residual-in_err-add.result c.from_residual-in_err-add.ensures.1 in
+    rw (p.1, ← c.self.view_is) (ap (λ (l : Linked). record { edges = map (grant_of new) l.links; next = l.next }) c.in_err-add.ensures.err
+    ∙ ap (λ (k : List Grant). record { edges = k; next = e.links.next }) (grants_kept e.indices new e.links.links c.links_of.ensures.extends c.self.invariant))

@@ -1,14 +1,19 @@
-use Rattle.std.proofs.Common.{◌∙◌, List, map, ap}
+use Rattle.std.proofs.Common.{◌∙◌, ap, sym}
 use Rattle.grants_core.specs.Content.{gives}
-use Rattle.edges_core.specs.declared.end.End.{End}
-use Rattle.edges_core.specs.Edges.{ends_at, grantee_of, edges_in}
-use Rattle.edges_core.proofs.LookUpLemmas.{some_listed, any_same, gives_is}
+use Rattle.links_core.specs.Links.{goes_to}
+use Rattle.edges_core.specs.Indices.{goes_to_place}
+use Rattle.edges_core.proofs.LinkLemmas.{any_grant, no_grant}
 use Rattle.edges_core.proofs.edges.Edges.any_gives.Goals as goal
 
-pub returns : goal.returns
-returns c =
-    let user = c.args.user.now in
-    let atom = c.args.atom.now in
-    let edges = edges_in c.self.inside.store.contents in
-    let same = ap (λ (k : List End). map (λ e. e.number) k) c.ends_at.ensures ∙ c.self.invariant.0.received_at.at atom user in
-    rw (← c.self.view_is) (rw c.is_empty.ensures (some_listed (ends_at grantee_of atom user) edges c.ends_at.result.now same ∙ any_same _ (gives user atom) edges (gives_is user atom)))
+pub returns-in-Some : goal.returns-in-Some
+returns-in-Some c =
+    let e = c.self.inside in
+    let place = c.in-Some.place in
+    rw (← c.self.view_is) (c.any_to.ensures ∙ sym (any_grant e.indices (gives c.args.user.now c.args.atom.now) e.links.links c.self.invariant (goes_to place.user place.atom)
+    (λ l w. c.place.ensures.received l w ∙ ap (λ o. goes_to_place o l) c.in-Some.is)))
+
+pub returns-in-None : goal.returns-in-None
+returns-in-None c =
+    let e = c.self.inside in
+    rw (← c.self.view_is) (sym (no_grant e.indices (gives c.args.user.now c.args.atom.now) e.links.links c.self.invariant
+    (λ l w. c.place.ensures.received l w ∙ ap (λ o. goes_to_place o l) c.in-None.is)))

@@ -1,16 +1,20 @@
-use Rattle.std.proofs.Common.{◌∙◌, ◌&&◌, List, map, ap}
+use Rattle.std.proofs.Common.{◌∙◌, ◌&&◌, ap, sym}
 use Rattle.grants_core.specs.Content.{gives}
-use Rattle.edges_core.specs.declared.end.End.{End}
-use Rattle.edges_core.specs.Edges.{ends_at, grantee_of, edges_in}
-use Rattle.edges_core.proofs.LookUpLemmas.{own_values-kept, any_listed, any_same, gives_is}
+use Rattle.links_core.specs.Links.{goes_to}
+use Rattle.edges_core.specs.Indices.{goes_to_place}
+use Rattle.edges_core.proofs.LinkLemmas.{any_grant, no_grant}
+use Rattle.edges_core.proofs.PlaceLemmas.{and_false}
 use Rattle.edges_core.proofs.edges.Edges.any_gives_option.Goals as goal
 
-pub returns : goal.returns
-returns c =
-    let user = c.args.user.now in
-    let atom = c.args.atom.now in
-    let contents = c.self.inside.store.contents in
-    let same = ap (λ (k : List End). map (λ e. e.number) k) c.ends_at.ensures ∙ c.self.invariant.0.received_at.at atom user in
-    let own = own_values-kept contents c.self.inside.next c.self.inside.received c.self.inside.given c.self.invariant.0 in
-    rw (← c.self.view_is) (c.any_option.ensures ∙ any_listed (λ g. g.option) (ends_at grantee_of atom user) contents (edges_in contents) c.ends_at.result.now own same
-    ∙ any_same _ (λ g. g.option && gives user atom g) (edges_in contents) (λ g. ap (λ b. g.option && b) (gives_is user atom g)))
+pub returns-in-Some : goal.returns-in-Some
+returns-in-Some c =
+    let e = c.self.inside in
+    let place = c.in-Some.place in
+    rw (← c.self.view_is) (c.any_option_to.ensures ∙ sym (any_grant e.indices (λ g. g.option && gives c.args.user.now c.args.atom.now g) e.links.links c.self.invariant (λ l. l.option && goes_to place.user place.atom l)
+    (λ l w. ap (λ b. l.option && b) (c.place.ensures.received l w ∙ ap (λ o. goes_to_place o l) c.in-Some.is))))
+
+pub returns-in-None : goal.returns-in-None
+returns-in-None c =
+    let e = c.self.inside in
+    rw (← c.self.view_is) (sym (no_grant e.indices (λ g. g.option && gives c.args.user.now c.args.atom.now g) e.links.links c.self.invariant
+    (λ l w. ap (λ b. l.option && b) (c.place.ensures.received l w ∙ ap (λ o. goes_to_place o l) c.in-None.is) ∙ and_false l.option)))

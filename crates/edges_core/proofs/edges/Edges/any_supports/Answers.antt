@@ -1,15 +1,22 @@
-use Rattle.std.proofs.Common.{◌∙◌, ◌&&◌, List, map, ap, ltb}
+use Rattle.std.proofs.Common.{◌∙◌, ◌&&◌, ap, sym, ltb}
 use Rattle.grants_core.specs.Valid.{supports}
-use Rattle.edges_core.specs.declared.end.End.{End}
-use Rattle.edges_core.specs.Edges.{ends_at, grantee_of, edges_in}
-use Rattle.edges_core.proofs.LookUpLemmas.{own_values-kept, any_listed, any_same, supports_is}
+use Rattle.links_core.specs.Links.{goes_to}
+use Rattle.edges_core.specs.Indices.{grant_of, goes_to_place}
+use Rattle.edges_core.proofs.LinkLemmas.{any_grant, no_grant}
+use Rattle.edges_core.proofs.PlaceLemmas.{and_false, supports_is}
 use Rattle.edges_core.proofs.edges.Edges.any_supports.Goals as goal
 
-pub returns : goal.returns
-returns c =
+pub returns-in-Some : goal.returns-in-Some
+returns-in-Some c =
+    let e = c.self.inside in
     let edge = c.args.edge.now in
-    let contents = c.self.inside.store.contents in
-    let same = ap (λ (k : List End). map (λ e. e.number) k) c.ends_at-ends.ensures ∙ c.self.invariant.0.received_at.at edge.atom edge.grantor in
-    let own = own_values-kept contents c.self.inside.next c.self.inside.received c.self.inside.given c.self.invariant.0 in
-    rw (← c.self.view_is) (c.any_supports.ensures ∙ any_listed (λ g. g.option && ltb g.moment.0 edge.moment.0) (ends_at grantee_of edge.atom edge.grantor) contents (edges_in contents) c.ends_at-ends.result.now own same
-    ∙ any_same _ (λ h. supports h edge) (edges_in contents) (supports_is edge))
+    let place = c.in-Some.place in
+    rw (← c.self.view_is) (c.any_earlier_option_to.ensures ∙ sym (any_grant e.indices (λ h. supports h edge) e.links.links c.self.invariant (λ l. (l.option && ltb l.moment.0 edge.moment.0) && goes_to place.user place.atom l)
+    (λ l w. supports_is (grant_of e.indices l) edge ∙ ap (λ b. (l.option && ltb l.moment.0 edge.moment.0) && b) (c.place.ensures.received l w ∙ ap (λ o. goes_to_place o l) c.in-Some.is))))
+
+pub returns-in-None : goal.returns-in-None
+returns-in-None c =
+    let e = c.self.inside in
+    let edge = c.args.edge.now in
+    rw (← c.self.view_is) (sym (no_grant e.indices (λ h. supports h edge) e.links.links c.self.invariant
+    (λ l w. supports_is (grant_of e.indices l) edge ∙ ap (λ b. (l.option && ltb l.moment.0 edge.moment.0) && b) (c.place.ensures.received l w ∙ ap (λ o. goes_to_place o l) c.in-None.is) ∙ and_false (l.option && ltb l.moment.0 edge.moment.0))))

@@ -1,36 +1,47 @@
-use Rattle.std.proofs.Common.{◌≡◌, ℕ, ◌∙◌, ◌&&◌, List, Option, map, ap, sym}
-use Rattle.std.specs.List.{find}
+use Rattle.std.proofs.Common.{◌∙◌, ◌&&◌, ◌==◌, Some, ap, sym}
+use Rattle.std.specs.Option.{option_map}
 use Rattle.base_core.specs.Users.{same_user}
 use Rattle.grants_core.specs.Content.{gives}
-use Rattle.grants_core.specs.declared.grant.Grant.{Grant}
-use Rattle.edges_core.specs.declared.end.End.{End}
-use Rattle.edges_core.specs.Edges.{ends_at, grantee_of, edges_in, passes_at, IsKept}
-use Rattle.edges_core.proofs.LookUpLemmas.{own_values-kept, find_listed, find_same, gives_is, found_at, number_of}
-use Rattle.std.specs.Option.{option_copied}
-use Rattle.base_core.specs.declared.name.User.{User}
-use Rattle.base_core.specs.declared.privilege.Atom.{Atom}
-use Rattle.indexmap.specs.IndexMap.{IndexMap}
-use Rattle.edges_core.specs.declared.key.Key.{Key}
-use Rattle.edges_core.specs.Ends.{Held, at_user}
-use Rattle.edges_core.specs.Listed.{listed}
+use Rattle.links_core.specs.Links.{goes_to}
+use Rattle.edges_core.specs.Indices.{grant_of, IsWithin}
+use Rattle.edges_core.proofs.LinkLemmas.{find_grant, none_found}
+use Rattle.edges_core.proofs.OverLemmas.{find_within}
+use Rattle.edges_core.proofs.PlaceLemmas.{and_false, both}
 use Rattle.edges_core.proofs.edges.Edges.first_between.Goals as goal
 
--- the edge for which the end that was answered stands
-first_is : {S : Type 0} (contents : List (ℕ × Grant)) (next : ℕ) (received given : IndexMap Key Held S) (by user : User) (atom : Atom) (ends : List End) (first : Option End) → IsKept contents next received given → ends ≡ at_user user (listed received atom) → first ≡ find (λ e. passes_at (λ g. same_user g.grantor by) contents e.number) ends → found_at contents (number_of first) ≡ find (λ g. same_user g.grantor by && gives user atom g) (edges_in contents)
-first_is contents next received given by user atom ends first kept is answered =
-    let same = ap (λ (k : List End). map (λ e. e.number) k) is ∙ kept.received_at.at atom user in
-    ap (λ o. found_at contents (number_of o)) answered
-    ∙ find_listed (λ g. same_user g.grantor by) (ends_at grantee_of atom user) contents (edges_in contents) ends (own_values-kept contents next received given kept) same
-    ∙ find_same _ (λ g. same_user g.grantor by && gives user atom g) (edges_in contents) (λ g. ap (λ b. same_user g.grantor by && b) (gives_is user atom g))
+pub returns-in_err-by : goal.returns-in_err-by
+returns-in_err-by c =
+    let e = c.self.inside in
+    rw (c.from_residual.ensures, ← c.self.view_is) (sym (none_found e.indices (λ g. same_user g.grantor c.args.by.now && gives c.args.user.now c.args.atom.now g) e.links.links c.self.invariant
+    (λ l w. ap (λ b. b && gives c.args.user.now c.args.atom.now (grant_of e.indices l)) (c.in_err-by.ensures l.grantor w.grantor))))
 
-pub returns-in-Some : goal.returns-in-Some
-returns-in-Some c =
-    let contents = c.self.inside.store.contents in
-    rw (← c.self.view_is) (c.copied.ensures ∙ c.get.ensures ∙ sym (ap (λ o. found_at contents (number_of (option_copied o))) c.in-Some.is)
-    ∙ first_is contents c.self.inside.next c.self.inside.received c.self.inside.given c.args.by.now c.args.user.now c.args.atom.now c.ends_at-ends.result.now (option_copied c.first_made_by.result) c.self.invariant.0 c.ends_at-ends.ensures c.first_made_by.ensures)
+pub returns-in_err-place : goal.returns-in_err-place
+returns-in_err-place c =
+    let e = c.self.inside in
+    rw (c.from_residual-in_err-place.ensures, ← c.self.view_is) (sym (none_found e.indices (λ g. same_user g.grantor c.args.by.now && gives c.args.user.now c.args.atom.now g) e.links.links c.self.invariant
+    (λ l w. ap (λ b. same_user (grant_of e.indices l).grantor c.args.by.now && b) (c.in_err-place.ensures.received l w) ∙ and_false _)))
 
-pub returns-in-None : goal.returns-in-None
-returns-in-None c =
-    let contents = c.self.inside.store.contents in
-    rw (← c.self.view_is) (sym (ap (λ o. found_at contents (number_of (option_copied o))) c.in-None.is)
-    ∙ first_is contents c.self.inside.next c.self.inside.received c.self.inside.given c.args.by.now c.args.user.now c.args.atom.now c.ends_at-ends.result.now (option_copied c.first_made_by.result) c.self.invariant.0 c.ends_at-ends.ensures c.first_made_by.ensures)
+pub returns-in_err-link : goal.returns-in_err-link
+returns-in_err-link c =
+    let e = c.self.inside in
+    let by = c.in_ok-by.by in
+    let place = c.in_ok-place.place in
+    rw (c.from_residual-in_err-link.ensures, ← c.self.view_is) (sym (find_grant e.indices (λ g. same_user g.grantor c.args.by.now && gives c.args.user.now c.args.atom.now g) e.links.links c.self.invariant (λ l. (l.grantor == by) && goes_to place.user place.atom l)
+    (λ l w. both _ _ _ _ (c.in_ok-by.ensures l.grantor w.grantor) (c.in_ok-place.ensures.received l w))
+    ∙ ap (option_map (grant_of e.indices)) (sym c.in_err-link.ensures)))
+
+pub grant-requires : goal.grant-requires
+grant-requires c =
+    let e = c.self.inside in
+    let by = c.in_ok-by.by in
+    let place = c.in_ok-place.place in
+    find_within (IsWithin e.indices) (λ l. (l.grantor == by) && goes_to place.user place.atom l) e.links.links c.in_ok-link.link c.self.invariant (sym c.in_ok-link.ensures)
+
+pub returns : goal.returns
+returns c =
+    let e = c.self.inside in
+    let by = c.in_ok-by.by in
+    let place = c.in_ok-place.place in
+    rw (← c.self.view_is) (ap Some c.grant.ensures ∙ sym (find_grant e.indices (λ g. same_user g.grantor c.args.by.now && gives c.args.user.now c.args.atom.now g) e.links.links c.self.invariant (λ l. (l.grantor == by) && goes_to place.user place.atom l)
+    (λ l w. both _ _ _ _ (c.in_ok-by.ensures l.grantor w.grantor) (c.in_ok-place.ensures.received l w))
+    ∙ ap (option_map (grant_of e.indices)) (sym c.in_ok-link.ensures)))

@@ -1,34 +1,36 @@
-use Rattle.std.proofs.Common.{◌≡◌, ℕ, ◌∙◌, List, Option, map, ap, sym}
-use Rattle.std.specs.List.{find, slice_get}
-use Rattle.grants_core.specs.declared.grant.Grant.{Grant}
-use Rattle.edges_core.specs.declared.end.End.{End}
-use Rattle.edges_core.specs.Edges.{ends_at, grantor_of, made_by, edges_in, IsKept}
-use Rattle.edges_core.proofs.LookUpLemmas.{own_values-kept, head_listed, find_same, made_by_is, found_at, number_of}
-use Rattle.std.specs.Option.{option_copied}
-use Rattle.base_core.specs.declared.name.User.{User}
-use Rattle.base_core.specs.declared.privilege.Atom.{Atom}
-use Rattle.indexmap.specs.IndexMap.{IndexMap}
-use Rattle.edges_core.specs.declared.key.Key.{Key}
-use Rattle.edges_core.specs.Ends.{Held, at_user}
-use Rattle.edges_core.specs.Listed.{listed}
+use Rattle.std.proofs.Common.{◌∙◌, Some, ap, sym}
+use Rattle.std.specs.Option.{option_map}
+use Rattle.links_core.specs.Links.{comes_from}
+use Rattle.edges_core.specs.Edges.{made_by}
+use Rattle.edges_core.specs.Indices.{grant_of, IsWithin}
+use Rattle.edges_core.proofs.LinkLemmas.{find_grant, none_found}
+use Rattle.edges_core.proofs.OverLemmas.{find_within}
 use Rattle.edges_core.proofs.edges.Edges.first_made.Goals as goal
 
--- the edge for which the first end that was answered stands
-first_is : {S : Type 0} (contents : List (ℕ × Grant)) (next : ℕ) (received given : IndexMap Key Held S) (user : User) (atom : Atom) (ends : List End) (first : Option End) → IsKept contents next received given → ends ≡ at_user user (listed given atom) → first ≡ slice_get ends 0 → found_at contents (number_of first) ≡ find (made_by user atom) (edges_in contents)
-first_is contents next received given user atom ends first kept is head =
-    let same = ap (λ (k : List End). map (λ e. e.number) k) is ∙ kept.given_at.at atom user in
-    ap (λ o. found_at contents (number_of o)) head
-    ∙ head_listed (ends_at grantor_of atom user) contents (edges_in contents) ends (own_values-kept contents next received given kept) same
-    ∙ find_same _ (made_by user atom) (edges_in contents) (made_by_is user atom)
+pub returns-in_err-place : goal.returns-in_err-place
+returns-in_err-place c =
+    let e = c.self.inside in
+    rw (c.from_residual.ensures, ← c.self.view_is) (sym (none_found e.indices (made_by c.args.user.now c.args.atom.now) e.links.links c.self.invariant
+    (λ l w. c.in_err-place.ensures.given l w)))
 
-pub returns-in-Some : goal.returns-in-Some
-returns-in-Some c =
-    let contents = c.self.inside.store.contents in
-    rw (← c.self.view_is) (c.copied.ensures ∙ c.get.ensures ∙ sym (ap (λ o. found_at contents (number_of (option_copied o))) c.in-Some.is)
-    ∙ first_is contents c.self.inside.next c.self.inside.received c.self.inside.given c.args.user.now c.args.atom.now c.ends_at.result.now (option_copied c.first.result) c.self.invariant.0 c.ends_at.ensures c.first.ensures.value)
+pub returns-in_err-link : goal.returns-in_err-link
+returns-in_err-link c =
+    let e = c.self.inside in
+    let place = c.in_ok-place.place in
+    rw (c.from_residual-in_err-link.ensures, ← c.self.view_is) (sym (find_grant e.indices (made_by c.args.user.now c.args.atom.now) e.links.links c.self.invariant (comes_from place.user place.atom)
+    (λ l w. c.in_ok-place.ensures.given l w)
+    ∙ ap (option_map (grant_of e.indices)) (sym c.in_err-link.ensures)))
 
-pub returns-in-None : goal.returns-in-None
-returns-in-None c =
-    let contents = c.self.inside.store.contents in
-    rw (← c.self.view_is) (sym (ap (λ o. found_at contents (number_of (option_copied o))) c.in-None.is)
-    ∙ first_is contents c.self.inside.next c.self.inside.received c.self.inside.given c.args.user.now c.args.atom.now c.ends_at.result.now (option_copied c.first.result) c.self.invariant.0 c.ends_at.ensures c.first.ensures.value)
+pub grant-requires : goal.grant-requires
+grant-requires c =
+    let e = c.self.inside in
+    let place = c.in_ok-place.place in
+    find_within (IsWithin e.indices) (comes_from place.user place.atom) e.links.links c.in_ok-link.link c.self.invariant (sym c.in_ok-link.ensures)
+
+pub returns : goal.returns
+returns c =
+    let e = c.self.inside in
+    let place = c.in_ok-place.place in
+    rw (← c.self.view_is) (ap Some c.grant.ensures ∙ sym (find_grant e.indices (made_by c.args.user.now c.args.atom.now) e.links.links c.self.invariant (comes_from place.user place.atom)
+    (λ l w. c.in_ok-place.ensures.given l w)
+    ∙ ap (option_map (grant_of e.indices)) (sym c.in_ok-link.ensures)))

@@ -1,29 +1,28 @@
-use Rattle.std.proofs.Common.{◌∙◌, ap, sym, subst}
-use Rattle.grants_core.specs.declared.grant.Grant.{Grant}
-use Rattle.copyup_core.specs.Holding.{Holding}
-use Rattle.edges_core.specs.Edges.{Kept, HasEdge, TakesOut, edges_in, grantee_of, grantor_of}
-use Rattle.edges_core.proofs.EdgesLemmas.{IsTaken, taken_is, number_listed}
+use Rattle.std.proofs.Common.{◌≡◌, ◌∙◌, map, ap, sym, subst}
+use Rattle.std.specs.Option.{unwrap_or, is_some}
+use Rattle.std.proofs.lemmas.Bool.{true≢false}
+use Rattle.links_core.specs.Lists.{HasItem}
+use Rattle.links_core.specs.declared.link.Link.{Link}
+use Rattle.edges_core.specs.Edges.{Kept, HasEdge, TakesOut}
+use Rattle.edges_core.specs.Indices.{grant_of, IsWithin}
+use Rattle.edges_core.proofs.SplitLemmas.{link_found, all_without, taken_over}
 use Rattle.edges_core.proofs.edges.Edges.take_out.Goals as goal
 
-pub take_end-requires : goal.take_end-requires
-take_end-requires c =
-    let one : HasEdge c.args.edge.now (edges_in c.self.inside.store.contents) = subst (λ (k : Kept). HasEdge c.args.edge.now k.edges) (sym c.self.view_is) c.requires in
-    number_listed c.self.inside.received grantee_of (edges_in c.self.inside.store.contents) c.args.edge.now c.self.invariant.0.received_at one
+pub take_out-requires : goal.take_out-requires
+take_out-requires c =
+    let f = link_found c.self.inside.indices c.args.edge.now c.self.inside.links.links c.link.result (subst (λ (k : Kept). HasEdge c.args.edge.now k.edges) (sym c.self.view_is) c.requires) c.self.invariant c.link.ensures in
+    subst (λ (l : Link). HasItem l c.self.inside.links.links) (ap (λ o. unwrap_or o f.item) (sym f.is ∙ c.in-Some.is)) f.has
 
-pub take_end-requires-2 : goal.take_end-requires-2
-take_end-requires-2 c =
-    let one : HasEdge c.args.edge.now (edges_in c.self.inside.store.contents) = subst (λ (k : Kept). HasEdge c.args.edge.now k.edges) (sym c.self.view_is) c.requires in
-    number_listed c.self.inside.given grantor_of (edges_in c.self.inside.store.contents) c.args.edge.now c.self.invariant.0.given_at one
-
-is_taken : (c : goal.After-remove) → IsTaken c.self.inside.store.contents c.remove.new.self.contents c.self.inside.next c.take_end.new.index c.take_end-2.new.index c.args.edge.now
-is_taken c =
-    let old = c.self.inside.store.contents in
-    let one : HasEdge c.args.edge.now (edges_in old) = subst (λ (k : Kept). HasEdge c.args.edge.now k.edges) (sym c.self.view_is) c.requires in
-    let taken = taken_is old c.self.inside.next c.self.inside.received c.self.inside.given c.take_end.new.index c.take_end-2.new.index c.args.edge.now c.self.invariant.0 one c.take_end.ensures.numbers c.take_end.ensures.counts c.take_end-2.ensures.numbers c.take_end-2.ensures.counts in
-    subst (λ k. IsTaken old k c.self.inside.next c.take_end.new.index c.take_end-2.new.index c.args.edge.now) (sym (ap (λ (h : Holding Grant). h.contents) c.remove.ensures.same)) taken
+pub unreachable-requires : goal.unreachable-requires
+unreachable-requires c = absurd (true≢false (sym (ap is_some (sym c.in-None.is ∙ (link_found c.self.inside.indices c.args.edge.now c.self.inside.links.links c.link.result (subst (λ (k : Kept). HasEdge c.args.edge.now k.edges) (sym c.self.view_is) c.requires) c.self.invariant c.link.ensures).is))))
 
 pub invariant_of-self : goal.invariant_of-self
-invariant_of-self c = ((is_taken c).kept, ap (λ (h : Holding Grant). h.next) c.remove.ensures.same ∙ c.self.invariant.1)
+invariant_of-self c = all_without (IsWithin c.self.inside.indices) c.in-Some.link c.self.inside.links.links c.take_out.new.self.links c.self.invariant c.take_out.ensures.taken
 
 pub returns-clause-taken : goal.returns-clause-taken
-returns-clause-taken c = subst (λ (k : Kept). TakesOut c.args.edge.now k.edges (edges_in c.remove.new.self.contents)) c.self.view_is (is_taken c).taken
+returns-clause-taken c =
+    let e = c.self.inside in
+    let f = link_found c.self.inside.indices c.args.edge.now c.self.inside.links.links c.link.result (subst (λ (k : Kept). HasEdge c.args.edge.now k.edges) (sym c.self.view_is) c.requires) c.self.invariant c.link.ensures in
+    let here : f.item ≡ c.in-Some.link = ap (λ o. unwrap_or o f.item) (sym f.is ∙ c.in-Some.is) in
+    subst (λ (k : Kept). TakesOut c.args.edge.now k.edges (map (grant_of e.indices) c.take_out.new.self.links)) c.self.view_is
+    (taken_over (grant_of e.indices) c.in-Some.link c.args.edge.now e.links.links c.take_out.new.self.links (ap (grant_of e.indices) (sym here) ∙ f.stands) c.take_out.ensures.taken)
