@@ -10,3 +10,8 @@ AreResolved {T} name_of columns items indexes =
     (k : ℕ) (item : T)
     → k < 32 → slice_get items k ≡ Some item
     → slice_index_or indexes k None ≡ column_index columns (name_of item)
+
+-- each name is that of the column at its own place
+abbrev pub AreInOrder : List Column → List Name → Type 0
+AreInOrder columns names =
+    (k : ℕ) (name : Name) → slice_get names k ≡ Some name → column_index columns name ≡ Some k

@@ -1,11 +1,12 @@
 //! Work on the rows of one table.
-ghost use Rattle.std.specs.Prelude.{◌≡◌, ◌↔◌, IfOk, IsTrue, map, filter, not};
+ghost use Rattle.std.specs.Prelude.{◌≡◌, ◌↔◌, IfOk, IsTrue, map, filter, not, true};
 ghost use Rattle.std.specs.List.{list_all, zip};
 ghost use Rattle.std.specs.Option.{option_copied};
 ghost use Rattle.base_core.specs.Filter.{at_index};
 ghost use Rattle.base_core.specs.Values.{has_type};
 ghost use Rattle.tables_core.specs.Contents.{satisfies, projected_values};
 ghost use Rattle.tables_core.specs.Fitting.{ValuesFit, assignment_fits};
+ghost use Rattle.tables_core.specs.Resolving.{AreInOrder};
 
 use crate::resolved::Resolved;
 use base_core::{
@@ -76,6 +77,37 @@ pub fn cut(alloc: Global, names: &Resolved<'_, Name>, values: &[Value]) -> Resul
     Ok(Row { values })
 }
 
+/// Whether each name is that of the column at its own place.
+fn are_in_order(names: &Resolved<'_, Name>) -> bool
+    ensures { IsTrue result ↔ AreInOrder names.now.columns.now names.now.items.now }
+{
+    for (at, name) in names.items().iter().enumerate() {
+        if names.index_of(at, name) != Some(at) {
+            return false;
+        }
+    }
+    true
+}
+
+/// The named columns of a row. One that has all of them in order, and no more, is shared.
+fn cut_or_shared(
+    alloc: Global,
+    names: &Resolved<'_, Name>,
+    in_order: bool,
+    row: &Row,
+) -> Result<Row, NoMemory>
+    requires { in_order ≡ true → AreInOrder names.now.columns.now names.now.items.now }
+    ensures { IfOk result
+        (λ cut.
+        cut.values
+        ≡ projected_values names.now.columns.now names.now.items.now row.now.values) }
+{
+    if in_order && names.items().len() == row.values.len() {
+        return row.try_twin();
+    }
+    cut(alloc, names, row.values.as_slice())
+}
+
 /// The named columns of the rows that the filter chooses.
 pub fn select_chosen(
     alloc: Global,
@@ -91,10 +123,11 @@ pub fn select_chosen(
         record { values = projected_values names.now.columns.now names.now.items.now r.1.values })
         (filter (satisfies conditions.now.columns.now conditions.now.items.now) rows.now)) }
 {
+    let in_order = are_in_order(names);
     let mut chosen = Vec::new(alloc);
     for numbered in rows {
         if conditions.choose(numbered) {
-            chosen.push(cut(alloc, names, numbered.1.values.as_slice())?)?;
+            chosen.push(cut_or_shared(alloc, names, in_order, &numbered.1)?)?;
         }
     }
     Ok(chosen)
