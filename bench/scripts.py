@@ -1,0 +1,86 @@
+"""Statements whose rates are compared: of each kind those before, those that are counted, and how much they count for."""
+import random
+from dataclasses import dataclass
+
+COLUMNS = 32
+CHUNK = 64
+
+
+@dataclass
+class Kind:
+    """Statements to compare by, and how many units (statements or rows) the counted ones come to."""
+    unit: str
+    before: list
+    counted: list
+    units: int
+
+
+def filled(rows):
+    """A table of so many rows (TEXT of 10 bytes, INTEGER)."""
+    return ["CREATE TABLE t (name TEXT, amount INTEGER)"] + [f"INSERT INTO t VALUES ('row {n:06}', {n})" for n in range(rows)]
+
+
+def mix(statements):
+    """Of each hundred 70 INSERT, 20 SELECT that choose few rows, 5 UPDATE and 5 DELETE."""
+    chance = random.Random(1976)
+    rows = 0
+    for n in range(statements):
+        kind, chosen = chance.randrange(100), chance.randrange(rows + 1)
+        if kind < 70:
+            yield f"INSERT INTO t VALUES ('row {rows}', {rows})"
+            rows += 1
+        elif kind < 90:
+            yield f"SELECT name FROM t WHERE amount >= {chosen} AND amount < {chosen + 5}"
+        elif kind < 95:
+            yield f"UPDATE t SET name = 'new {n}' WHERE amount = {chosen}"
+        else:
+            yield f"DELETE FROM t WHERE amount = {chosen}"
+
+
+def wide(rows):
+    """A table of 32 columns, whose last one counts the rows."""
+    names = ", ".join(f"c{n} INTEGER" for n in range(COLUMNS))
+    zeros = "0, " * (COLUMNS - 1)
+    return [f"CREATE TABLE t ({names})"] + [f"INSERT INTO t VALUES ({zeros}{n})" for n in range(rows)]
+
+
+def many_conditions():
+    """A SELECT with 32 conditions on the last column, of which all rows meet all but the last one."""
+    met = [f"c{COLUMNS - 1} >= {-n}" for n in range(1, COLUMNS)]
+    return "SELECT c0 FROM t WHERE " + " AND ".join(met + [f"c{COLUMNS - 1} < 5"])
+
+
+def kinds():
+    """The kinds by name."""
+    ranges = [f"SELECT name FROM t WHERE amount >= {n} AND amount < {n + 5}" for n in range(0, 100_000, 2_500)]
+    steps = [""] * (100_000 // CHUNK + 1)
+    return {
+        "inserts": Kind("statement", filled(0), filled(200_000)[1:], 200_000),
+        "mix": Kind("statement", filled(0), list(mix(20_000)), 20_000),
+        "filter": Kind("row", filled(100_000), ranges, 100_000 * len(ranges)),
+        "conditions": Kind("row", wide(10_000), [many_conditions()] * 20, 20 * 10_000),
+        "select": Kind("row", filled(100_000), ["SELECT * FROM t"] * 10, 10 * 100_000),
+        "export": Kind("row", filled(100_000) + ["CHECKPOINT"] + steps, ["EXPORT 1"] * 10, 10 * 100_000),
+    }
+
+
+def lines(statements):
+    """The statements as the program reads them; an empty one is an empty line, which lets a checkpointer step."""
+    return "".join(f"ann: {statement}\n" if statement else "\n" for statement in statements)
+
+
+def sql(statements):
+    """The statements as sqlite3 reads them; a SELECT of all rows stands for an EXPORT, and nothing for a CHECKPOINT."""
+    for statement in statements:
+        if statement.startswith("EXPORT"):
+            yield "SELECT * FROM t;\n"
+        elif statement not in ("", "CHECKPOINT"):
+            yield f"{statement};\n"
+
+
+def pushes(statements):
+    """For each INSERT the command of redis that pushes its row."""
+    for statement in statements:
+        if statement.startswith("INSERT"):
+            row = statement.partition("(")[2][:-1]
+            yield f"*3\r\n$5\r\nRPUSH\r\n$1\r\nt\r\n${len(row)}\r\n{row}\r\n"
