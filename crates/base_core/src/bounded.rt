@@ -2,6 +2,7 @@
 ghost use Rattle.std.specs.Prelude.{◌≡◌, ◌<◌, ◌≤◌, ℕ, IfOk, List, [], true, length, map};
 ghost use Rattle.base_core.specs.Distinct.{are_distinct};
 
+use crate::builder::ValuesBuilder;
 use crate::compact::Compact;
 use crate::memory::NoMemory;
 use crate::name::Name;
@@ -30,12 +31,12 @@ impl<const LIMIT: usize> Model for SeveralValues<LIMIT> {
 
 impl<const LIMIT: usize> SeveralValues<LIMIT> {
     /// These values. `NoMemory` where a request for memory was refused.
-    pub fn from_vec(alloc: Global, items: Vec<Value>) -> Result<SeveralValues<LIMIT>, NoMemory>
-        requires some { 0 < length items.items }
-        requires few { length items.items ≤ LIMIT }
-        ensures { IfOk result (λ several. several ≡ items.items) }
+    pub fn from_builder(builder: ValuesBuilder) -> Result<SeveralValues<LIMIT>, NoMemory>
+        requires some { 0 < length builder }
+        requires few { length builder ≤ LIMIT }
+        ensures { IfOk result (λ several. several ≡ builder) }
     {
-        let values = Values::from_vec(alloc, items)?;
+        let values = builder.build()?;
         Ok(SeveralValues { values })
     }
 

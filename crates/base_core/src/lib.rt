@@ -2,9 +2,10 @@
 //! limits, and streams of bytes.
 //!
 //! A value of this crate is plain data, and contracts see it as such: a [`Name`] and a [`Text`] as
-//! the list of their bytes, a [`Sequence`], [`Compact`], [`Limited`], [`Distinct`], [`Values`] or
-//! [`SeveralValues`] as the list of its items, the enums and the structs with public fields as
-//! themselves. So two values are `≡` in a contract exactly where a client can't tell them apart.
+//! the list of their bytes, a [`Sequence`], [`Compact`], [`Limited`], [`Distinct`], [`Values`],
+//! [`ValuesBuilder`] or [`SeveralValues`] as the list of its items, the enums and the structs with
+//! public fields as themselves. So two values are `≡` in a contract exactly where a client can't
+//! tell them apart.
 //!
 //! What a type promises stands in its invariant, once: a [`Name`] is a word of at most 30 bytes in
 //! small letters that is no keyword, a [`Text`] is at most 1,024 bytes of UTF-8 with no control
@@ -23,10 +24,12 @@
 //!
 //! A name is `Copy`, and its comparison and hash go over its bytes. A look-up by name in a row goes
 //! over the columns. Copies of rows, values and texts take no memory: the [`Values`] of a row and a
-//! long text stand on the heap once for all copies, and a short text stands in the value.
+//! long text stand on the heap once for all copies, and a short text stands in the value. A
+//! [`ValuesBuilder`] gathers the values of a short row without memory of its own.
 #![tactic(auto)]
 
 mod bounded;
+mod builder;
 mod compact;
 mod condition;
 mod keyword;
@@ -43,6 +46,7 @@ mod value;
 mod word;
 
 pub use bounded::{Distinct, Limited, Named, SeveralValues};
+pub use builder::ValuesBuilder;
 pub use compact::Compact;
 pub use condition::{Assignment, Comparison, Condition, column_index};
 pub use keyword::Keyword;

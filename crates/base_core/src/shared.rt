@@ -4,12 +4,11 @@ ghost use Rattle.std.specs.Prelude.{◌≡◌, ◌↔◌, [], IfOk, IsTrue, leng
 use crate::memory::{NoMemory, Twin};
 use crate::value::Value;
 use smallvec::SmallVec;
-use std::alloc::Global;
 use std::marker::Model;
 use std::sync::Arc;
 
 /// So many values stand in one block of memory with the count of their owners.
-const INSIDE: usize = 2;
+pub(crate) const INSIDE: usize = 2;
 
 /// Values in order, which stand on the heap once for all copies. Contracts see the list of them.
 #[derive(Drop)]
@@ -27,13 +26,14 @@ impl Model for Values {
 }
 
 impl Values {
-    /// These values. Room that the vector has beyond them is given back. `NoMemory` where a request
-    /// for memory was refused.
-    pub fn from_vec(alloc: Global, items: Vec<Value>) -> Result<Values, NoMemory>
+    /// These values. Room beyond them is given back. `NoMemory` where a request for memory was
+    /// refused.
+    pub(crate) fn from_items(items: SmallVec<Value, INSIDE>) -> Result<Values, NoMemory>
         ensures { IfOk result (λ values. values ≡ items.items) }
     {
-        let mut items = SmallVec::from_vec(items);
+        let mut items = items;
         items.shrink_to_fit();
+        let alloc = *items.allocator();
         let items = Arc::new(alloc, items)?;
         Ok(Values { items })
     }

@@ -1,6 +1,6 @@
 //! What no clause says: that calls which take memory succeed, and how much room a store takes.
 use crate::{PushFault, Store};
-use base_core::{Row, Values};
+use base_core::{Row, ValuesBuilder};
 use std::test::Fail;
 
 #[test]
@@ -40,7 +40,7 @@ fn rows_are_items_too(rt: HostRuntime) -> Result<(), Fail> {
     let mut store = Store::new(rt.alloc());
     store.reserve(1)?;
     assert!(rt; store.spare() >= 1);
-    let values = Values::from_vec(rt.alloc(), Vec::new(rt.alloc()))?;
+    let values = ValuesBuilder::new(rt.alloc()).build()?;
     let stored = store.push(Row { values }).is_ok();
     assert!(rt; stored);
     assert!(rt; store.get(0).is_some_and(|row| row.values.is_empty()));
