@@ -10,7 +10,7 @@ ghost use Rattle.tables_core.specs.Resolving.{AreInOrder};
 
 use crate::resolved::Resolved;
 use base_core::{
-    Assignment, Column, Condition, Name, NoMemory, Row, Twin, Value, Values, column_index,
+    Assignment, Column, Condition, Name, NoMemory, Row, Twin, Value, ValuesBuilder, column_index,
 };
 use std::alloc::Global;
 
@@ -67,13 +67,13 @@ pub fn cut(alloc: Global, names: &Resolved<'_, Name>, values: &[Value]) -> Resul
         (λ row.
         row.values ≡ projected_values names.now.columns.now names.now.items.now values.now) }
 {
-    let mut items = Vec::with_capacity(alloc, names.items().len())?;
+    let mut named = ValuesBuilder::with_capacity(alloc, names.items().len())?;
     for (at, name) in names.items().iter().enumerate() {
         if let Some(value) = value_at(values, names.index_of(at, name)) {
-            items.push(value.try_twin()?)?;
+            named.push(value.try_twin()?)?;
         }
     }
-    let values = Values::from_vec(alloc, items)?;
+    let values = named.build()?;
     Ok(Row { values })
 }
 

@@ -6,18 +6,15 @@ ghost use Rattle.tables_core.specs.Updating.{with_new_rows};
 
 use crate::resolved::Resolved;
 use crate::rows::NumberedRow;
-use base_core::{Assignment, Column, Condition, NoMemory, Row, Twin, Value, Values, twins_of};
+use base_core::{Assignment, Column, Condition, NoMemory, Row, Twin, Value, ValuesBuilder};
 use std::alloc::Global;
 
 /// Puts a value in the place of the one at this index, if there is one.
-fn set_value(values: &mut [Value], index: Option<usize>, value: Value)
+fn set_value(values: &mut ValuesBuilder, index: Option<usize>, value: Value)
     ensures { values.new ≡ with_value values.old index value }
 {
-    let Some(index) = index else {
-        return;
-    };
-    if index < values.len() {
-        values[index] = value;
+    if let Some(index) = index {
+        values.set(index, value);
     }
 }
 
@@ -30,12 +27,12 @@ fn with_assignments(
     ensures { IfOk result (λ row.
         row.values ≡ assigned_values sets.now.columns.now sets.now.items.now values.now) }
 {
-    let mut items = twins_of(alloc, values)?;
+    let mut made = ValuesBuilder::twins_of(alloc, values)?;
     for (at, set) in sets.items().iter().enumerate() {
         let value = set.value.try_twin()?;
-        set_value(items.as_mut_slice(), sets.index_of(at, set), value);
+        set_value(&mut made, sets.index_of(at, set), value);
     }
-    let values = Values::from_vec(alloc, items)?;
+    let values = made.build()?;
     Ok(Row { values })
 }
 
