@@ -1,5 +1,5 @@
 //! Lists of items with a separator between each two.
-ghost use Rattle.std.specs.Prelude.{◌≡◌, ◌<◌, ◌∷◌, ◌++◌, [], List, None, Some, true, All, IfOk, length, map};
+ghost use Rattle.std.specs.Prelude.{◌≡◌, ◌<◌, ◌∷◌, ◌++◌, [], List, None, Some, true, All, IfOk, OnOk, length, map};
 ghost use Rattle.lexer_core.specs.Lexing.{Lexeme};
 ghost use Rattle.lexer_core.specs.declared.token.TokenKind.{TokenKind};
 ghost use Rattle.reader_core.specs.Grammar.{Grammar, Rule, Items, More, item_fault};
@@ -10,6 +10,7 @@ ghost use Rattle.reader_core.specs.Language.{listed, separator_class, separator_
 
 use crate::parsing::reader::Reader;
 use crate::separator::Separator;
+use base_core::{NoMemory, Value, ValuesBuilder};
 use lexer_core::ReadFault;
 use std::alloc::Global;
 
@@ -44,20 +45,72 @@ pub trait Item: Drop + Sized {
     ghost separates: { rule.separator ≡ separator_class SEPARATOR };
 }
 
+/// What the items of a list are gathered in, in their order.
+pub trait Gathered<T>: Drop + Sized {
+    // The items in it.
+    ghost items_of: { Self → List T };
+
+    /// No items.
+    fn empty(alloc: Global) -> Self
+        ensures { items_of result ≡ [] };
+
+    /// Puts an item behind the others. `NoMemory` where a request for memory was refused.
+    fn add(&mut self, item: T) -> Result<(), NoMemory>
+        ensures { OnOk result (items_of self.new ≡ items_of self.old ++ item ∷ []) };
+
+    fn items(&self) -> &[T]
+        ensures { result.now ≡ items_of self.now };
+}
+
+impl<T: Drop> Gathered<T> for Vec<T> {
+    ghost items_of = { λ items. items.items };
+
+    fn empty(alloc: Global) -> Vec<T> {
+        Vec::new(alloc)
+    }
+
+    fn add(&mut self, item: T) -> Result<(), NoMemory> {
+        self.push(item)?;
+        Ok(())
+    }
+
+    fn items(&self) -> &[T] {
+        self.as_slice()
+    }
+}
+
+/// Few values take no memory before they are shared.
+impl Gathered<Value> for ValuesBuilder {
+    ghost items_of = { λ values. values };
+
+    fn empty(alloc: Global) -> ValuesBuilder {
+        ValuesBuilder::new(alloc)
+    }
+
+    fn add(&mut self, item: Value) -> Result<(), NoMemory> {
+        self.push(item)
+    }
+
+    fn items(&self) -> &[Value] {
+        self.as_slice()
+    }
+}
+
 /// One item, and more of them behind separators.
-pub fn list<T: Item>(reader: &mut Reader<'_>, alloc: Global) -> Result<Vec<T>, ReadFault>
+pub fn list<T: Item, L: Gathered<T>>(reader: &mut Reader<'_>, alloc: Global) -> Result<L, ReadFault>
     ensures reads { Reads (λ k. Items T.rule [] T.grammar k)
-        (λ v. listed (separator_lexeme T.SEPARATOR) T.says v.items) result reader.old reader.new }
-    ensures some { IfOk result (λ v. 0 < length v.items) }
-    ensures faultless { IfOk result (λ v. AreFaultless T.rule [] (map T.first v.items)) }
-    ensures well_formed { IfOk result (λ v. All T.well_formed v.items) }
+        (λ l. listed (separator_lexeme T.SEPARATOR) T.says (L.items_of l))
+        result reader.old reader.new }
+    ensures some { IfOk result (λ l. 0 < length (L.items_of l)) }
+    ensures faultless { IfOk result (λ l. AreFaultless T.rule [] (map T.first (L.items_of l))) }
+    ensures well_formed { IfOk result (λ l. All T.well_formed (L.items_of l)) }
 {
-    let mut items = Vec::new(alloc);
+    let mut list = L::empty(alloc);
     loop {
-        let item = T::read(reader, alloc, &items)?;
-        items.push(item)?;
+        let item = T::read(reader, alloc, list.items())?;
+        list.add(item)?;
         if !reader.at_separator(T::SEPARATOR) {
-            return Ok(items);
+            return Ok(list);
         }
         reader.advance();
     }

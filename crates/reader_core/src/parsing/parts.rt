@@ -21,7 +21,7 @@ impl Reader<'_> {
     fn names(&mut self, alloc: Global) -> Result<Distinct<Name, MAX_ITEMS>, ReadFault>
         ensures { Reads (name_list 32) (λ names. names_say names) result self.old self.new }
     {
-        let names = list::<Name>(self, alloc)?;
+        let names = list::<Name, Vec<Name>>(self, alloc)?;
         Ok(Distinct::from_vec(alloc, names)?)
     }
 
@@ -29,7 +29,7 @@ impl Reader<'_> {
         ensures { Reads (name_list 16) (λ users. listed comma_lexeme user_says users)
             result self.old self.new }
     {
-        let users = list::<User>(self, alloc)?;
+        let users = list::<User, Vec<User>>(self, alloc)?;
         Ok(Distinct::from_vec(alloc, users)?)
     }
 
@@ -93,7 +93,7 @@ impl Reader<'_> {
             (λ ps. listed comma_lexeme privilege_says ps) result self.old self.new }
         ensures well_formed { IfOk result (λ ps. ArePrivileges ps) }
     {
-        let privileges = list::<Privilege>(self, alloc)?;
+        let privileges = list::<Privilege, Vec<Privilege>>(self, alloc)?;
         Ok(Privileges::from_vec(alloc, privileges)?)
     }
 
@@ -101,7 +101,7 @@ impl Reader<'_> {
         ensures { Reads filter (λ conditions. filter_says conditions) result self.old self.new }
     {
         self.keyword(Keyword::Where)?;
-        let conditions = list::<Condition>(self, alloc)?;
+        let conditions = list::<Condition, Vec<Condition>>(self, alloc)?;
         Ok(Limited::from_vec(alloc, conditions)?)
     }
 

@@ -7,7 +7,7 @@ ghost use Rattle.reader_core.specs.Language.{create, insert, select, delete, upd
 use crate::parsing::list::list;
 use crate::parsing::reader::Reader;
 use crate::statement::Statement;
-use base_core::{Assignment, Column, Distinct, Keyword, SeveralValues, Value};
+use base_core::{Assignment, Column, Distinct, Keyword, SeveralValues, Value, ValuesBuilder};
 use lexer_core::{Code, Mark, ReadFault};
 use std::alloc::Global;
 
@@ -21,7 +21,7 @@ impl Reader<'_> {
         self.keyword(Keyword::Table)?;
         let table = self.name()?;
         self.mark(Mark::Open)?;
-        let items = list::<Column>(self, alloc)?;
+        let items = list::<Column, Vec<Column>>(self, alloc)?;
         let columns = Distinct::from_vec(alloc, items)?;
         self.mark(Mark::Close)?;
         Ok(Statement::CreateTable { table, columns })
@@ -37,8 +37,8 @@ impl Reader<'_> {
         let table = self.name()?;
         self.keyword(Keyword::Values)?;
         self.mark(Mark::Open)?;
-        let items = list::<Value>(self, alloc)?;
-        let values = SeveralValues::from_vec(alloc, items)?;
+        let items = list::<Value, ValuesBuilder>(self, alloc)?;
+        let values = SeveralValues::from_builder(items)?;
         self.mark(Mark::Close)?;
         Ok(Statement::Insert { table, values })
     }
@@ -80,7 +80,7 @@ impl Reader<'_> {
         self.keyword(Keyword::Update)?;
         let table = self.name()?;
         self.keyword(Keyword::Set)?;
-        let items = list::<Assignment>(self, alloc)?;
+        let items = list::<Assignment, Vec<Assignment>>(self, alloc)?;
         let sets = Distinct::from_vec(alloc, items)?;
         let filter = self.filter(alloc)?;
         Ok(Statement::Update {

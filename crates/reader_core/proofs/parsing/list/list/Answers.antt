@@ -11,25 +11,25 @@ next_so : (class : Class) (looked separator : Separator) (reader : Cursor) (is :
     → is ≡ next_is (separator_class looked) reader → next_is class reader ≡ is
 next_so class looked separator reader is rule same e = ap (λ x. next_is x reader) (rule ∙ sym (ap separator_class same)) ∙ sym e
 
-pub loop-items-init : goal.loop-items-init
-loop-items-init g c = nothing_yet _ _ _ _ _ _ _ _ c.new-items.ensures.items
+pub loop-list-init : goal.loop-list-init
+loop-list-init g c = nothing_yet _ _ _ _ _ _ _ _ c.empty-list.ensures
 
 pub returns-then-not-at_separator-clause-reads : goal.returns-then-not-at_separator-clause-reads
 returns-then-not-at_separator-clause-reads g c =
-    rw c.in_ok-push.ensures.items (list_done c.in_ok-item.item c.loop-items.invariant (rw c.deref.ensures.value at c.in_ok-item.ensures.leads) (rw c.deref.ensures.value at c.in_ok-item.ensures.faultless) c.in_ok-item.ensures.well_formed (next_so _ c.SEPARATOR.result _ c.read.new.reader _ g.met.T.Item.separates c.SEPARATOR.ensures c.if-not-at_separator.ensures.next))
+    rw c.in_ok-add.ensures (list_done c.in_ok-item.item c.loop-list.invariant (rw c.items.ensures at c.in_ok-item.ensures.leads) (rw c.items.ensures at c.in_ok-item.ensures.faultless) c.in_ok-item.ensures.well_formed (next_so _ c.SEPARATOR.result _ c.read.new.reader _ g.met.T.Item.separates c.SEPARATOR.ensures c.if-not-at_separator.ensures.next))
 
 pub returns-then-not-at_separator-clause-faultless : goal.returns-then-not-at_separator-clause-faultless
 returns-then-not-at_separator-clause-faultless g c =
-    rw c.in_ok-push.ensures.items (faultless_on c.in_ok-item.item c.loop-items.invariant (rw c.deref.ensures.value at c.in_ok-item.ensures.leads) (rw c.deref.ensures.value at c.in_ok-item.ensures.faultless) c.in_ok-item.ensures.well_formed)
+    rw c.in_ok-add.ensures (faultless_on c.in_ok-item.item c.loop-list.invariant (rw c.items.ensures at c.in_ok-item.ensures.leads) (rw c.items.ensures at c.in_ok-item.ensures.faultless) c.in_ok-item.ensures.well_formed)
 
 pub returns-then-not-at_separator-clause-well_formed : goal.returns-then-not-at_separator-clause-well_formed
 returns-then-not-at_separator-clause-well_formed g c =
-    rw c.in_ok-push.ensures.items (lawful_on c.in_ok-item.item c.loop-items.invariant (rw c.deref.ensures.value at c.in_ok-item.ensures.leads) (rw c.deref.ensures.value at c.in_ok-item.ensures.faultless) c.in_ok-item.ensures.well_formed)
+    rw c.in_ok-add.ensures (lawful_on c.in_ok-item.item c.loop-list.invariant (rw c.items.ensures at c.in_ok-item.ensures.leads) (rw c.items.ensures at c.in_ok-item.ensures.faultless) c.in_ok-item.ensures.well_formed)
 
-pub loop-items-smaller : goal.loop-items-smaller
-loop-items-smaller g c = shorter c.loop-items.reader c.read.new.reader c.advance.new.self g.T.Item.rule.separator _ c.in_ok-item.ensures.leads.says (next_so _ c.SEPARATOR.result _ c.read.new.reader _ g.met.T.Item.separates c.SEPARATOR.ensures c.if-not-at_separator.ensures.next) c.advance.ensures.rest
+pub loop-list-smaller : goal.loop-list-smaller
+loop-list-smaller g c = shorter c.loop-list.reader c.read.new.reader c.advance.new.self g.T.Item.rule.separator _ c.in_ok-item.ensures.leads.says (next_so _ c.SEPARATOR.result _ c.read.new.reader _ g.met.T.Item.separates c.SEPARATOR.ensures c.if-not-at_separator.ensures.next) c.advance.ensures.rest
 
-pub loop-items-preserved : goal.loop-items-preserved
-loop-items-preserved g c =
-    rw c.in_ok-push.ensures.items (list_on c.in_ok-item.item c.loop-items.invariant (rw c.deref.ensures.value at c.in_ok-item.ensures.leads) (rw c.deref.ensures.value at c.in_ok-item.ensures.faultless) c.in_ok-item.ensures.well_formed
+pub loop-list-preserved : goal.loop-list-preserved
+loop-list-preserved g c =
+    rw c.in_ok-add.ensures (list_on c.in_ok-item.item c.loop-list.invariant (rw c.items.ensures at c.in_ok-item.ensures.leads) (rw c.items.ensures at c.in_ok-item.ensures.faultless) c.in_ok-item.ensures.well_formed
     c.advance.new.self (next_so _ c.SEPARATOR.result _ c.read.new.reader _ g.met.T.Item.separates c.SEPARATOR.ensures c.if-not-at_separator.ensures.next) (rw c.SEPARATOR.ensures at c.at_separator.ensures.lexeme c.if-not-at_separator.false) c.advance.ensures.rest c.advance.ensures.line)

@@ -4,8 +4,8 @@ use Rattle.reader_core.specs.Language.{separator_lexeme}
 use Rattle.reader_core.proofs.parsing.list.list.Given as goal
 
 -- the items so far, and a separator behind each
-abbrev pub invariant-loop-items : goal.invariant-loop-items
-invariant-loop-items g l = SoFar g.T.Item.rule (separator_lexeme g.T.Item.SEPARATOR) g.T.Item.grammar g.T.Item.first g.T.Item.says g.T.Item.well_formed l.items.items l.fn.reader l.reader
+abbrev pub invariant-loop-list : goal.invariant-loop-list
+invariant-loop-list g l = SoFar g.T.Item.rule (separator_lexeme g.T.Item.SEPARATOR) g.T.Item.grammar g.T.Item.first g.T.Item.says g.T.Item.well_formed (g.L.Gathered.items_of l.list) l.fn.reader l.reader
 
-abbrev pub decreases-loop-items : goal.decreases-loop-items
-decreases-loop-items g l = length l.reader.rest
+abbrev pub decreases-loop-list : goal.decreases-loop-list
+decreases-loop-list g l = length l.reader.rest

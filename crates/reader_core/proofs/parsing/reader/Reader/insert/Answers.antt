@@ -5,7 +5,7 @@ use Rattle.reader_core.specs.Language.{comma_separated, value_lexeme}
 use Rattle.reader_core.proofs.Fine.{few_if_fine}
 use Rattle.reader_core.proofs.parsing.reader.Reader.insert.Goals as goal
 
-pub from_vec-requires : goal.from_vec-requires
-from_vec-requires c =
-    let values = c.in_ok-items.items.items in
+pub from_builder-requires : goal.from_builder-requires
+from_builder-requires c =
+    let values = c.in_ok-items.items in
     (omega arith, (c.in_ok-items.ensures.some, few_if_fine (comma_separated 32 false) (λ v. kind_of (value_lexeme v)) values c.in_ok-items.ensures.faultless))
