@@ -10,6 +10,7 @@ ghost use Rattle.reader_core.specs.Language.{listed, separator_class, separator_
 
 use crate::parsing::reader::Reader;
 use crate::separator::Separator;
+use crate::statement::MAX_ITEMS;
 use base_core::{NoMemory, Value, ValuesBuilder};
 use lexer_core::ReadFault;
 use std::alloc::Global;
@@ -50,9 +51,9 @@ pub trait Gathered<T>: Drop + Sized {
     // The items in it.
     ghost items_of: { Self → List T };
 
-    /// No items.
-    fn empty(alloc: Global) -> Self
-        ensures { items_of result ≡ [] };
+    /// No items, where so many are awaited. `NoMemory` where a request for memory was refused.
+    fn awaiting(alloc: Global, count: usize) -> Result<Self, NoMemory>
+        ensures { IfOk result (λ list. items_of list ≡ []) };
 
     /// Puts an item behind the others. `NoMemory` where a request for memory was refused.
     fn add(&mut self, item: T) -> Result<(), NoMemory>
@@ -65,8 +66,8 @@ pub trait Gathered<T>: Drop + Sized {
 impl<T: Drop> Gathered<T> for Vec<T> {
     ghost items_of = { λ items. items.items };
 
-    fn empty(alloc: Global) -> Vec<T> {
-        Vec::new(alloc)
+    fn awaiting(alloc: Global, _count: usize) -> Result<Vec<T>, NoMemory> {
+        Ok(Vec::new(alloc))
     }
 
     fn add(&mut self, item: T) -> Result<(), NoMemory> {
@@ -83,8 +84,8 @@ impl<T: Drop> Gathered<T> for Vec<T> {
 impl Gathered<Value> for ValuesBuilder {
     ghost items_of = { λ values. values };
 
-    fn empty(alloc: Global) -> ValuesBuilder {
-        ValuesBuilder::new(alloc)
+    fn awaiting(alloc: Global, count: usize) -> Result<ValuesBuilder, NoMemory> {
+        ValuesBuilder::with_capacity(alloc, count)
     }
 
     fn add(&mut self, item: Value) -> Result<(), NoMemory> {
@@ -105,7 +106,8 @@ pub fn list<T: Item, L: Gathered<T>>(reader: &mut Reader<'_>, alloc: Global) -> 
     ensures faultless { IfOk result (λ l. AreFaultless T.rule [] (map T.first (L.items_of l))) }
     ensures well_formed { IfOk result (λ l. All T.well_formed (L.items_of l)) }
 {
-    let mut list = L::empty(alloc);
+    // Of INSERT's values each has two tokens, with what stands behind it.
+    let mut list = L::awaiting(alloc, (reader.tokens_left() / 2).min(MAX_ITEMS))?;
     loop {
         let item = T::read(reader, alloc, list.items())?;
         list.add(item)?;

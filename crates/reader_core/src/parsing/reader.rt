@@ -84,6 +84,13 @@ impl Reader<'_> {
         }
     }
 
+    /// How many tokens are left.
+    pub fn tokens_left(&self) -> usize
+        ensures { result ≡ length self.now.rest }
+    {
+        self.rest.len()
+    }
+
     pub fn advance(&mut self)
         requires { next_kind self.old ≢ None }
         ensures rest { self.new.rest ≡ drop 1 self.old.rest }

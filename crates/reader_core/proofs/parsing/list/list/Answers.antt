@@ -12,7 +12,7 @@ next_so : (class : Class) (looked separator : Separator) (reader : Cursor) (is :
 next_so class looked separator reader is rule same e = ap (λ x. next_is x reader) (rule ∙ sym (ap separator_class same)) ∙ sym e
 
 pub loop-list-init : goal.loop-list-init
-loop-list-init g c = nothing_yet _ _ _ _ _ _ _ _ c.empty-list.ensures
+loop-list-init g c = nothing_yet _ _ _ _ _ _ _ _ c.in_ok-list.ensures
 
 pub returns-then-not-at_separator-clause-reads : goal.returns-then-not-at_separator-clause-reads
 returns-then-not-at_separator-clause-reads g c =
