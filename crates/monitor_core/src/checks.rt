@@ -56,15 +56,18 @@ pub fn columns_of(tables: &Tables, name: Name) -> &[Column]
 }
 
 /// Passed where the column takes the value.
+#[inline(always)]
 pub fn takes(column: Column, value: &Value) -> Result<(), Lack>
     ensures { result ≡ takes column value.now }
 {
     let Column { name, ty } = column;
-    let lack = Lack::WrongType {
+    if value.has_type(ty) {
+        return Ok(());
+    }
+    Err(Lack::WrongType {
         column: name,
         wanted: ty,
-    };
-    require(value.has_type(ty), lack)
+    })
 }
 
 /// Passed where each column takes the value at its place.

@@ -52,11 +52,14 @@ impl<A: Authority> Judge<'_, A> {
         require(is_table(self.tables, table), Lack::NoTable(table))
     }
 
+    #[inline(always)]
     pub fn may(&self, user: &User, atom: Atom) -> Result<(), Lack>
         ensures { result ≡ holds_privilege self.now user.now atom }
     {
-        let may = self.rights.holds(*user, &atom);
-        require(may, Lack::NoPrivilege { user: *user, atom })
+        if self.rights.holds(*user, &atom) {
+            return Ok(());
+        }
+        Err(Lack::NoPrivilege { user: *user, atom })
     }
 
     /// With a filter the user needs this too.
@@ -208,10 +211,14 @@ impl<A: Authority> Judge<'_, A> {
         self.moment.0 < self.limits.changes
     }
 
+    #[inline(always)]
     fn room_for_change(&self) -> Result<(), Lack>
         ensures { result ≡ room_for_change self.now }
     {
-        require(self.has_room(), Lack::Full(What::Changes))
+        if self.has_room() {
+            return Ok(());
+        }
+        Err(Lack::Full(What::Changes))
     }
 
     fn create(&self, table: Name) -> Result<(), Lack>
@@ -234,13 +241,16 @@ impl<A: Authority> Judge<'_, A> {
     fn insert(&self, user: &User, table: Name, values: &[Value]) -> Result<(), Lack>
         ensures { result ≡ verdict self.now user.now (statements.Insert table values.now) }
     {
-        let columns = columns_of(self.tables, table);
-        let (given, wanted) = (values.len(), columns.len());
+        let Some(columns) = self.tables.columns(table) else {
+            return Err(Lack::NoTable(table));
+        };
         let kind = Kind::Insert;
         let atom = Atom { table, kind };
-        self.table_stands(table)?;
         self.may(user, atom)?;
-        require(given == wanted, Lack::WrongCount { given, wanted })?;
+        let (given, wanted) = (values.len(), columns.len());
+        if given != wanted {
+            return Err(Lack::WrongCount { given, wanted });
+        }
         each_takes(columns, values)?;
         self.room_for_change()
     }
