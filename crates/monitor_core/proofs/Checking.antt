@@ -1,5 +1,5 @@
 -- Checks of each item of a list, by the first item that fails.
-use Rattle.std.proofs.Common.{◌≡◌, List, [], ◌∷◌, ℕ, zero, suc, ◌+◌, length, take, get_or, arith, refl, sym, ◌∙◌, Ok, Err, map, ap, ◌++◌}
+use Rattle.std.proofs.Common.{◌≡◌, List, [], ◌∷◌, ℕ, zero, suc, ◌+◌, length, take, get_or, arith, refl, sym, ◌∙◌, Result, Ok, Err, OnOk, map, ap, ◌++◌}
 use Rattle.std.specs.List.{AllByRecursion, flat_map}
 use Rattle.std.proofs.lemmas.List.{map-append}
 use Rattle.base_core.specs.declared.lack.Lack.{Lack}
@@ -60,3 +60,8 @@ each-one check x = one (check x)
     one : (c : Check) → first_lack (c ∷ []) ≡ c
     one (Ok tt) = refl
     one (Err lack) = refl
+
+-- what holds where a result is Ok, where it is
+pub told-Ok : {A E : Type 0} (r : Result A E) (x : A) (P : Type 0) → OnOk r P → r ≡ Ok x → P
+told-Ok (Ok y) x P h e = h
+told-Ok (Err y) x P h e = cc

@@ -1,10 +1,12 @@
 //! The single checks of a judgement.
-ghost use Rattle.std.specs.Prelude.{◌≡◌};
+ghost use Rattle.std.specs.Prelude.{◌≡◌, slice_get, option_and_then};
 ghost use Rattle.std.specs.List.{zip};
+ghost use Rattle.std.specs.Option.{option_copied};
+ghost use Rattle.base_core.specs.Filter.{column_index};
 ghost use Rattle.base_core.specs.declared.value.Value as values;
 ghost use Rattle.monitor_core.specs.Verdict.{require, each, is_table, columns_of, takes};
 
-use base_core::{Assignment, Column, Condition, Lack, Name, Named, Value};
+use base_core::{Assignment, Column, Condition, Lack, Name, Named, Value, column_index};
 use tables_core::Tables;
 
 /// What names a column, and a value for it.
@@ -53,6 +55,14 @@ pub fn columns_of(tables: &Tables, name: Name) -> &[Column]
         Some(columns) => columns,
         None => &[],
     }
+}
+
+/// The column of this name. None where there is no such column.
+pub fn column_of<'c>(columns: &'c [Column], name: Name) -> Option<&'c Column>
+    ensures { option_copied result
+        ≡ option_and_then (slice_get columns.now) (column_index columns.now name) }
+{
+    columns.get(column_index(columns, name)?)
 }
 
 /// Passed where the column takes the value.

@@ -1,22 +1,23 @@
 //! The judge of a statement: a method for each check of `specs/Verdict.antt`, and one for each kind
 //! of statement that makes its checks in their order and answers the first lack. A check of several
 //! names, values or users goes over them in the order written. It borrows what there is and keeps
-//! nothing.
-ghost use Rattle.std.specs.Prelude.{◌≡◌, ℕ, ◌∷◌, [], ◌≤◌, nat_lt, length};
+//! nothing. Of INSERT, SELECT, DELETE and UPDATE the table is looked up once, and their checks go
+//! by its columns.
+ghost use Rattle.std.specs.Prelude.{◌≡◌, ℕ, ◌∷◌, [], ◌≤◌, nat_lt, length, Ok, Err, OnOk, IfOk, IfErr};
 ghost use Rattle.base_core.specs.declared.name.User.{User};
 ghost use Rattle.base_core.specs.declared.privilege.Kind.TheVariants as kinds;
 ghost use Rattle.reader_core.specs.declared.statement.Statement.TheVariants as statements;
-ghost use Rattle.monitor_core.specs.Verdict.{verdict, first_lack, holds_privilege, each, column_stands, column_takes, table_stands, table_is_new, with_filter, list_stands, room_for_change, room_for_table, listed_columns_stand, atoms_at, holds_grant_option, made_grant, has_room, room_for_grants};
+ghost use Rattle.monitor_core.specs.Verdict.{verdict, first_lack, columns_of, holds_privilege, each, column_stands, column_takes, table_stands, table_is_new, with_filter, list_stands, room_for_change, room_for_table, listed_columns_stand, atoms_at, holds_grant_option, made_grant, has_room, room_for_grants};
 ghost use Rattle.monitor_core.specs.Atoms.{to_update, columns_listed};
 
 use crate::atoms::{
     AtomCheck, HoldsGrantOption, HoldsPrivilege, MadeGrants, RoomForGrants, columns_listed,
     each_atom, each_update,
 };
-use crate::checks::{Literal, columns_of, each_takes, is_table, require, takes};
+use crate::checks::{Literal, column_of, columns_of, each_takes, is_table, require, takes};
 use base_core::{
-    Assignment, Atom, Condition, Distinct, Kind, Lack, Limits, Moment, Name, Named, User, Value,
-    What,
+    Assignment, Atom, Column, Condition, Distinct, Kind, Lack, Limits, Moment, Name, Named, User,
+    Value, What,
 };
 use grants_core::Authority;
 use reader_core::{MAX_ITEMS, Privilege, Statement};
@@ -50,6 +51,19 @@ impl<A: Authority> Judge<'_, A> {
         ensures { result ≡ table_stands self.now table }
     {
         require(is_table(self.tables, table), Lack::NoTable(table))
+    }
+
+    /// The columns of the table, for the checks of a statement on it.
+    #[inline(always)]
+    fn columns(&self, table: Name) -> Result<&[Column], Lack>
+        ensures stands { OnOk result (table_stands self.now table ≡ Ok tt) }
+        ensures columns { IfOk result (λ columns. columns.now ≡ columns_of self.now.tables table) }
+        ensures lack { IfErr result (λ lack. table_stands self.now table ≡ Err lack) }
+    {
+        match self.tables.columns(table) {
+            Some(columns) => Ok(columns),
+            None => Err(Lack::NoTable(table)),
+        }
     }
 
     #[inline(always)]
@@ -122,19 +136,30 @@ impl<A: Authority> Judge<'_, A> {
         self.rights.room(atom, more, self.limits.grants)
     }
 
-    fn column_stands(&self, table: Name, column: Name) -> Result<(), Lack>
+    #[inline(always)]
+    #[tactic(auto, using(crate::proofs::Columns::column_of_columns))]
+    fn column_stands(&self, table: Name, columns: &[Column], column: Name) -> Result<(), Lack>
+        requires { columns.now ≡ columns_of self.now.tables table }
         ensures { result ≡ column_stands self.now table column }
     {
-        let stands = self.tables.column(table, column).is_some();
-        require(stands, Lack::NoColumn { table, column })
+        match column_of(columns, column) {
+            Some(_) => Ok(()),
+            None => Err(Lack::NoColumn { table, column }),
+        }
     }
 
     /// Each name is a column's of the table.
-    fn columns_stand<T: Named>(&self, table: Name, items: &[T]) -> Result<(), Lack>
+    fn columns_stand<T: Named>(
+        &self,
+        table: Name,
+        columns: &[Column],
+        items: &[T],
+    ) -> Result<(), Lack>
+        requires { columns.now ≡ columns_of self.now.tables table }
         ensures { result ≡ each items.now (λ item. column_stands self.now table (T.name_of item)) }
     {
         for item in items {
-            if let Err(lack) = self.column_stands(table, item.name()) {
+            if let Err(lack) = self.column_stands(table, columns, item.name()) {
                 return Err(lack);
             }
         }
@@ -142,12 +167,18 @@ impl<A: Authority> Judge<'_, A> {
     }
 
     /// Each column that the query lists is the table's.
-    fn list_stands(&self, table: Name, list: &Option<Distinct<Name, MAX_ITEMS>>) -> Result<(), Lack>
+    fn list_stands(
+        &self,
+        table: Name,
+        columns: &[Column],
+        list: &Option<Distinct<Name, MAX_ITEMS>>,
+    ) -> Result<(), Lack>
+        requires { columns.now ≡ columns_of self.now.tables table }
         ensures { result ≡ list_stands self.now table list.now }
     {
         match list {
             None => Ok(()),
-            Some(names) => self.columns_stand(table, names.as_slice()),
+            Some(names) => self.columns_stand(table, columns, names.as_slice()),
         }
     }
 
@@ -155,7 +186,8 @@ impl<A: Authority> Judge<'_, A> {
     fn listed_by_one_stand(&self, table: Name, privilege: &Privilege) -> Result<(), Lack>
         ensures { result ≡ each (columns_listed privilege.now) (column_stands self.now table) }
     {
-        self.columns_stand(table, columns_listed(privilege))
+        let columns = columns_of(self.tables, table);
+        self.columns_stand(table, columns, columns_listed(privilege))
     }
 
     /// Each column that the privileges list is the table's.
@@ -183,22 +215,37 @@ impl<A: Authority> Judge<'_, A> {
         each_atom(check, table, columns_of(self.tables, table), privileges)
     }
 
-    fn column_takes(&self, table: Name, column: Name, value: &Value) -> Result<(), Lack>
+    #[inline(always)]
+    #[tactic(auto, using(crate::proofs::Columns::column_of_columns))]
+    fn column_takes(
+        &self,
+        table: Name,
+        columns: &[Column],
+        column: Name,
+        value: &Value,
+    ) -> Result<(), Lack>
+        requires { columns.now ≡ columns_of self.now.tables table }
         ensures { result ≡ column_takes self.now table column value.now }
     {
-        match self.tables.column(table, column) {
-            Some(column) => takes(column, value),
+        match column_of(columns, column) {
+            Some(column) => takes(*column, value),
             None => Ok(()),
         }
     }
 
     /// Each column named takes its literal.
-    fn columns_take<T: Literal>(&self, table: Name, items: &[T]) -> Result<(), Lack>
+    fn columns_take<T: Literal>(
+        &self,
+        table: Name,
+        columns: &[Column],
+        items: &[T],
+    ) -> Result<(), Lack>
+        requires { columns.now ≡ columns_of self.now.tables table }
         ensures { result ≡ each items.now
             (λ item. column_takes self.now table (T.name_of item) (T.literal_of item)) }
     {
         for item in items {
-            if let Err(lack) = self.column_takes(table, item.name(), item.literal()) {
+            if let Err(lack) = self.column_takes(table, columns, item.name(), item.literal()) {
                 return Err(lack);
             }
         }
@@ -266,11 +313,11 @@ impl<A: Authority> Judge<'_, A> {
     {
         let kind = Kind::Select;
         let atom = Atom { table, kind };
-        self.table_stands(table)?;
-        self.list_stands(table, list)?;
-        self.columns_stand(table, filter)?;
+        let columns = self.columns(table)?;
+        self.list_stands(table, columns, list)?;
+        self.columns_stand(table, columns, filter)?;
         self.may(user, atom)?;
-        self.columns_take(table, filter)
+        self.columns_take(table, columns, filter)
     }
 
     fn delete(&self, user: &User, table: Name, filter: &[Condition]) -> Result<(), Lack>
@@ -282,11 +329,11 @@ impl<A: Authority> Judge<'_, A> {
             table,
             kind: Kind::Select,
         };
-        self.table_stands(table)?;
-        self.columns_stand(table, filter)?;
+        let columns = self.columns(table)?;
+        self.columns_stand(table, columns, filter)?;
         self.may(user, atom)?;
         self.may_filter(user, read, filter)?;
-        self.columns_take(table, filter)?;
+        self.columns_take(table, columns, filter)?;
         self.room_for_change()
     }
 
@@ -301,13 +348,13 @@ impl<A: Authority> Judge<'_, A> {
     {
         let kind = Kind::Select;
         let atom = Atom { table, kind };
-        self.table_stands(table)?;
-        self.columns_stand(table, sets)?;
-        self.columns_stand(table, filter)?;
+        let columns = self.columns(table)?;
+        self.columns_stand(table, columns, sets)?;
+        self.columns_stand(table, columns, filter)?;
         self.may_update(user, table, sets)?;
         self.may_filter(user, atom, filter)?;
-        self.columns_take(table, sets)?;
-        self.columns_take(table, filter)?;
+        self.columns_take(table, columns, sets)?;
+        self.columns_take(table, columns, filter)?;
         self.room_for_change()
     }
 

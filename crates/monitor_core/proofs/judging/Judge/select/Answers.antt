@@ -4,7 +4,7 @@ use Rattle.base_core.specs.declared.name.User.{User}
 use Rattle.base_core.specs.declared.condition.Condition.{Condition}
 use Rattle.reader_core.specs.declared.statement.Statement.TheVariants as statements
 use Rattle.monitor_core.specs.Verdict.{State, Check, checks}
-use Rattle.monitor_core.proofs.Checking.{failure_told}
+use Rattle.monitor_core.proofs.Checking.{failure_told, told-Ok}
 use Rattle.monitor_core.proofs.judging.Judge.select.Goals as goal
 
 abbrev all : (s : State) (user : User) (list : Option (List Name)) (table : Name) (filter : List Condition) → List Check
@@ -13,4 +13,4 @@ all s user list table filter = checks s user (statements.Select list table filte
 pub returns-in_err-columns_stand : goal.returns-in_err-columns_stand
 returns-in_err-columns_stand g c =
     let same : c.from_residual-in_err-columns_stand.result ≡ c.columns_stand.result = search rules in
-    same ∙ c.columns_stand.ensures ∙ sym (failure_told 2 (all c.args.self.now c.args.user.now c.args.list.now c.args.table c.args.filter.now) _ (sym c.table_stands.ensures ∙ c.in_ok-table_stands.was, (sym c.list_stands.ensures ∙ c.in_ok-list_stands.was, tt)) (sym c.columns_stand.ensures ∙ c.in_err-columns_stand.was))
+    same ∙ c.columns_stand.ensures ∙ sym (failure_told 2 (all c.args.self.now c.args.user.now c.args.list.now c.args.table c.args.filter.now) _ (told-Ok c.columns.result _ _ c.columns.ensures.stands c.in_ok-columns.was, (sym c.list_stands.ensures ∙ c.in_ok-list_stands.was, tt)) (sym c.columns_stand.ensures ∙ c.in_err-columns_stand.was))
