@@ -1,13 +1,12 @@
 -- The character that some bytes begin with.
 use Rattle.std.proofs.lemmas.Bool.{cases_lt}
-use Rattle.std.proofs.Common.{◌≡◌, ℕ, zero, suc, ◌<◌, ◌≤◌, Bool, true, false, cond, List, [], ◌∷◌, ◌++◌, Option, Some, None, length, take, drop, get_or, refl, sym, ◌∙◌, ap, subst, arith, append_assoc, ⊎_elim}
+use Rattle.std.proofs.Common.{◌≡◌, ℕ, zero, suc, ◌<◌, ◌≤◌, Bool, true, false, cond, List, ◌++◌, Option, Some, None, length, take, drop, refl, sym, ◌∙◌, ap, subst, arith, append_assoc, ⊎_elim}
 use Rattle.std.proofs.lemmas.List.{take_min}
-use Rattle.std.proofs.lemmas.Bool.Decides.{nat_tests}
-use Rattle.std.proofs.lemmas.Str.{encode_ascii, utf8_valid_len_le, encode_same}
+use Rattle.std.proofs.lemmas.Str.{utf8_valid_len_le, encode_same}
 use Rattle.std.specs.Prelude.{min, not}
 use Rattle.std.specs.Char.{is_control}
 use Rattle.base_core.specs.Texts.{is_printable}
-use Rattle.lexer_core.specs.Text.{BeginsWithNoPlain, BeginsWithPlain, is_printable_ascii}
+use Rattle.lexer_core.specs.Text.{BeginsWithNoPlain}
 use Rattle.std.proofs.lemmas.List.{take_at, take-take, take-append-drop, length-take, length-append}
 use Rattle.std.proofs.lemmas.Str.{is_utf8-from_IsUtf8, IsUtf8-encode, length-encode, len_utf8_bounds}
 use Rattle.std.specs.Option.{MatchOption}
@@ -59,17 +58,3 @@ char_first X bytes front valid more text after (Some c) short split len same m =
       ∙ (ap (λ (u : List ℕ). u ++ drop 4 bytes) (append_assoc (encode_utf8 c) after more)
       ∙ append_assoc (encode_utf8 c) (after ++ more) (drop 4 bytes)))),
 )
-
--- printable ASCII is a character of its own
-pub printable_first : (bytes : List ℕ) → is_printable_ascii (get_or bytes 0 0) ≡ true → BeginsWithPlain bytes 1
-printable_first [] h = let clash : false ≡ true = h in cc clash
-printable_first (b ∷ bytes) h =
-    let one : encode_utf8 b ≡ b ∷ [] = encode_ascii b (grind (arith, nat_tests)) in
-    record {
-      char = b;
-      rest = bytes;
-      scalar = grind (arith, nat_tests);
-      printable = grind (arith, nat_tests);
-      split = ap (λ (u : List ℕ). u ++ bytes) (sym one);
-      len = ap length (sym one);
-    }

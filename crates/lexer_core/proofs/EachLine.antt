@@ -4,6 +4,7 @@ use Rattle.std.proofs.lemmas.Bool.{cases_lt}
 use Rattle.std.proofs.lemmas.List.{take_rest}
 use Rattle.std.proofs.Common.{◌≡◌, ◌⊎◌, ℕ, zero, suc, ◌+◌, ◌-◌, ◌<◌, ◌≤◌, Bool, true, false, List, [], length, take, drop, refl, sym, subst, arith, length-drop, inl, inr}
 use Rattle.std.specs.Prelude.{slice_index}
+use Rattle.lexer_core.specs.declared.fault.ReadFault.TheVariants as read_faults
 use Rattle.lexer_core.specs.declared.fault.Code.{Code}
 use Rattle.lexer_core.specs.declared.token.Token as tokens
 use Rattle.lexer_core.specs.Lexing.{Lexeme, Says, IsLineFault, long_line, is_blank}
@@ -28,7 +29,7 @@ module _ (line : List ℕ) where
     at_byte true e = further (n + 1) ts (omega (arith, h)) (one_blank line n ts r inside e)
     at_byte false e = elim (here n inside e) [
       | inl t ↦ let some = t.2.begins.some in further (n + t.1) _ (omega (arith, h, some)) (one_token line n ts r t.0 t.1 t.2)
-      | inr f ↦ inr (f.0, n + f.1, one_fault line n ts r (record { code = f.0; offset = f.1 }) f.2)
+      | inr f ↦ inr (f.0, n + f.1, one_fault line n ts r (read_faults.At f.0 (n + f.1)) (f.1, refl, f.2))
     ]
 
   read_from : (fuel n : ℕ) (ts : List tokens.Token) → length line ≤ n + fuel → Reached line n ts → ReadingOrFault

@@ -7,6 +7,7 @@ pub mod Texts
 pub mod Halfway
 pub mod Undoubled
 pub mod Proper
+pub mod Put
 pub mod Reached
 pub mod Spelled
 pub mod Class

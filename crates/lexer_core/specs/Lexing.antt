@@ -12,7 +12,6 @@ use Rattle.base_core.specs.declared.keyword.Keyword.{Keyword}
 use Rattle.lexer_core.specs.Text.{BeginsText, BeginsWithNoPlain, written_all}
 use Rattle.lexer_core.specs.declared.fault.Code.{Code}
 use Rattle.lexer_core.specs.declared.fault.Code.TheVariants as codes_of
-use Rattle.lexer_core.specs.declared.fault.Fault as faults
 use Rattle.lexer_core.specs.declared.fault.ReadFault.{ReadFault}
 use Rattle.lexer_core.specs.declared.fault.ReadFault.TheVariants as read_faults
 use Rattle.lexer_core.specs.declared.token.TokenKind.{TokenKind}
@@ -193,10 +192,6 @@ pub data IsLineFault (line : List ℕ) : Code → ℕ → Type 0 where
 abbrev pub IsFaultOf : List ℕ → ReadFault → Type 0
 IsFaultOf line read_faults.NoMemory = Unit {0}
 IsFaultOf line (read_faults.At code offset) = IsLineFault line code offset
-
--- the same of a fault as the code has it
-abbrev pub FailsWith : List ℕ → faults.Fault → Type 0
-FailsWith bytes f = Fails bytes f.code f.offset
 
 -- a token of the line says l, and its slice spells it
 pub record IsSpelled (line : List ℕ) (t : tokens.Token) (l : Lexeme) : Type 0 where

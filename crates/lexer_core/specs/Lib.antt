@@ -1,3 +1,4 @@
 pub mod Text
 pub mod Lexing
 pub mod Codes
+pub mod Pushed

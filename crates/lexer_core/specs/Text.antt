@@ -1,5 +1,5 @@
 -- Characters of texts.
-use Rattle.std.specs.Prelude.{◌≡◌, ◌≢◌, ℕ, Bool, true, ◌||◌, ◌==◌, List, ◌∷◌, ◌++◌, [], length, if◌then◌else◌}
+use Rattle.std.specs.Prelude.{◌≡◌, ◌≢◌, ℕ, Bool, true, ◌&&◌, ◌||◌, not, ◌==◌, List, ◌∷◌, ◌++◌, [], length, if◌then◌else◌}
 use Rattle.std.specs.List.{flat_map}
 use Rattle.std.specs.Char.{encode_utf8, is_ascii_graphic, len_utf8, IsScalar}
 use Rattle.base_core.specs.Texts.{is_printable, ArePlain}
@@ -7,6 +7,10 @@ use Rattle.base_core.specs.Texts.{is_printable, ArePlain}
 -- a character of one byte that is no control character
 abbrev pub is_printable_ascii : ℕ → Bool
 is_printable_ascii b = is_ascii_graphic b || (b == 32)
+
+-- the same, but for a quote: a text writes it as it is
+abbrev pub is_plain_byte : ℕ → Bool
+is_plain_byte b = is_printable_ascii b && not (b == 39)
 
 -- how a text writes a character: a quote is doubled
 abbrev pub written : ℕ → List ℕ

@@ -71,13 +71,6 @@ impl Code {
     }
 }
 
-/// A fault, and the byte of the slice, from 0, that it stands at.
-#[derive(Clone, Copy, PartialEq, Eq)]
-pub struct Fault {
-    pub code: Code,
-    pub offset: usize,
-}
-
 /// Why a line is not read: memory was refused, or the line has a fault, whose offset is in bytes of
 /// the line, from 0.
 #[derive(Clone, Copy, Debug, PartialEq, Eq, Error)]

@@ -1,10 +1,11 @@
 //! Cuts a line into tokens.
 
-ghost use Rattle.std.specs.Prelude.{◌≡◌, ◌≢◌, false, ◌<◌, ◌≤◌, ◌+◌, length, map, slice_index, All, AllPairs, MatchResult, IfOk, IfErr};
-ghost use Rattle.lexer_core.specs.Lexing.{AreSpelled, AreTokens, BeginsKind, FailsWith, IsFaultOf, Says, located, is_blank, starts_number};
+ghost use Rattle.std.specs.Prelude.{◌≡◌, false, ◌<◌, ◌≤◌, ◌+◌, length, map, slice_index, All, AllPairs, MatchResult, IfOk};
+ghost use Rattle.lexer_core.specs.Lexing.{AreSpelled, AreTokens, IsFaultOf, Says, located, is_blank, starts_number};
+ghost use Rattle.lexer_core.specs.Pushed.{IsFaultAt, IsPushed};
 
 use crate::bytes::byte_at;
-use crate::fault::{Code, Fault, ReadFault};
+use crate::fault::{Code, ReadFault};
 use crate::mark::mark;
 use crate::number::number;
 use crate::text::text;
@@ -32,29 +33,32 @@ fn starts_number(bytes: &[u8]) -> bool
     first.is_ascii_digit() || (first == b'-' && byte_at(bytes, 1).is_ascii_digit())
 }
 
-fn first_token(bytes: &[u8]) -> Result<(TokenKind, usize), Fault>
+/// Puts the token that stands first behind the others, and says where it ends. The bytes are those
+/// of the line from `start`. Each kind puts its own, since a token is large to hand on.
+#[inline(always)]
+fn first_token(tokens: &mut Vec<Token>, bytes: &[u8], start: usize) -> Result<usize, ReadFault>
     requires some { 0 < length bytes.now }
-    requires short { length bytes.now ≤ 4096 }
+    requires short { start + length bytes.now ≤ 4096 }
     requires no_blank { is_blank (slice_index bytes.now 0) ≡ false }
-    ensures fault_within { IfErr result (λ f. f.offset < length bytes.now) }
-    ensures first { MatchResult result (λ t. BeginsKind bytes.now t.0 t.1)
-        (λ f. FailsWith bytes.now f) }
+    ensures { MatchResult result
+        (λ end. IsPushed bytes.now start tokens.old.items tokens.new.items end)
+        (λ e. IsFaultAt bytes.now start e) }
 {
     let first = byte_at(bytes, 0);
     if first.is_ascii_alphabetic() {
-        return word(bytes);
+        return word(tokens, bytes, start);
     }
     if starts_number(bytes) {
-        return number(bytes);
+        return number(tokens, bytes, start);
     }
     if first == b'\'' {
-        return text(bytes);
+        return text(tokens, bytes, start);
     }
     match mark(bytes) {
-        Some(mark) => Ok((TokenKind::Mark(mark), mark.text().len())),
-        None => Err(Fault {
+        Some(mark) => Token::push(tokens, TokenKind::Mark(mark), start, mark.text().len()),
+        None => Err(ReadFault::At {
             code: Code::BadByte,
-            offset: 0,
+            offset: start,
         }),
     }
 }
@@ -88,22 +92,10 @@ pub fn tokens(alloc: Global, line: &[u8]) -> Result<Vec<Token>, ReadFault>
     while at < line.len() {
         if is_blank(line[at]) {
             at += 1;
-            continue;
-        }
-        match first_token(&line[at..]) {
-            Ok((kind, len)) => {
-                tokens.push(Token {
-                    kind,
-                    start: at,
-                    end: at + len,
-                })?;
-                at += len;
-            }
-            Err(fault) => {
-                return Err(ReadFault::At {
-                    code: fault.code,
-                    offset: at + fault.offset,
-                });
+        } else {
+            match first_token(&mut tokens, &line[at..], at) {
+                Ok(end) => at = end,
+                Err(fault) => return Err(fault),
             }
         }
     }

@@ -1,14 +1,15 @@
 //! Numbers.
 
-ghost use Rattle.std.specs.Prelude.{◌≡◌, ◌≢◌, true, ◌<◌, ◌≤◌, ◌^◌, length, slice_index, MatchResult, MatchOption, IfErr};
+ghost use Rattle.std.specs.Prelude.{◌≡◌, ◌≢◌, true, ◌<◌, ◌≤◌, ◌+◌, ◌^◌, length, slice_index, MatchResult, MatchOption};
 ghost use Rattle.std.specs.List.{prefix_len};
 ghost use Rattle.std.specs.Char.{is_ascii_digit};
 ghost use Rattle.std.specs.Str.Parse.{AllDigits, IsNumeral, digits_value, without_leading_sign};
-ghost use Rattle.lexer_core.specs.Lexing.{BeginsKind, FailsWith, IsNumber, IsTooGreat, sign_len, number_len, starts_number};
+ghost use Rattle.lexer_core.specs.Lexing.{IsNumber, IsTooGreat, sign_len, number_len, starts_number};
+ghost use Rattle.lexer_core.specs.Pushed.{IsFaultAt, IsPushed};
 
 use crate::bytes::byte_at;
-use crate::fault::{Code, Fault};
-use crate::token::TokenKind;
+use crate::fault::{Code, ReadFault};
+use crate::token::{Token, TokenKind};
 use base_core::is_word_byte;
 
 /// So many digits are always an `i64`.
@@ -71,25 +72,28 @@ fn value(spelled: &[u8]) -> Option<i64>
     }
 }
 
-/// The number that stands first.
-pub fn number(bytes: &[u8]) -> Result<(TokenKind, usize), Fault>
-    requires { starts_number bytes.now ≡ true }
-    ensures fault_within { IfErr result (λ f. f.offset < length bytes.now) }
-    ensures first { MatchResult result (λ t. BeginsKind bytes.now t.0 t.1)
-        (λ f. FailsWith bytes.now f) }
+/// Puts the number that stands first behind the tokens. The bytes are those of the line from
+/// `start`.
+#[inline(always)]
+pub fn number(tokens: &mut Vec<Token>, bytes: &[u8], start: usize) -> Result<usize, ReadFault>
+    requires starts { starts_number bytes.now ≡ true }
+    requires short { start + length bytes.now ≤ 4096 }
+    ensures { MatchResult result
+        (λ end. IsPushed bytes.now start tokens.old.items tokens.new.items end)
+        (λ e. IsFaultAt bytes.now start e) }
 {
     let len = number_len(bytes);
     if is_word_byte(byte_at(bytes, len)) {
-        return Err(Fault {
+        return Err(ReadFault::At {
             code: Code::BadNumber,
-            offset: 0,
+            offset: start,
         });
     }
     match value(&bytes[..len]) {
-        Some(number) => Ok((TokenKind::Number(number), len)),
-        None => Err(Fault {
+        Some(number) => Token::push(tokens, TokenKind::Number(number), start, len),
+        None => Err(ReadFault::At {
             code: Code::BadNumber,
-            offset: 0,
+            offset: start,
         }),
     }
 }

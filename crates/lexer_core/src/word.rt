@@ -1,13 +1,13 @@
 //! Words: keywords and names.
 
-ghost use Rattle.std.specs.Prelude.{◌≡◌, ◌<◌, ◌≤◌, true, length, take, take_while, slice_index, MatchResult, IfErr};
+ghost use Rattle.std.specs.Prelude.{◌≡◌, ◌≤◌, ◌+◌, true, length, slice_index, MatchResult};
 ghost use Rattle.std.specs.List.{prefix_len};
 ghost use Rattle.std.specs.Char.{is_ascii_alphabetic};
 ghost use Rattle.base_core.specs.Words.{is_word_byte};
-ghost use Rattle.lexer_core.specs.Lexing.{BeginsKind, FailsWith};
+ghost use Rattle.lexer_core.specs.Pushed.{IsFaultAt, IsPushed};
 
-use crate::fault::{Code, Fault};
-use crate::token::TokenKind;
+use crate::fault::{Code, ReadFault};
+use crate::token::{Token, TokenKind};
 use base_core::{MAX_NAME, Word, is_word_byte};
 
 /// The number of bytes of letters, digits and `_` at the front. Where the first is a letter, they
@@ -26,22 +26,25 @@ pub fn word_len(bytes: &[u8]) -> usize
     len
 }
 
-/// The keyword or the name that stands first.
-pub fn word(bytes: &[u8]) -> Result<(TokenKind, usize), Fault>
-    requires { is_ascii_alphabetic (slice_index bytes.now 0) ≡ true }
-    ensures fault_within { IfErr result (λ f. f.offset < length bytes.now) }
-    ensures first { MatchResult result (λ t. BeginsKind bytes.now t.0 t.1)
-        (λ f. FailsWith bytes.now f) }
+/// Puts the keyword or the name that stands first behind the tokens. The bytes are those of the
+/// line from `start`.
+#[inline(always)]
+pub fn word(tokens: &mut Vec<Token>, bytes: &[u8], start: usize) -> Result<usize, ReadFault>
+    requires letter { is_ascii_alphabetic (slice_index bytes.now 0) ≡ true }
+    requires short { start + length bytes.now ≤ 4096 }
+    ensures { MatchResult result
+        (λ end. IsPushed bytes.now start tokens.old.items tokens.new.items end)
+        (λ e. IsFaultAt bytes.now start e) }
 {
     let len = word_len(bytes);
     if len > MAX_NAME {
-        return Err(Fault {
+        return Err(ReadFault::At {
             code: Code::LongName,
-            offset: 0,
+            offset: start,
         });
     }
     match Word::read(&bytes[..len]) {
-        Word::Keyword(keyword) => Ok((TokenKind::Keyword(keyword), len)),
-        Word::Name(name) => Ok((TokenKind::Name(name), len)),
+        Word::Keyword(keyword) => Token::push(tokens, TokenKind::Keyword(keyword), start, len),
+        Word::Name(name) => Token::push(tokens, TokenKind::Name(name), start, len),
     }
 }

@@ -1,8 +1,7 @@
-use Rattle.std.proofs.Common.{arith, sym, subst, ap, ◌+◌, List, length, length-drop}
-use Rattle.std.proofs.lemmas.List.{take_rest}
+use Rattle.std.proofs.Common.{arith, sym, subst, List}
 use Rattle.lexer_core.specs.declared.token.Token as tokens
 use Rattle.lexer_core.specs.Lexing.{AreTokens, long_line}
-use Rattle.lexer_core.proofs.Reached.{Reached, nothing, one_blank, one_token, one_fault, whole}
+use Rattle.lexer_core.proofs.Reached.{Reached, nothing, one_blank, one_more, one_fault, goes_on, whole}
 use Rattle.lexer_core.proofs.Spelled.{tokens_heard, tokens_say, tokens_within, tokens_ordered}
 use Rattle.lexer_core.proofs.lexer.tokens.Goals as goal
 
@@ -15,19 +14,14 @@ loop-at-init c = subst (λ (ts : List tokens.Token). Reached c.args.line.now 0 t
 pub loop-at-preserved-then-is_blank : goal.loop-at-preserved-then-is_blank
 loop-at-preserved-then-is_blank c = one_blank c.args.line.now c.loop-at.at c.loop-at.tokens.items c.loop-at.invariant c.loop-at-test.true (cc)
 
-pub loop-at-preserved : goal.loop-at-preserved
-loop-at-preserved c =
-    subst (λ (ts : List tokens.Token). Reached c.args.line.now (c.loop-at.at + c.in-Ok-first_token.len) ts) (sym c.in_ok-push-in-Ok-first_token.ensures.items)
-    (one_token c.args.line.now c.loop-at.at c.loop-at.tokens.items c.loop-at.invariant c.in-Ok-first_token.kind c.in-Ok-first_token.len c.in-Ok-first_token.ensures.first)
+pub loop-at-smaller : goal.loop-at-smaller
+loop-at-smaller c = omega (arith, c.loop-at-test.true, goes_on c.args.line.now c.loop-at.at c.loop-at.tokens.items c.loop-at.invariant c.first_token.new.tokens.items c.in-Ok-first_token.end c.in-Ok-first_token.ensures)
 
-pub overflow_add-result : goal.overflow_add-result
-overflow_add-result c =
-    let r = c.loop-at.invariant in
-    let h = ap length (take_rest c.args.line.now c.loop-at.at) in
-    omega (arith, c.in-Err.ensures.fault_within, h, length-drop c.loop-at.at c.args.line.now, r.short)
+pub loop-at-preserved : goal.loop-at-preserved
+loop-at-preserved c = one_more c.args.line.now c.loop-at.at c.loop-at.tokens.items c.loop-at.invariant c.first_token.new.tokens.items c.in-Ok-first_token.end c.in-Ok-first_token.ensures
 
 pub returns-in-Err-clause-outcome : goal.returns-in-Err-clause-outcome
-returns-in-Err-clause-outcome c = one_fault c.args.line.now c.loop-at.at c.loop-at.tokens.items c.loop-at.invariant c.in-Err.fault c.in-Err.ensures.first
+returns-in-Err-clause-outcome c = one_fault c.args.line.now c.loop-at.at c.loop-at.tokens.items c.loop-at.invariant c.in-Err.fault c.in-Err.ensures
 
 pub returns : goal.returns
 returns c =

@@ -1,6 +1,6 @@
 use Rattle.std.proofs.Common.{length, ◌-◌}
 use Rattle.lexer_core.proofs.Texts.{InText}
-use Rattle.lexer_core.proofs.text.text.Given as goal
+use Rattle.lexer_core.proofs.text.text_len.Given as goal
 
 abbrev pub invariant-loop-at : goal.invariant-loop-at
 invariant-loop-at l = InText l.bytes l.at l.size
