@@ -1,10 +1,12 @@
--- A word is compared with the keywords of its first letter alone.
-use Rattle.std.proofs.Common.{◌≡◌, ℕ, Bool, true, false, cond, List, [], ◌∷◌, slice_index, slice_get, Some, None, refl, ◌∙◌, ap}
+-- A word is compared with the keyword of its first letter and its length alone.
+use Rattle.std.proofs.Common.{◌≡◌, ℕ, Bool, true, false, cond, List, [], ◌∷◌, length, slice_index, slice_get, Some, None, refl, sym, ◌∙◌, ap}
+use Rattle.std.proofs.lemmas.Bool.{and_from}
+use Rattle.std.proofs.lemmas.List.{length-map}
 use Rattle.std.proofs.lemmas.Slice.Eq.{bytes_eq-Decides}
 use Rattle.std.proofs.lemmas.Bool.Decides.{Decides-eqb}
 use Rattle.std.specs.Char.{to_ascii_lowercase}
 use Rattle.std.specs.List.{filter, find}
-use Rattle.base_core.specs.Words.{all_keywords, begins_with, folded, is_spelled_by, keyword_of, text_of}
+use Rattle.base_core.specs.Words.{all_keywords, folded, is_alike, is_spelled_by, keyword_of, text_of}
 use Rattle.base_core.specs.declared.keyword.Keyword.{Keyword}
 
 module _ {X : Type 0} (p q : X → Bool) where
@@ -19,12 +21,32 @@ module _ {X : Type 0} (p q : X → Bool) where
   find-filter h [] = refl
   find-filter h (x ∷ xs) = one_item x (filter q xs) xs (p x) (q x) refl (h x) (find-filter h xs)
 
-spelled_begins : (word : List ℕ) (k : Keyword) → is_spelled_by word k ≡ true → begins_with (slice_index (folded word) 0) k ≡ true
-spelled_begins word k h = (Decides-eqb _ _).1 (ap (λ w. slice_index w 0) ((bytes_eq-Decides (folded (text_of k)) (folded word)).0 h))
+spelled_alike : (word : List ℕ) (k : Keyword) → is_spelled_by word k ≡ true → is_alike (slice_index (folded word) 0) (length word) k ≡ true
+spelled_alike word k h =
+    let same = (bytes_eq-Decides (folded (text_of k)) (folded word)).0 h in
+    let long : length (text_of k) ≡ length word = sym (length-map (text_of k) to_ascii_lowercase) ∙ (ap length same ∙ length-map word to_ascii_lowercase) in
+    and_from _ _ ((Decides-eqb _ _).1 (ap (λ w. slice_index w 0) same)) ((Decides-eqb _ _).1 long)
 
-pub found_by_initial : (word : List ℕ) → find (is_spelled_by word) (filter (begins_with (slice_index (folded word) 0)) all_keywords) ≡ keyword_of word
+-- a keyword that a word spells is alike
+alike : (word : List ℕ) → find (is_spelled_by word) (filter (is_alike (slice_index (folded word) 0) (length word)) all_keywords) ≡ keyword_of word
 unfolding keyword_of
-found_by_initial word = find-filter (is_spelled_by word) (begins_with (slice_index (folded word) 0)) (spelled_begins word) all_keywords
+alike word = find-filter (is_spelled_by word) (is_alike (slice_index (folded word) 0) (length word)) (spelled_alike word) all_keywords
+
+-- these keywords are alike
+module _ (word : List ℕ) (few : List Keyword) (are : few ≡ filter (is_alike (slice_index (folded word) 0) (length word)) all_keywords) where
+  pub found_alike : find (is_spelled_by word) few ≡ keyword_of word
+  found_alike = ap (find (is_spelled_by word)) are ∙ alike word
+
+-- this one is alike, and no other
+module _ (word : List ℕ) (k : Keyword) (one : k ∷ [] ≡ filter (is_alike (slice_index (folded word) 0) (length word)) all_keywords) where
+  found_or_not : (b : Bool) → is_spelled_by word k ≡ b → cond b (Some k) None ≡ keyword_of word
+  found_or_not b e = sym (ap (λ t. cond t (Some k) None) e) ∙ found_alike word (k ∷ []) one
+
+  pub spelled : is_spelled_by word k ≡ true → Some k ≡ keyword_of word
+  spelled e = found_or_not true e
+
+  pub not_spelled : is_spelled_by word k ≡ false → None ≡ keyword_of word
+  not_spelled e = found_or_not false e
 
 pub no_initial : (word : List ℕ) → None ≡ slice_get word 0 → None ≡ keyword_of word
 unfolding keyword_of all_keywords

@@ -42,9 +42,10 @@ folded word = map to_ascii_lowercase word
 abbrev pub is_spelled_by : List ℕ → Keyword → Bool
 is_spelled_by word k = bytes_eq (folded (text_of k)) (folded word)
 
--- whether a keyword begins with this small letter
-abbrev pub begins_with : ℕ → Keyword → Bool
-begins_with letter k = slice_index (folded (text_of k)) 0 == letter
+-- whether a keyword begins with this small letter and has so many letters
+abbrev pub is_alike : ℕ → ℕ → Keyword → Bool
+is_alike letter len k =
+    (slice_index (folded (text_of k)) 0 == letter) && (length (text_of k) == len)
 
 -- the keywords, in the order of the alphabet
 unfoldable pub all_keywords : List Keyword

@@ -46,14 +46,15 @@ impl ValuesBuilder {
     pub fn twins_of(alloc: Global, values: &[Value]) -> Result<ValuesBuilder, NoMemory>
         ensures { IfOk result (λ builder. builder ≡ values.now) }
     {
-        let mut builder = ValuesBuilder::with_capacity(alloc, values.len())?;
+        let mut items = SmallVec::with_capacity(alloc, values.len())?;
         for value in values {
-            builder.push(value.try_twin()?)?;
+            items.push_reserved(value.try_twin()?);
         }
-        Ok(builder)
+        Ok(ValuesBuilder { items })
     }
 
     /// Puts a value behind the others. `NoMemory` where a request for memory was refused.
+    #[inline]
     pub fn push(&mut self, value: Value) -> Result<(), NoMemory>
         ensures ok { OnOk result (self.new ≡ self.old ++ value ∷ []) }
         ensures no_memory { OnErr result (self.new ≡ self.old) }
@@ -63,6 +64,7 @@ impl ValuesBuilder {
     }
 
     /// Puts a value in the place of the one at this index, if there is one.
+    #[inline]
     pub fn set(&mut self, index: usize, value: Value)
         ensures { self.new ≡ slice_set self.old index value }
     {
@@ -78,6 +80,7 @@ impl ValuesBuilder {
     }
 
     /// The values, which can be shared now. `NoMemory` where a request for memory was refused.
+    #[inline]
     pub fn build(self) -> Result<Values, NoMemory>
         ensures { IfOk result (λ values. values ≡ self) }
     {

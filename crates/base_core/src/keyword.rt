@@ -1,10 +1,10 @@
 //! The reserved words.
 
-ghost use Rattle.std.specs.Prelude.{◌≡◌, true, map};
-ghost use Rattle.std.specs.List.{filter, find, list_all};
+ghost use Rattle.std.specs.Prelude.{◌≡◌, true, map, option_to_list};
+ghost use Rattle.std.specs.List.{filter, list_all};
 ghost use Rattle.std.specs.Str.{bytes_eq};
 ghost use Rattle.std.specs.Char.{is_ascii_uppercase};
-ghost use Rattle.base_core.specs.Words.{all_keywords, begins_with, folded, text_of, is_spelled_by, keyword_of};
+ghost use Rattle.base_core.specs.Words.{all_keywords, is_alike, folded, text_of, is_spelled_by, keyword_of};
 
 /// All bits but the one by which a small letter differs from its capital.
 const CAPITAL_BITS: u8 = 0xDF;
@@ -83,7 +83,12 @@ impl Keyword {
         ensures { result ≡ keyword_of word.now }
     {
         let initial = word.first()?.to_ascii_lowercase();
-        first_spelled(beginning_with(initial), word)
+        let keyword = candidate(initial, word.len())?;
+        if keyword.is_spelled(word) {
+            Some(keyword)
+        } else {
+            None
+        }
     }
 }
 
@@ -104,35 +109,38 @@ fn spells(word: &[u8], capitals: &[u8]) -> bool
     true
 }
 
-/// The keywords that begin with a small letter: three at most, so that a word is compared with few.
+/// The keyword that begins with this small letter and has so many: one at most, so that a word is
+/// compared with no other.
 #[tactic(auto, unfolding(crate::specs::Words::all_keywords))]
-fn beginning_with(initial: u8) -> &'static [Keyword]
-    ensures { result.now ≡ filter (begins_with initial) all_keywords }
+fn candidate(initial: u8, len: usize) -> Option<Keyword>
+    ensures { option_to_list result ≡ filter (is_alike initial len) all_keywords }
 {
-    match initial {
-        b'a' => &[Keyword::And],
-        b'c' => &[Keyword::Checkpoint, Keyword::Checkpoints, Keyword::Create],
-        b'd' => &[Keyword::Delete],
-        b'e' => &[Keyword::Export],
-        b'f' => &[Keyword::For, Keyword::From],
-        b'g' => &[Keyword::Grant],
-        b'i' => &[Keyword::Insert, Keyword::Integer, Keyword::Into],
-        b'o' => &[Keyword::On, Keyword::Only, Keyword::Option],
-        b'r' => &[Keyword::Revoke],
-        b's' => &[Keyword::Select, Keyword::Set],
-        b't' => &[Keyword::Table, Keyword::Text, Keyword::To],
-        b'u' => &[Keyword::Update],
-        b'v' => &[Keyword::Values],
-        b'w' => &[Keyword::Where, Keyword::With],
-        _ => &[],
+    match (initial, len) {
+        (b'a', 3) => Some(Keyword::And),
+        (b'c', 6) => Some(Keyword::Create),
+        (b'c', 10) => Some(Keyword::Checkpoint),
+        (b'c', 11) => Some(Keyword::Checkpoints),
+        (b'd', 6) => Some(Keyword::Delete),
+        (b'e', 6) => Some(Keyword::Export),
+        (b'f', 3) => Some(Keyword::For),
+        (b'f', 4) => Some(Keyword::From),
+        (b'g', 5) => Some(Keyword::Grant),
+        (b'i', 4) => Some(Keyword::Into),
+        (b'i', 6) => Some(Keyword::Insert),
+        (b'i', 7) => Some(Keyword::Integer),
+        (b'o', 2) => Some(Keyword::On),
+        (b'o', 4) => Some(Keyword::Only),
+        (b'o', 6) => Some(Keyword::Option),
+        (b'r', 6) => Some(Keyword::Revoke),
+        (b's', 3) => Some(Keyword::Set),
+        (b's', 6) => Some(Keyword::Select),
+        (b't', 2) => Some(Keyword::To),
+        (b't', 4) => Some(Keyword::Text),
+        (b't', 5) => Some(Keyword::Table),
+        (b'u', 6) => Some(Keyword::Update),
+        (b'v', 6) => Some(Keyword::Values),
+        (b'w', 4) => Some(Keyword::With),
+        (b'w', 5) => Some(Keyword::Where),
+        _ => None,
     }
-}
-
-fn first_spelled(keywords: &[Keyword], word: &[u8]) -> Option<Keyword>
-    ensures { result ≡ find (is_spelled_by word.now) keywords.now }
-{
-    keywords
-        .iter()
-        .find(|keyword| keyword.is_spelled(word))
-        .copied()
 }

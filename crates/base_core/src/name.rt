@@ -88,9 +88,9 @@ impl Name {
         ensures { result ≡ folded word.now }
     {
         let mut bytes = [0; MAX_NAME];
-        let front = &mut bytes[..word.len()];
-        front.copy_from_slice(word);
-        front.make_ascii_lowercase();
+        for at in 0..word.len() {
+            bytes[at] = word[at].to_ascii_lowercase();
+        }
         Name {
             len: word.len() as u8,
             bytes,

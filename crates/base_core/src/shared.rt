@@ -32,7 +32,9 @@ impl Values {
         ensures { IfOk result (λ values. values ≡ items.items) }
     {
         let mut items = items;
-        items.shrink_to_fit();
+        if items.spilled() {
+            items.shrink_to_fit();
+        }
         let alloc = *items.allocator();
         let items = Arc::new(alloc, items)?;
         Ok(Values { items })
