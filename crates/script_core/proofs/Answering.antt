@@ -1,11 +1,15 @@
 -- What is written for a line is an answer to it.
-use Rattle.std.proofs.Common.{ℕ, List, [], ◌++◌, Option, Some, None, refl, sym, subst, inl}
+use Rattle.std.proofs.Common.{◌≡◌, ℕ, true, false, List, [], ◌++◌, Option, Some, None, refl, sym, subst, inl}
 use Rattle.reply_core.specs.Texts.{reply_text}
-use Rattle.reply_core.proofs.WritingLemmas.{some_records}
+use Rattle.reply_core.specs.Telling.{TellsReply}
+use Rattle.reply_core.proofs.WritingLemmas.{Both, some_records}
+use Rattle.std.proofs.lemmas.List.{append-nil}
 use Rattle.system_core.specs.World.{World}
 use Rattle.system_core.specs.declared.machine.event.Reply.{Reply}
-use Rattle.script_core.specs.Script.{Answers, AnswersLine, faulty, said, unread, Follows, stepped, gave_up}
-use Rattle.script_core.specs.Saying.{ComesTo, TellsSaid, Advanced, TellsAdvanced, TellsBoth}
+use Rattle.system_core.specs.Step.{Step}
+use Rattle.system_core.specs.declared.machine.event.Event.TheVariants as events
+use Rattle.script_core.specs.Script.{is_refused, Answers, AnswersLine, faulty, said, unread, Follows, stepped, gave_up}
+use Rattle.script_core.specs.Saying.{ComesTo, TellsSaid, Advanced, TellsAdvanced, TellsBoth, TellsThen}
 use Rattle.script_core.specs.declared.scripts.answer.Said.{Said}
 use Rattle.script_core.specs.declared.scripts.answer.Said.TheVariants as says
 
@@ -18,10 +22,9 @@ pub advanced-follows : (old new : World) (what : Option Reply) (text : List ℕ)
 advanced-follows old new None text (reply, step, silent) e = subst (λ t. Follows old t new) (sym e) (stepped reply step silent)
 advanced-follows old new (Some reply) text (refusal, mid, step, refused, up) tells = gave_up mid refusal reply step refused up tells
 
--- something may be written of each
-pub tells-some : (what : Option Reply) → (text : List ℕ) × TellsAdvanced what text
-tells-some None = ([], refl)
-tells-some (Some reply) = let more = some_records reply in (reply_text reply ++ more.0, inl (more.0, more.1, refl))
+-- something may be written of each reply
+pub tells-some : (reply : Reply) → (text : List ℕ) × TellsReply reply text
+tells-some reply = let more = some_records reply in (reply_text reply ++ more.0, inl (more.0, more.1, refl))
 
 -- **what is written of both answers the line**
 pub both-answer : (old mid new : World) (line : List ℕ) (what : Said) (advanced : Option Reply) → ComesTo old line what mid → Advanced mid advanced new → (text : List ℕ) → TellsBoth what advanced text → Answers old line text new
@@ -33,3 +36,15 @@ both-answer old mid new line what advanced hears goes text b = record {
   followed = advanced-follows mid new advanced b.1 goes b.3;
   text_is = b.4;
 }
+
+-- the same with what a step of the checkpointer comes to
+pub then-answers : (old mid new : World) (line : List ℕ) (what : Said) → ComesTo old line what mid → (text : List ℕ) → TellsThen what mid new text → Answers old line text new
+then-answers old mid new line what hears text (advanced, goes, tells) = both-answer old mid new line what advanced hears goes text tells
+
+-- nothing is to be said of the step
+pub said-alone : (what : Said) (old new : World) (reply : Reply) → Step old events.Step reply new → is_refused reply ≡ false → (text : List ℕ) → TellsSaid what text → TellsThen what old new text
+said-alone what old new reply step silent text tells = (None, (reply, step, silent), (text, [], tells, refl, sym (append-nil text)))
+
+-- the checkpoint is given up
+pub said-then : (what : Said) (old mid new : World) (refusal reply : Reply) → Step old events.Step refusal mid → is_refused refusal ≡ true → Step mid events.Abandon reply new → (text : List ℕ) → Both (TellsSaid what) (TellsReply reply) text → TellsThen what old new text
+said-then what old mid new refusal reply step refused up text both = (Some reply, (refusal, mid, step, refused, up), both)

@@ -53,3 +53,9 @@ TellsBoth said advanced text =
     × TellsSaid said first
     × TellsAdvanced advanced second
     × (text ≡ first ++ second)
+
+-- From old, this text may be written of what was said and of the step after it, and new is the next
+-- world.
+abbrev pub TellsThen : Said → World → World → List ℕ → Type 0
+TellsThen said old new text =
+    (advanced : Option Reply) × Advanced old advanced new × TellsBoth said advanced text

@@ -1,8 +1,8 @@
 //! What is said of a line, and what is written for it.
 ghost use Rattle.std.specs.Prelude.{◌≡◌, false, true, OnOk, OnErr, MatchResult};
 ghost use Rattle.base_core.specs.Streams.{Writes, WritesFrontOf};
-ghost use Rattle.script_core.specs.Script.{is_refused};
-ghost use Rattle.script_core.specs.Saying.{ComesTo, TellsSaid, Advanced, TellsAdvanced, TellsBoth};
+ghost use Rattle.script_core.specs.Script.{Answers, is_refused};
+ghost use Rattle.script_core.specs.Saying.{TellsSaid, TellsThen};
 
 use crate::scripts::address::addressed;
 use base_core::{Broken, Sink};
@@ -24,28 +24,6 @@ pub enum Said {
     Answer(Reply),
 }
 
-/// Reads a line, and asks what it says.
-pub fn hear(alloc: Global, system: &mut System, line: &[u8]) -> Said
-    ensures { ComesTo system.old line.now result system.new }
-{
-    let (user, start) = match addressed(line) {
-        Ok(address) => address,
-        Err((code, offset)) => return Said::Fault { code, offset },
-    };
-    match read(alloc, &line[start..]) {
-        Ok(statement) => Said::Answer(system.step(Event::Say {
-            pass: 0,
-            user,
-            statement,
-        })),
-        Err(ReadFault::At { code, offset }) => Said::Fault {
-            code,
-            offset: start + offset,
-        },
-        Err(ReadFault::NoMemory) => Said::Unread,
-    }
-}
-
 fn is_refused(reply: &Reply) -> bool
     ensures { result ≡ is_refused reply.now }
 {
@@ -53,18 +31,6 @@ fn is_refused(reply: &Reply) -> bool
         Reply::Refused { .. } => true,
         _ => false,
     }
-}
-
-/// A step of the checkpointer. Where it found no memory, the checkpoint is given up, and that is to be
-/// said.
-pub fn advance(system: &mut System) -> Option<Reply>
-    ensures { Advanced system.old result system.new }
-{
-    let reply = system.step(Event::Step);
-    if is_refused(&reply) {
-        return Some(system.step(Event::Abandon));
-    }
-    None
 }
 
 fn write_said<W: Sink>(
@@ -87,42 +53,73 @@ fn write_said<W: Sink>(
     }
 }
 
-fn write_advanced<W: Sink>(
+/// Lets the checkpointer do a step, and writes what is said of a line and then what is to be said of
+/// the step: where it found no memory, that the checkpoint is given up. Both are written after the
+/// step, so that a writer that fails leaves none undone.
+#[inline(always)]
+fn tell<W: Sink>(
     alloc: Global,
     buffer: &mut ReplyBuffer,
-    advanced: Option<Reply>,
+    system: &mut System,
     writer: &mut W,
+    said: Said,
 ) -> Result<(), Broken>
     requires { W.failed writer.old ≡ false }
     ensures failed { MatchResult result (λ _. W.failed writer.new ≡ false)
         (λ _. W.failed writer.new ≡ true) }
     ensures ok { OnOk result
-        (Writes (TellsAdvanced advanced) (W.taken writer.old) (W.taken writer.new)) }
+        (Writes (TellsThen said system.old system.new) (W.taken writer.old) (W.taken writer.new)) }
     ensures err { OnErr result
-        (WritesFrontOf (TellsAdvanced advanced) (W.taken writer.old) (W.taken writer.new)) }
+        (WritesFrontOf (TellsThen said system.old system.new)
+        (W.taken writer.old) (W.taken writer.new)) }
 {
-    match advanced {
-        Some(reply) => write_reply(alloc, buffer, reply, writer, &NoGate),
-        None => Ok(()),
+    let reply = system.step(Event::Step);
+    if !is_refused(&reply) {
+        return write_said(alloc, buffer, said, writer);
     }
+    let given_up = system.step(Event::Abandon);
+    write_said(alloc, buffer, said, writer)?;
+    write_reply(alloc, buffer, given_up, writer, &NoGate)
 }
 
-/// Writes what is said of a line, and then what is to be said of the step of the checkpointer after it.
-pub fn write_both<W: Sink>(
+/// Reads a line, asks what it says, lets the checkpointer do a step, and writes what is said.
+// Each case tells what it comes to by itself: a reply is large to hand on.
+pub fn answer<W: Sink>(
     alloc: Global,
     buffer: &mut ReplyBuffer,
-    said: Said,
-    advanced: Option<Reply>,
+    system: &mut System,
     writer: &mut W,
+    line: &[u8],
 ) -> Result<(), Broken>
     requires { W.failed writer.old ≡ false }
     ensures failed { MatchResult result (λ _. W.failed writer.new ≡ false)
         (λ _. W.failed writer.new ≡ true) }
     ensures ok { OnOk result
-        (Writes (TellsBoth said advanced) (W.taken writer.old) (W.taken writer.new)) }
+        (Writes (λ text. Answers system.old line.now text system.new)
+        (W.taken writer.old) (W.taken writer.new)) }
     ensures err { OnErr result
-        (WritesFrontOf (TellsBoth said advanced) (W.taken writer.old) (W.taken writer.new)) }
+        (WritesFrontOf (λ text. Answers system.old line.now text system.new)
+        (W.taken writer.old) (W.taken writer.new)) }
 {
-    write_said(alloc, buffer, said, writer)?;
-    write_advanced(alloc, buffer, advanced, writer)
+    let (user, start) = match addressed(line) {
+        Ok(address) => address,
+        Err((code, offset)) => {
+            return tell(alloc, buffer, system, writer, Said::Fault { code, offset });
+        }
+    };
+    match read(alloc, &line[start..]) {
+        Ok(statement) => {
+            let reply = system.step(Event::Say {
+                pass: 0,
+                user,
+                statement,
+            });
+            tell(alloc, buffer, system, writer, Said::Answer(reply))
+        }
+        Err(ReadFault::At { code, offset }) => {
+            let offset = start + offset;
+            tell(alloc, buffer, system, writer, Said::Fault { code, offset })
+        }
+        Err(ReadFault::NoMemory) => tell(alloc, buffer, system, writer, Said::Unread),
+    }
 }

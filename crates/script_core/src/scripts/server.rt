@@ -3,37 +3,13 @@ ghost use Rattle.std.specs.Prelude.{◌≡◌, ◌<◌, ◌≤◌, ◌↔◌, fa
 ghost use Rattle.base_core.specs.Streams.{Writes, WritesFrontOf};
 ghost use Rattle.script_core.specs.Script.{Answers, EndsScript};
 
-use crate::scripts::answer::{advance, hear, write_both};
+use crate::scripts::answer::answer;
 use base_core::{Broken, Limits, Sink, Source};
 use lines_core::{LineServer, SessionFault, serve};
 use reply_core::ReplyBuffer;
 use std::alloc::Global;
 use std::marker::Model;
 use system_core::System;
-
-/// Answers a line, and lets the checkpointer do a step. What it says is written after both, so that a
-/// writer that fails leaves no step undone.
-fn answer<W: Sink>(
-    alloc: Global,
-    buffer: &mut ReplyBuffer,
-    system: &mut System,
-    writer: &mut W,
-    line: &[u8],
-) -> Result<(), Broken>
-    requires { W.failed writer.old ≡ false }
-    ensures failed { MatchResult result (λ _. W.failed writer.new ≡ false)
-        (λ _. W.failed writer.new ≡ true) }
-    ensures ok { OnOk result
-        (Writes (λ text. Answers system.old line.now text system.new)
-        (W.taken writer.old) (W.taken writer.new)) }
-    ensures err { OnErr result
-        (WritesFrontOf (λ text. Answers system.old line.now text system.new)
-        (W.taken writer.old) (W.taken writer.new)) }
-{
-    let said = hear(alloc, system, line);
-    let advanced = advance(system);
-    write_both(alloc, buffer, said, advanced, writer)
-}
 
 /// A core that answers the lines of a script. Contracts see the world that the core stands for.
 #[derive(Drop)]

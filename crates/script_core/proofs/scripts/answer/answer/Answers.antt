@@ -1,0 +1,81 @@
+use Rattle.std.proofs.Common.{◌≡◌, ℕ, ◌≤◌, ◌+◌, ◌∙◌, sym, drop, arith, Fits, w64, Ok, Err, refl}
+use Rattle.std.proofs.lemmas.List.{take_rest}
+use Rattle.std.proofs.lemmas.Result.{on_ok_weaker, on_err_weaker}
+use Rattle.reader_core.specs.Language.{IsReadFault}
+use Rattle.reply_core.proofs.WritingLemmas.{Writes-map, WritesFrontOf-map}
+use Rattle.script_core.specs.Saying.{ComesTo, TellsThen}
+use Rattle.script_core.specs.Script.{Answers, Asks, address, statement, addressed}
+use Rattle.script_core.specs.declared.scripts.answer.Said.TheVariants as says
+use Rattle.script_core.proofs.Answering.{then-answers}
+use Rattle.script_core.proofs.Offsets.{offset-small}
+use Rattle.script_core.proofs.scripts.answer.answer.Goals as goal
+
+pub returns-in-Err-clause-ok : goal.returns-in-Err-clause-ok
+returns-in-Err-clause-ok g c =
+    let said : addressed c.args.line.now ≡ Err (c.in-Err.code, c.in-Err.offset) = sym c.addressed.ensures.exact ∙ c.in-Err.is in
+    let comes : ComesTo c.args.system.now c.args.line.now (says.Fault c.in-Err.code c.in-Err.offset) c.args.system.now = (address said, refl) in
+    on_ok_weaker c.tell.result (Writes-map (TellsThen (says.Fault c.in-Err.code c.in-Err.offset) c.args.system.now c.tell.new.system) (λ text. Answers c.args.system.now c.args.line.now text c.tell.new.system) _ _
+    (then-answers c.args.system.now c.args.system.now c.tell.new.system c.args.line.now (says.Fault c.in-Err.code c.in-Err.offset) comes)) c.tell.ensures.ok
+
+pub returns-in-Err-clause-err : goal.returns-in-Err-clause-err
+returns-in-Err-clause-err g c =
+    let said : addressed c.args.line.now ≡ Err (c.in-Err.code, c.in-Err.offset) = sym c.addressed.ensures.exact ∙ c.in-Err.is in
+    let comes : ComesTo c.args.system.now c.args.line.now (says.Fault c.in-Err.code c.in-Err.offset) c.args.system.now = (address said, refl) in
+    on_err_weaker c.tell.result (WritesFrontOf-map (TellsThen (says.Fault c.in-Err.code c.in-Err.offset) c.args.system.now c.tell.new.system) (λ text. Answers c.args.system.now c.args.line.now text c.tell.new.system) _ _
+    (then-answers c.args.system.now c.args.system.now c.tell.new.system c.args.line.now (says.Fault c.in-Err.code c.in-Err.offset) comes)) c.tell.ensures.err
+
+fits : (n by : ℕ) → n ≤ 31 → by ≤ 8192 → Fits w64 (n + by)
+fits n by h k = omega (arith, h, k)
+
+pub overflow_add-offset : goal.overflow_add-offset
+overflow_add-offset g c =
+    let fault : IsReadFault (drop c.in-Ok.address.1 c.args.line.now) c.in-Err-At.code c.in-Err-At.offset = rw (c.in-Err-At.field-0-is, take_rest c.args.line.now c.in-Ok.address.1) at c.in-Err-At.ensures.faulty in
+    rw c.in-Err-At.field-0-is (fits c.in-Ok.address.1 c.in-Err-At.offset c.in-Ok.ensures.within.1 (offset-small _ _ _ fault))
+
+pub returns-in-Err-At-clause-ok : goal.returns-in-Err-At-clause-ok
+returns-in-Err-At-clause-ok g c =
+    let speaker : addressed c.args.line.now ≡ Ok c.in-Ok.address = sym c.addressed.ensures.exact ∙ c.in-Ok.is in
+    let fault : IsReadFault (drop c.in-Ok.address.1 c.args.line.now) c.in-Err-At.code c.in-Err-At.offset = rw (c.in-Err-At.field-0-is, take_rest c.args.line.now c.in-Ok.address.1) at c.in-Err-At.ensures.faulty in
+    let comes : ComesTo c.args.system.now c.args.line.now (says.Fault c.in-Err-At.code (c.in-Ok.address.1 + c.in-Err-At.offset)) c.args.system.now = (statement c.in-Ok.address.0 c.in-Ok.address.1 c.in-Err-At.offset speaker fault, refl) in
+    on_ok_weaker c.tell-in-Err-At.result (Writes-map (TellsThen (says.Fault c.in-Err-At.code (c.in-Ok.address.1 + c.in-Err-At.offset)) c.args.system.now c.tell-in-Err-At.new.system) (λ text. Answers c.args.system.now c.args.line.now text c.tell-in-Err-At.new.system) _ _
+    (then-answers c.args.system.now c.args.system.now c.tell-in-Err-At.new.system c.args.line.now (says.Fault c.in-Err-At.code (c.in-Ok.address.1 + c.in-Err-At.offset)) comes)) (rw c.in-Err-At.field-0-is at c.tell-in-Err-At.ensures.ok)
+
+pub returns-in-Err-At-clause-err : goal.returns-in-Err-At-clause-err
+returns-in-Err-At-clause-err g c =
+    let speaker : addressed c.args.line.now ≡ Ok c.in-Ok.address = sym c.addressed.ensures.exact ∙ c.in-Ok.is in
+    let fault : IsReadFault (drop c.in-Ok.address.1 c.args.line.now) c.in-Err-At.code c.in-Err-At.offset = rw (c.in-Err-At.field-0-is, take_rest c.args.line.now c.in-Ok.address.1) at c.in-Err-At.ensures.faulty in
+    let comes : ComesTo c.args.system.now c.args.line.now (says.Fault c.in-Err-At.code (c.in-Ok.address.1 + c.in-Err-At.offset)) c.args.system.now = (statement c.in-Ok.address.0 c.in-Ok.address.1 c.in-Err-At.offset speaker fault, refl) in
+    on_err_weaker c.tell-in-Err-At.result (WritesFrontOf-map (TellsThen (says.Fault c.in-Err-At.code (c.in-Ok.address.1 + c.in-Err-At.offset)) c.args.system.now c.tell-in-Err-At.new.system) (λ text. Answers c.args.system.now c.args.line.now text c.tell-in-Err-At.new.system) _ _
+    (then-answers c.args.system.now c.args.system.now c.tell-in-Err-At.new.system c.args.line.now (says.Fault c.in-Err-At.code (c.in-Ok.address.1 + c.in-Err-At.offset)) comes)) (rw c.in-Err-At.field-0-is at c.tell-in-Err-At.ensures.err)
+
+pub returns-in-Err-NoMemory-clause-ok : goal.returns-in-Err-NoMemory-clause-ok
+returns-in-Err-NoMemory-clause-ok g c =
+    let speaker : addressed c.args.line.now ≡ Ok c.in-Ok.address = sym c.addressed.ensures.exact ∙ c.in-Ok.is in
+    let comes : ComesTo c.args.system.now c.args.line.now (says.Unread) c.args.system.now = (c.in-Ok.address.0, c.in-Ok.address.1, speaker, refl) in
+    on_ok_weaker c.tell-in-Err-NoMemory.result (Writes-map (TellsThen (says.Unread) c.args.system.now c.tell-in-Err-NoMemory.new.system) (λ text. Answers c.args.system.now c.args.line.now text c.tell-in-Err-NoMemory.new.system) _ _
+    (then-answers c.args.system.now c.args.system.now c.tell-in-Err-NoMemory.new.system c.args.line.now (says.Unread) comes)) c.tell-in-Err-NoMemory.ensures.ok
+
+pub returns-in-Err-NoMemory-clause-err : goal.returns-in-Err-NoMemory-clause-err
+returns-in-Err-NoMemory-clause-err g c =
+    let speaker : addressed c.args.line.now ≡ Ok c.in-Ok.address = sym c.addressed.ensures.exact ∙ c.in-Ok.is in
+    let comes : ComesTo c.args.system.now c.args.line.now (says.Unread) c.args.system.now = (c.in-Ok.address.0, c.in-Ok.address.1, speaker, refl) in
+    on_err_weaker c.tell-in-Err-NoMemory.result (WritesFrontOf-map (TellsThen (says.Unread) c.args.system.now c.tell-in-Err-NoMemory.new.system) (λ text. Answers c.args.system.now c.args.line.now text c.tell-in-Err-NoMemory.new.system) _ _
+    (then-answers c.args.system.now c.args.system.now c.tell-in-Err-NoMemory.new.system c.args.line.now (says.Unread) comes)) c.tell-in-Err-NoMemory.ensures.err
+
+pub returns-in-Ok-read-clause-ok : goal.returns-in-Ok-read-clause-ok
+returns-in-Ok-read-clause-ok g c =
+    let speaker : addressed c.args.line.now ≡ Ok c.in-Ok.address = sym c.addressed.ensures.exact ∙ c.in-Ok.is in
+    let spelled = rw (take_rest c.args.line.now c.in-Ok.address.1) at c.in-Ok-read.ensures.spelled in
+    let asks : Asks c.args.line.now c.in-Ok.address.0 c.in-Ok-read.statement = record { start = c.in-Ok.address.1; speaker = speaker; spelled = spelled } in
+    let comes : ComesTo c.args.system.now c.args.line.now (says.Answer c.step-reply.result) c.step-reply.new.self = (c.in-Ok.address.0, c.in-Ok-read.statement, asks, c.step-reply.ensures) in
+    on_ok_weaker c.tell-in-Ok-read.result (Writes-map (TellsThen (says.Answer c.step-reply.result) c.step-reply.new.self c.tell-in-Ok-read.new.system) (λ text. Answers c.args.system.now c.args.line.now text c.tell-in-Ok-read.new.system) _ _
+    (then-answers c.args.system.now c.step-reply.new.self c.tell-in-Ok-read.new.system c.args.line.now (says.Answer c.step-reply.result) comes)) c.tell-in-Ok-read.ensures.ok
+
+pub returns-in-Ok-read-clause-err : goal.returns-in-Ok-read-clause-err
+returns-in-Ok-read-clause-err g c =
+    let speaker : addressed c.args.line.now ≡ Ok c.in-Ok.address = sym c.addressed.ensures.exact ∙ c.in-Ok.is in
+    let spelled = rw (take_rest c.args.line.now c.in-Ok.address.1) at c.in-Ok-read.ensures.spelled in
+    let asks : Asks c.args.line.now c.in-Ok.address.0 c.in-Ok-read.statement = record { start = c.in-Ok.address.1; speaker = speaker; spelled = spelled } in
+    let comes : ComesTo c.args.system.now c.args.line.now (says.Answer c.step-reply.result) c.step-reply.new.self = (c.in-Ok.address.0, c.in-Ok-read.statement, asks, c.step-reply.ensures) in
+    on_err_weaker c.tell-in-Ok-read.result (WritesFrontOf-map (TellsThen (says.Answer c.step-reply.result) c.step-reply.new.self c.tell-in-Ok-read.new.system) (λ text. Answers c.args.system.now c.args.line.now text c.tell-in-Ok-read.new.system) _ _
+    (then-answers c.args.system.now c.step-reply.new.self c.tell-in-Ok-read.new.system c.args.line.now (says.Answer c.step-reply.result) comes)) c.tell-in-Ok-read.ensures.err
