@@ -82,6 +82,7 @@ fn say<R: Wait + Abort, G: Gate>(
         pass,
         ann,
         line,
+        &mut Vec::new(alloc),
         &mut buffer,
         &mut writer,
         gate,

@@ -15,6 +15,8 @@ mod gates;
 #[cfg(test)]
 mod lines;
 #[cfg(test)]
+mod locks;
+#[cfg(test)]
 mod loopback;
 #[cfg(test)]
 mod printer;
@@ -24,5 +26,7 @@ mod rights;
 mod sessions;
 #[cfg(test)]
 mod slow;
+#[cfg(test)]
+mod stores;
 #[cfg(test)]
 mod streams;

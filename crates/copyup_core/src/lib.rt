@@ -47,6 +47,3 @@ mod store;
 
 pub use fault::PushFault;
 pub use store::Store;
-
-#[cfg(test)]
-mod tests;

@@ -22,8 +22,9 @@
 //! or two faults, are laws, each on an empty function.
 //!
 //! Reading goes over the bytes of a line once, and over those of a word or a number once more, to
-//! say which it is. [`tokens`] takes memory for its vector: once for a usual line, of at most 16
-//! tokens. [`unquoted`] takes memory for its text, once. Nothing else takes any.
+//! say which it is. [`tokens`] takes memory for its vector, and [`read_tokens`] where the vector that
+//! it is given is too small, so that line after line takes none. [`unquoted`] takes memory for its
+//! text, once. Nothing else takes any.
 #![tactic(auto)]
 
 mod bytes;
@@ -40,7 +41,7 @@ pub use base_core::MAX_NAME;
 pub use bytes::byte_at;
 pub use fault::{Code, ReadFault};
 pub use laws::{one_fault, one_list_of_tokens, one_reading, reading_or_fault, said_or_faulty};
-pub use lexer::{MAX_LINE, is_blank, tokens};
+pub use lexer::{MAX_LINE, is_blank, read_tokens, tokens};
 pub use text::unquoted;
 pub use token::{Mark, Token, TokenKind};
 pub use word::word_len;

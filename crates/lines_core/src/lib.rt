@@ -24,8 +24,9 @@
 //!
 //! # Cost
 //!
-//! A line costs its bytes once, and its answer. The memory, a buffer and the front of a line, is taken before
-//! the first read. What is answered to the lines of one piece is flushed at its end.
+//! A line costs its bytes once, and its answer; one that lies whole in a piece is not copied. The memory,
+//! a buffer and the front of a line, is taken before the first read. What is answered to the lines of one
+//! piece is flushed at its end.
 #![tactic(auto)]
 
 mod line;

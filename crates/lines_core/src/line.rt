@@ -48,6 +48,17 @@ impl Line {
         self.bytes.extend_from_slice(kept).unwrap();
     }
 
+    /// The line with its last part, as far as it is kept. Of a line in one part nothing is copied.
+    pub fn joined<'l>(&'l mut self, last: &'l [u8]) -> &'l [u8]
+        ensures { result.now ≡ take KEPT_BYTES (self.old ++ last.now) }
+    {
+        if self.bytes.is_empty() {
+            return kept(last);
+        }
+        self.extend(last);
+        self.bytes.as_slice()
+    }
+
     /// Takes all bytes away, and keeps the memory.
     pub fn clear(&mut self)
         ensures { self.new ≡ [] }
@@ -60,6 +71,13 @@ impl Line {
     {
         self.bytes.as_slice()
     }
+}
+
+/// What is kept of these bytes, as a line.
+fn kept(bytes: &[u8]) -> &[u8]
+    ensures { result.now ≡ take KEPT_BYTES bytes.now }
+{
+    &bytes[..bytes.len().min(KEPT_BYTES)]
 }
 
 /// The bytes without the one carriage return at their end, if they have one.

@@ -1,6 +1,7 @@
 //! Lines from a reader, and answers to a writer.
-ghost use Rattle.std.specs.Prelude.{◌≡◌, ◌≤◌, ◌<◌, ◌↔◌, ◌⊎◌, ◌^◌, ℕ, List, [], Bool, true, false, take, length, IfOk, OnOk, OnErr, MatchResult, IsErrOf, IsOk};
+ghost use Rattle.std.specs.Prelude.{◌≡◌, ◌≤◌, ◌<◌, ◌↔◌, ◌⊎◌, ◌^◌, ◌++◌, ℕ, List, [], Bool, true, false, take, length, IfOk, OnOk, OnErr, MatchResult, IsErrOf, IsOk};
 ghost use Rattle.std.specs.Io.KnownBytes.{Consumes, Keeps, IsAtEnd};
+ghost use Rattle.std.specs.Str.Lines.{strip_carriage_return};
 ghost use Rattle.lexer_core.specs.declared.lexer.TheConstants.{MAX_LINE};
 ghost use Rattle.lines_core.specs.declared.line.TheConstants.{KEPT_BYTES};
 ghost use Rattle.lines_core.specs.Lines.{NoFeed};
@@ -77,6 +78,30 @@ fn flush_between_lines<W: Sink>(line: &Line, writer: &mut W) -> Result<(), Broke
     Ok(())
 }
 
+/// Answers the line of which this is the last part. Of a line in one part nothing is copied.
+fn answer_line<D: LineServer, W: Sink>(
+    server: &mut D,
+    line: &mut Line,
+    writer: &mut W,
+    last: &[u8],
+) -> Result<(), Broken>
+    requires { W.failed writer.old ≡ false }
+    ensures failed { MatchResult result (λ _. W.failed writer.new ≡ false)
+        (λ _. W.failed writer.new ≡ true) }
+    ensures ok { OnOk result
+        (WritesAnswer D.answers (strip_carriage_return (take KEPT_BYTES (line.old ++ last.now)))
+        server.old server.new (W.taken writer.old) (W.taken writer.new)) }
+    ensures err { OnErr result
+        (BreaksAnswer D.answers (strip_carriage_return (take KEPT_BYTES (line.old ++ last.now)))
+        server.old server.new (W.taken writer.old) (W.taken writer.new)) }
+    ensures cleared { OnOk result (line.new ≡ []) }
+{
+    let whole = line.joined(last);
+    server.answer(writer, without_carriage_return(whole))?;
+    line.clear();
+    Ok(())
+}
+
 /// Answers each line that ends in the piece, and keeps the front of what comes after the last.
 fn feed<D: LineServer, W: Sink>(
     server: &mut D,
@@ -100,9 +125,7 @@ fn feed<D: LineServer, W: Sink>(
     let mut left = piece;
     while let Some(end) = memchr(LINE_FEED, left) {
         let (front, behind) = left.split_at(end);
-        line.extend(front);
-        server.answer(writer, without_carriage_return(line.as_slice()))?;
-        line.clear();
+        answer_line(server, line, writer, front)?;
         left = &behind[1..];
     }
     flush_between_lines(line, writer)?;

@@ -293,12 +293,16 @@ impl<A: Authority> Judge<'_, A> {
         };
         let kind = Kind::Insert;
         let atom = Atom { table, kind };
-        self.may(user, atom)?;
+        if !self.rights.holds(*user, &atom) {
+            return Err(Lack::NoPrivilege { user: *user, atom });
+        }
         let (given, wanted) = (values.len(), columns.len());
         if given != wanted {
             return Err(Lack::WrongCount { given, wanted });
         }
-        each_takes(columns, values)?;
+        if let Err(lack) = each_takes(columns, values) {
+            return Err(lack);
+        }
         self.room_for_change()
     }
 

@@ -47,6 +47,6 @@ mod statement;
 
 pub use checkpoint::CheckpointNumber;
 pub use privilege::{MAX_PRIVILEGES, Privilege, Privileges};
-pub use reading::read;
+pub use reading::{read, read_with};
 pub use separator::Separator;
 pub use statement::{MAX_ITEMS, MAX_USERS, Statement};

@@ -8,7 +8,7 @@ ghost use Rattle.reply_core.specs.Telling.{TellsReply, TellsRecords};
 use crate::buffer::ReplyBuffer;
 use crate::wording::{is_list, push_fault, push_reply, reply_text};
 use base_core::{Broken, NoMemory, Sink, write_all};
-use export_core::{ExportFault, Gate};
+use export_core::{ExportFault, Gate, Ticket};
 use lexer_core::Code;
 use std::alloc::Global;
 use system_core::Reply;
@@ -19,7 +19,31 @@ const LOST: &[u8] = b"reply lost: no memory\n";
 
 const CUT: &[u8] = b"export cut: no memory\n";
 
-/// Writes the records of an export, as far as there is memory, and of any other reply nothing.
+/// Writes the records of an export, as far as there is memory.
+// By itself, so that no other reply takes the room for it.
+#[inline(never)]
+fn write_ticket<W: Sink, G: Gate>(
+    mut ticket: Ticket,
+    writer: &mut W,
+    gate: &G,
+) -> Result<(), Broken>
+    requires { W.failed writer.old ≡ false }
+    ensures failed { MatchResult result (λ _. W.failed writer.new ≡ false)
+        (λ _. W.failed writer.new ≡ true) }
+    ensures ok { OnOk result
+        (Writes (TellsRecords (Reply.Export ticket)) (W.taken writer.old) (W.taken writer.new)) }
+    ensures err { OnErr result
+        (WritesFrontOf (TellsRecords (Reply.Export ticket))
+        (W.taken writer.old) (W.taken writer.new)) }
+{
+    match ticket.write_to(writer, gate) {
+        Ok(()) => Ok(()),
+        Err(ExportFault::NoMemory) => write_all(writer, CUT),
+        Err(ExportFault::Write) => Err(Broken),
+    }
+}
+
+/// Writes the records of an export, and of any other reply nothing.
 fn write_records<W: Sink, G: Gate>(reply: Reply, writer: &mut W, gate: &G) -> Result<(), Broken>
     requires { W.failed writer.old ≡ false }
     ensures failed { MatchResult result (λ _. W.failed writer.new ≡ false)
@@ -29,14 +53,10 @@ fn write_records<W: Sink, G: Gate>(reply: Reply, writer: &mut W, gate: &G) -> Re
     ensures err { OnErr result
         (WritesFrontOf (TellsRecords reply) (W.taken writer.old) (W.taken writer.new)) }
 {
-    let Reply::Export(mut ticket) = reply else {
+    let Reply::Export(ticket) = reply else {
         return Ok(());
     };
-    match ticket.write_to(writer, gate) {
-        Ok(()) => Ok(()),
-        Err(ExportFault::NoMemory) => write_all(writer, CUT),
-        Err(ExportFault::Write) => Err(Broken),
-    }
+    write_ticket(ticket, writer, gate)
 }
 
 /// Writes a list, whose text is made in new memory, or that it is lost.

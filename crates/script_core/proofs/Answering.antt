@@ -1,15 +1,18 @@
 -- What is written for a line is an answer to it.
-use Rattle.std.proofs.Common.{◌≡◌, ℕ, true, false, List, [], ◌++◌, Option, Some, None, refl, sym, subst, inl}
+use Rattle.std.proofs.Common.{◌≡◌, ℕ, true, false, not, List, [], ◌++◌, Option, Some, None, is_some, refl, sym, subst, inl}
 use Rattle.reply_core.specs.Texts.{reply_text}
 use Rattle.reply_core.specs.Telling.{TellsReply}
 use Rattle.reply_core.proofs.WritingLemmas.{Both, some_records}
 use Rattle.std.proofs.lemmas.List.{append-nil}
-use Rattle.system_core.specs.World.{World}
+use Rattle.base_core.specs.declared.name.User.{User}
+use Rattle.reader_core.specs.declared.statement.Statement.{Statement}
+use Rattle.system_core.specs.World.{World, ActiveCheckpoint}
 use Rattle.system_core.specs.declared.machine.event.Reply.{Reply}
-use Rattle.system_core.specs.Step.{Step}
+use Rattle.system_core.specs.Step.{Advances, Step}
+use Rattle.system_core.specs.declared.machine.event.Reply.TheVariants as replies
 use Rattle.system_core.specs.declared.machine.event.Event.TheVariants as events
-use Rattle.script_core.specs.Script.{is_refused, Answers, AnswersLine, faulty, said, unread, Follows, stepped, gave_up}
-use Rattle.script_core.specs.Saying.{ComesTo, TellsSaid, Advanced, TellsAdvanced, TellsBoth, TellsThen}
+use Rattle.script_core.specs.Script.{is_refused, Answers, Asks, AnswersLine, faulty, said, unread, Follows, stepped, gave_up}
+use Rattle.script_core.specs.Saying.{ComesTo, TellsSaid, Advanced, TellsAdvanced, TellsBoth, TellsThen, TellsAsked}
 use Rattle.script_core.specs.declared.scripts.answer.Said.{Said}
 use Rattle.script_core.specs.declared.scripts.answer.Said.TheVariants as says
 
@@ -48,3 +51,19 @@ said-alone what old new reply step silent text tells = (None, (reply, step, sile
 -- the checkpoint is given up
 pub said-then : (what : Said) (old mid new : World) (refusal reply : Reply) → Step old events.Step refusal mid → is_refused refusal ≡ true → Step mid events.Abandon reply new → (text : List ℕ) → Both (TellsSaid what) (TellsReply reply) text → TellsThen what old new text
 said-then what old mid new refusal reply step refused up text both = (Some reply, (refusal, mid, step, refused, up), both)
+
+-- the user asks it
+pub asked-answers : (old new : World) (line : List ℕ) (user : User) (asked : Statement) → Asks line user asked → (text : List ℕ) → TellsAsked user asked old new text → Answers old line text new
+asked-answers old new line user asked asks text (reply, mid, step, tells) = then-answers old mid new line (says.Answer reply) (user, asked, asks, step) text tells
+
+idle-with : (w : World) (active : Option ActiveCheckpoint) → not (is_some active) ≡ true → Advances w active replies.Idle w
+idle-with w None idle = (refl, refl)
+idle-with w (Some a) idle = cc
+
+-- the step does nothing
+pub asked-idle : (old mid : World) (user : User) (asked : Statement) (reply : Reply) → Step old (events.Say 0 user asked) reply mid → not (is_some mid.active) ≡ true → (text : List ℕ) → TellsReply reply text → TellsAsked user asked old mid text
+asked-idle old mid user asked reply step idle text tells = (reply, mid, step, said-alone (says.Answer reply) mid mid replies.Idle (idle-with mid mid.active idle) refl text tells)
+
+-- the step does something
+pub asked-then : (old mid new : World) (user : User) (asked : Statement) (reply : Reply) → Step old (events.Say 0 user asked) reply mid → (text : List ℕ) → TellsThen (says.Answer reply) mid new text → TellsAsked user asked old new text
+asked-then old mid new user asked reply step text tells = (reply, mid, step, tells)

@@ -59,3 +59,12 @@ TellsBoth said advanced text =
 abbrev pub TellsThen : Said → World → World → List ℕ → Type 0
 TellsThen said old new text =
     (advanced : Option Reply) × Advanced old advanced new × TellsBoth said advanced text
+
+-- From old, this text may be written of what the user asks and of the step after it, and new is the
+-- next world.
+abbrev pub TellsAsked : User → Statement → World → World → List ℕ → Type 0
+TellsAsked user asked old new text =
+    (reply : Reply)
+    × (mid : World)
+    × Step old (events.Say 0 user asked) reply mid
+    × TellsThen (says.Answer reply) mid new text

@@ -8,15 +8,16 @@ ghost use Rattle.session_core.specs.Session.{AnswersUser};
 use base_core::{Broken, Sink, User};
 use desk_core::{Desk, Pass};
 use export_core::Gate;
-use lexer_core::{Code, MAX_LINE, ReadFault};
-use reader_core::read;
+use lexer_core::{Code, MAX_LINE, ReadFault, Token};
+use reader_core::read_with;
 use reply_core::{ReplyBuffer, write_fault, write_reply, write_unread};
 use std::alloc::Global;
 use std::sync::Wait;
 
 /// One line of a user, answered through a pass of the desk: what it says is asked in a turn, and
 /// the reply is written after it, with the records of an export. `Broken` exactly where the writer
-/// failed: then a front of an answer was written.
+/// failed: then a front of an answer was written. What the vector of tokens and the buffer have
+/// before and behind the call means nothing.
 pub fn serve_line<R: Wait, W: Sink, G: Gate>(
     rt: &R,
     alloc: Global,
@@ -24,6 +25,7 @@ pub fn serve_line<R: Wait, W: Sink, G: Gate>(
     pass: &mut Pass,
     user: User,
     line: &[u8],
+    tokens: &mut Vec<Token>,
     buffer: &mut ReplyBuffer,
     writer: &mut W,
     gate: &G,
@@ -43,7 +45,7 @@ pub fn serve_line<R: Wait, W: Sink, G: Gate>(
     if line.len() > MAX_LINE {
         return write_fault(buffer, Code::TooLong, MAX_LINE, writer);
     }
-    match read(alloc, line) {
+    match read_with(alloc, tokens, line) {
         Ok(statement) => {
             let reply = desk.execute(rt, pass, user, statement);
             write_reply(alloc, buffer, reply, writer, gate)

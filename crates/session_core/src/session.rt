@@ -10,6 +10,7 @@ use crate::line::serve_line;
 use base_core::{Broken, Sink, Source, User, write_all};
 use desk_core::{Desk, Pass};
 use export_core::Gate;
+use lexer_core::Token;
 use lines_core::{LineServer, SessionFault, serve};
 use reply_core::{ReplyBuffer, write_fault};
 use std::alloc::Global;
@@ -23,6 +24,7 @@ struct Session<'a, R, G> {
     desk: &'a Desk,
     pass: &'a mut Pass,
     gate: &'a G,
+    tokens: &'a mut Vec<Token>,
     buffer: &'a mut ReplyBuffer,
     user: Option<User>,
     over: bool,
@@ -103,6 +105,7 @@ impl<'a, R: Wait, G: Gate> Session<'a, R, G> {
             self.pass,
             user,
             line,
+            self.tokens,
             self.buffer,
             writer,
             self.gate,
@@ -171,12 +174,14 @@ pub fn serve_session<R: Wait, S: Source, W: Sink, G: Gate>(
     let Ok(mut buffer) = ReplyBuffer::new(alloc) else {
         return Err(SessionFault::NoMemory);
     };
+    let mut tokens = Vec::new(alloc);
     let mut session = Session {
         rt,
         alloc,
         desk,
         pass,
         gate,
+        tokens: &mut tokens,
         buffer: &mut buffer,
         user: None,
         over: false,

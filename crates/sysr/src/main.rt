@@ -11,17 +11,11 @@
 #![tactic(auto)]
 
 ghost use Rattle.std.specs.Prelude.{◌≡◌, ◌<◌, ◌≤◌, false};
-ghost use Rattle.std.specs.Process.{exit_status};
 
-mod command_line;
-mod ending;
 mod serving;
-#[cfg(test)]
-mod tests;
 
 use base_core::{Broken, Sink, StdSink, StdSource, write_all};
-use command_line::{CommandLine, options};
-use ending::{NO_MEMORY, audit_end, fault_text};
+use command_core::{CommandLine, NO_MEMORY, audit_end, fault_text, give_up, options, refuse};
 use lines_core::SessionFault;
 use script_core::script;
 use serving::serve;
@@ -33,23 +27,6 @@ use system_core::System;
 
 // What is gathered of the output before it is written.
 const OUTPUT_BYTES: usize = 65536;
-
-/// Says why the program could not go on.
-pub fn give_up(rt: &HostRuntime, text: &str) -> ExitCode
-    ensures { exit_status result ≡ 1 }
-{
-    let _ = eprintln!(rt; "{text}");
-    ExitCode::FAILURE
-}
-
-/// Shows help or the version, or says why the command line was refused.
-fn refuse(rt: &HostRuntime, error: &clap::Error) -> ExitCode {
-    if error.kind() == clap::error::ErrorKind::OutOfMemory {
-        return give_up(rt, NO_MEMORY);
-    }
-    let _ = error.print(rt);
-    ExitCode::from(error.exit_code() as u8)
-}
 
 fn write_last<W: Sink>(writer: &mut W, line: &[u8]) -> Result<(), Broken>
     requires { W.failed writer.old ≡ false }

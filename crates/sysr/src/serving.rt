@@ -1,11 +1,9 @@
 //! Sessions over TCP.
 ghost use Rattle.std.specs.Prelude.{◌<◌, ◌≤◌};
-ghost use Rattle.sysr.specs.Ranges.{IsInRange};
-ghost use Rattle.sysr.specs.declared.command_line.CommandLine.TheVariants.{Serve};
+ghost use Rattle.command_core.specs.Ranges.{IsInRange};
+ghost use Rattle.command_core.specs.declared.command_line.CommandLine.TheVariants.{Serve};
 
-use crate::command_line::Serving;
-use crate::ending::{NO_MEMORY, fault_text};
-use crate::give_up;
+use command_core::{NO_MEMORY, Serving, fault_text, give_up};
 use lines_core::SessionFault;
 use server_core::{ServeFault, serve_on};
 use std::net::TcpListener;

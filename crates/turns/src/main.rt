@@ -28,32 +28,61 @@ const CREATE: &'static [u8] = b"CREATE TABLE t (x INTEGER)";
 
 const INSERT: &'static [u8] = b"INSERT INTO t VALUES (7)";
 
-/// `None` where the statement was not carried out.
-fn done(reply: Reply) -> Option<()> {
-    match reply {
-        Reply::Done { .. } => Some(()),
-        _ => None,
-    }
+fn is_done(reply: &Reply) -> bool {
+    matches!(reply, Reply::Done { .. })
 }
 
-/// A statement of the user to a core.
-fn say(alloc: Global, system: &mut System, user: &User, line: &[u8]) -> Option<Reply> {
-    let statement = read(alloc, line).ok()?;
-    Some(system.step(Event::Say {
+/// Has a core carry out a statement of the user, and tells whether it did.
+fn say(alloc: Global, system: &mut System, user: &User, line: &[u8]) -> bool {
+    let Ok(statement) = read(alloc, line) else {
+        return false;
+    };
+    let reply = system.step(Event::Say {
         pass: 0,
         user: *user,
         statement,
-    }))
+    });
+    is_done(&reply)
 }
 
 /// The table, and so many rows, by a core without a lock.
-fn alone(alloc: Global, user: &User, count: u64) -> Option<()> {
-    let mut system = System::new(alloc, CHUNK).ok()?;
-    done(say(alloc, &mut system, user, CREATE)?)?;
-    for _ in 0..count {
-        done(say(alloc, &mut system, user, INSERT)?)?;
+// What may fail stands in a function that does not own the core, so that it is dropped in one place.
+fn fill(alloc: Global, system: &mut System, user: &User, count: u64) -> bool {
+    if !say(alloc, system, user, CREATE) {
+        return false;
     }
-    Some(())
+    for _ in 0..count {
+        if !say(alloc, system, user, INSERT) {
+            return false;
+        }
+    }
+    true
+}
+
+fn alone(alloc: Global, user: &User, count: u64) -> bool {
+    let Ok(mut system) = System::new(alloc, CHUNK) else {
+        return false;
+    };
+    fill(alloc, &mut system, user, count)
+}
+
+/// Has the desk carry out a statement of the user through this pass, and tells whether it did.
+fn ask<R: Wait>(
+    rt: &R,
+    alloc: Global,
+    desk: &Desk,
+    pass: &mut Pass,
+    user: &User,
+    line: &[u8],
+) -> bool
+    requires { pass.old.lock ≡ Some desk.now }
+    ensures { pass.new.lock ≡ pass.old.lock }
+{
+    let Ok(statement) = read(alloc, line) else {
+        return false;
+    };
+    let reply = desk.execute(rt, pass, *user, statement);
+    is_done(&reply)
 }
 
 /// The table, unless another thread made it already, and so many rows, through this pass.
@@ -64,17 +93,17 @@ fn through<R: Wait>(
     pass: &mut Pass,
     user: &User,
     count: u64,
-) -> Option<()>
+) -> bool
     requires { pass.old.lock ≡ Some desk.now }
     ensures { pass.new.lock ≡ pass.old.lock }
 {
-    let create = read(alloc, CREATE).ok()?;
-    let _reply = desk.execute(rt, pass, *user, create);
+    let _made_here = ask(rt, alloc, desk, pass, user, CREATE);
     for _ in 0..count {
-        let insert = read(alloc, INSERT).ok()?;
-        done(desk.execute(rt, pass, *user, insert))?;
+        if !ask(rt, alloc, desk, pass, user, INSERT) {
+            return false;
+        }
     }
-    Some(())
+    true
 }
 
 /// So many rows through each of these passes: one on this thread, and each other on one of its own.
@@ -85,25 +114,25 @@ fn spread<R: Threads + Wait + Sync>(
     mut passes: Vec<Pass>,
     user: &User,
     count: u64,
-) -> Option<()>
+) -> bool
     requires { All (λ p. p.lock ≡ Some desk.now) passes.items }
 {
     let Some(mut pass) = passes.pop() else {
-        return Some(());
+        return true;
     };
     if passes.is_empty() {
         return through(rt, alloc, desk, &mut pass, user, count);
     }
     let (one, others) = join(
         rt,
-        || -> Option<()>
+        || -> bool
             requires { IsSync R.row × (pass.lock ≡ Some desk.now) }
         { through(rt, alloc, desk, &mut pass, user, count) },
-        || -> Option<()>
+        || -> bool
             requires { IsSync R.row × All (λ p. p.lock ≡ Some desk.now) passes.items }
         { spread(rt, alloc, desk, passes, user, count) },
     );
-    one.and(others)
+    one && others
 }
 
 /// So many rows in all, through a desk with a pass for each thread.
@@ -113,11 +142,11 @@ fn shared<R: Threads + Wait + Sync>(
     threads: usize,
     user: &User,
     count: u64,
-) -> Option<()>
+) -> bool
     requires counts { (0 < threads) × (threads ≤ 64) }
 {
     let Ok((desk, passes)) = Desk::build(alloc, threads, CHUNK) else {
-        return None;
+        return false;
     };
     spread(rt, alloc, &desk, passes, user, count / (threads as u64))
 }
@@ -148,8 +177,9 @@ fn main(rt: HostRuntime) -> ExitCode {
     } else {
         shared(&rt, rt.alloc(), threads, &user, count)
     };
-    match done {
-        Some(()) => ExitCode::SUCCESS,
-        None => ExitCode::FAILURE,
+    if done {
+        ExitCode::SUCCESS
+    } else {
+        ExitCode::FAILURE
     }
 }

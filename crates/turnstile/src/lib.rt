@@ -60,8 +60,6 @@ mod object;
 mod pass;
 mod plays;
 mod tally;
-#[cfg(test)]
-mod tests;
 mod turnstile;
 mod view;
 

@@ -5,6 +5,7 @@ ghost use Rattle.script_core.specs.Script.{Answers, EndsScript};
 
 use crate::scripts::answer::answer;
 use base_core::{Broken, Limits, Sink, Source};
+use lexer_core::Token;
 use lines_core::{LineServer, SessionFault, serve};
 use reply_core::ReplyBuffer;
 use std::alloc::Global;
@@ -15,6 +16,7 @@ use system_core::System;
 #[derive(Drop)]
 pub struct ScriptServer {
     alloc: Global,
+    tokens: Vec<Token>,
     buffer: ReplyBuffer,
     system: System,
 }
@@ -39,7 +41,14 @@ impl LineServer for ScriptServer {
     }
 
     fn answer<W: Sink>(&mut self, writer: &mut W, line: &[u8]) -> Result<(), Broken> {
-        answer(self.alloc, &mut self.buffer, &mut self.system, writer, line)
+        answer(
+            self.alloc,
+            &mut self.tokens,
+            &mut self.buffer,
+            &mut self.system,
+            writer,
+            line,
+        )
     }
 
     ghost too_long = { Answers-too_long };
@@ -76,6 +85,7 @@ pub fn script<S: Source, W: Sink>(
     };
     let mut server = ScriptServer {
         alloc,
+        tokens: Vec::new(alloc),
         buffer,
         system,
     };

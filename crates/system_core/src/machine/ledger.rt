@@ -1,5 +1,6 @@
 //! The journal of accepted changes, with the tables and rights that it makes.
 ghost use Rattle.std.specs.Prelude.{◌≡◌, ◌+◌, ◌<◌, ◌≤◌, ◌^◌, ◌++◌, ◌∷◌, [], true, length, map, Ok, Some, option_map, IsSome, IfOk, OnOk, OnErr};
+ghost use Rattle.std.specs.Result.{result_ok};
 ghost use Rattle.tables_core.specs.Contents.{selected_rows, table_of};
 ghost use Rattle.grants_core.specs.History.{in_force_after};
 ghost use Rattle.monitor_core.specs.Verdict.{columns_of, is_change, allowed_by};
@@ -161,6 +162,20 @@ impl Ledger {
         let moment = Moment(count(&self.journal));
         let (tables, rights) = (&self.tables, &self.rights);
         judge(tables, rights, &self.limits, user, statement, moment)
+    }
+
+    /// What the verdict allows, without the lack, which is large to hand on.
+    #[inline(never)]
+    pub fn allowed(&self, user: User, statement: &Statement) -> Option<Allowed>
+        ensures { result
+            ≡ result_ok
+            (allowed_by
+            (verdict_at self.now.limits self.now.journal user statement.now) statement.now) }
+    {
+        match self.judged(user, statement) {
+            Ok(allowed) => Some(allowed),
+            Err(_) => None,
+        }
     }
 
     /// Carries out an allowed change, and enters it. `NoMemory` where a request for memory was refused:

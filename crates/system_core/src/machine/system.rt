@@ -1,5 +1,5 @@
 //! The core: one event after another, each a step of the machine.
-ghost use Rattle.std.specs.Prelude.{ℕ, ◌≡◌, ◌<◌, ◌≤◌, ◌++◌, ◌∷◌, [], true, false, length, Ok, Some, IsSome, IfOk, MatchResult};
+ghost use Rattle.std.specs.Prelude.{ℕ, ◌≡◌, ◌<◌, ◌≤◌, ◌++◌, ◌∷◌, [], true, false, not, length, Ok, Some, IsSome, is_some, IfOk, MatchResult};
 ghost use Rattle.base_core.specs.Full.{IsFull};
 ghost use Rattle.grants_core.specs.History.{in_force_after};
 ghost use Rattle.monitor_core.specs.Verdict.{first_lack, is_change};
@@ -237,20 +237,41 @@ impl System {
         }
     }
 
+    /// Names the lack for which the monitor does not allow the statement.
+    #[inline(never)]
+    fn refuse(&self, entry: &Entry) -> Reply
+        requires { let asked = entry.now.statement in
+            verdict_at self.now.limits self.now.journal entry.now.user asked ≡ Ok tt → ⊥ }
+        ensures { Responds self.now entry.now
+            (verdict_of self.now entry.now.user entry.now.statement) result self.now }
+    {
+        match self.ledger.judged(entry.user, &entry.statement) {
+            Err(lack) => lack_reply(self.ledger.moment(), lack),
+            Ok(_) => unreachable!(),
+        }
+    }
+
     fn say(&mut self, entry: Entry) -> Reply
         ensures { Responds self.old entry
             (verdict_of self.old entry.user entry.statement) result self.new }
     {
-        match self.ledger.judged(entry.user, &entry.statement) {
-            Err(lack) => lack_reply(self.ledger.moment(), lack),
-            Ok(allowed) => {
+        match self.ledger.allowed(entry.user, &entry.statement) {
+            Some(allowed) => {
                 if allowed.change {
                     self.change(entry)
                 } else {
                     self.look(&entry)
                 }
             }
+            None => self.refuse(&entry),
         }
+    }
+
+    /// Whether no checkpoint is active, so that a step of the checkpointer does nothing.
+    pub fn is_idle(&self) -> bool
+        ensures { result ≡ not (is_some self.now.active) }
+    {
+        !self.capture.active().is_some()
     }
 
     /// A step of the checkpointer.

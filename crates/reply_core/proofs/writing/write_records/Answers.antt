@@ -1,45 +1,16 @@
-use Rattle.std.proofs.Common.{ℕ, List, ◌++◌, take, refl, sym, subst, inl, inr}
-use Rattle.std.specs.List.{concat}
-use Rattle.std.proofs.lemmas.Result.{on_ok_weaker, on_err_weaker}
-use Rattle.std.specs.Io.KnownBytes.{Appends}
-use Rattle.std.proofs.KnownBytes.{Appends-trans}
-use Rattle.base_core.specs.Streams.{WritesFront}
-use Rattle.export_core.specs.Ticket.{Stops}
-use Rattle.export_core.specs.declared.fault.ExportFault.TheVariants as faults
-use Rattle.reply_core.specs.Texts.{cut_text}
+use Rattle.std.proofs.Common.{sym, subst}
+use Rattle.base_core.specs.Streams.{Writes, WritesFrontOf}
+use Rattle.std.specs.Result.{OnOk, OnErr}
 use Rattle.system_core.specs.declared.machine.event.Reply.{Reply}
 use Rattle.reply_core.specs.Telling.{TellsRecords}
-use Rattle.reply_core.proofs.WritingLemmas.{WritesFront-after, nothing-written, no_records, records-broken}
+use Rattle.reply_core.proofs.WritingLemmas.{nothing-written, no_records}
 use Rattle.reply_core.proofs.writing.write_records.Goals as goal
 
 pub returns-in_default : goal.returns-in_default
 returns-in_default g c = record { failed = c.requires; ok = nothing-written (TellsRecords c.args.reply) (g.W.Sink.taken c.args.writer.now) (no_records c.args.reply c.in_default.not-Export); err = tt }
 
-pub returns-in-Err-NoMemory-clause-ok : goal.returns-in-Err-NoMemory-clause-ok
-returns-in-Err-NoMemory-clause-ok g c =
-    let before = g.W.Sink.taken c.args.writer.now in
-    let mid = g.W.Sink.taken c.write_to.new.writer in
-    let after = g.W.Sink.taken c.write_all.new.writer in
-    let stops : Stops faults.NoMemory c.in-Export.ticket c.write_to.new.self before mid = rw c.in-Err-NoMemory.field-0-is at c.in-Err-NoMemory.ensures.err in
-    let text : List ℕ = concat (take stops.0 c.in-Export.ticket.to_come) in
-    let told : TellsRecords c.args.reply (text ++ cut_text) = subst (λ (r : Reply). TellsRecords r (text ++ cut_text)) (sym c.in-Export.is) (inr (stops.0, stops.1, refl)) in
-    on_ok_weaker c.write_all.result (λ (a : Appends mid after cut_text). record { text = text ++ cut_text; is = told; wrote = Appends-trans before mid after text cut_text stops.2.wrote a }) c.write_all.ensures.ok
-
-pub returns-in-Err-NoMemory-clause-err : goal.returns-in-Err-NoMemory-clause-err
-returns-in-Err-NoMemory-clause-err g c =
-    let before = g.W.Sink.taken c.args.writer.now in
-    let mid = g.W.Sink.taken c.write_to.new.writer in
-    let after = g.W.Sink.taken c.write_all.new.writer in
-    let stops : Stops faults.NoMemory c.in-Export.ticket c.write_to.new.self before mid = rw c.in-Err-NoMemory.field-0-is at c.in-Err-NoMemory.ensures.err in
-    let text : List ℕ = concat (take stops.0 c.in-Export.ticket.to_come) in
-    let told : TellsRecords c.args.reply (text ++ cut_text) = subst (λ (r : Reply). TellsRecords r (text ++ cut_text)) (sym c.in-Export.is) (inr (stops.0, stops.1, refl)) in
-    on_err_weaker c.write_all.result (λ (w : WritesFront mid after cut_text). record { text = text ++ cut_text; is = told; wrote = WritesFront-after before mid after text cut_text stops.2.wrote w }) c.write_all.ensures.err
+pub returns-clause-ok : goal.returns-clause-ok
+returns-clause-ok g c = subst (λ (r : Reply). OnOk c.write_ticket.result (Writes (TellsRecords r) (g.W.Sink.taken c.args.writer.now) (g.W.Sink.taken c.write_ticket.new.writer))) (sym c.in-Export.is) c.write_ticket.ensures.ok
 
 pub returns-clause-err : goal.returns-clause-err
-returns-clause-err g c =
-    let before = g.W.Sink.taken c.args.writer.now in
-    let after = g.W.Sink.taken c.write_to.new.writer in
-    let stops : Stops faults.Write c.in-Export.ticket c.write_to.new.self before after = rw c.in-Err-Write.field-0-is at c.in-Err-Write.ensures.err in
-    let all : List ℕ = concat c.in-Export.ticket.to_come in
-    let told : TellsRecords c.args.reply all = subst (λ (r : Reply). TellsRecords r all) (sym c.in-Export.is) (inl refl) in
-    record { text = all; is = told; wrote = records-broken c.in-Export.ticket.to_come stops.0 stops.1.front stops.1.unwritten before after stops.1.broken stops.1.wrote }
+returns-clause-err g c = subst (λ (r : Reply). OnErr c.write_ticket.result (WritesFrontOf (TellsRecords r) (g.W.Sink.taken c.args.writer.now) (g.W.Sink.taken c.write_ticket.new.writer))) (sym c.in-Export.is) c.write_ticket.ensures.err

@@ -3,10 +3,10 @@ use Rattle.std.proofs.lemmas.List.{take_rest}
 use Rattle.std.proofs.lemmas.Result.{on_ok_weaker, on_err_weaker}
 use Rattle.reader_core.specs.Language.{IsReadFault}
 use Rattle.reply_core.proofs.WritingLemmas.{Writes-map, WritesFrontOf-map}
-use Rattle.script_core.specs.Saying.{ComesTo, TellsThen}
+use Rattle.script_core.specs.Saying.{ComesTo, TellsAsked, TellsThen}
 use Rattle.script_core.specs.Script.{Answers, Asks, address, statement, addressed}
 use Rattle.script_core.specs.declared.scripts.answer.Said.TheVariants as says
-use Rattle.script_core.proofs.Answering.{then-answers}
+use Rattle.script_core.proofs.Answering.{asked-answers, then-answers}
 use Rattle.script_core.proofs.Offsets.{offset-small}
 use Rattle.script_core.proofs.scripts.answer.answer.Goals as goal
 
@@ -62,20 +62,18 @@ returns-in-Err-NoMemory-clause-err g c =
     on_err_weaker c.tell-in-Err-NoMemory.result (WritesFrontOf-map (TellsThen (says.Unread) c.args.system.now c.tell-in-Err-NoMemory.new.system) (λ text. Answers c.args.system.now c.args.line.now text c.tell-in-Err-NoMemory.new.system) _ _
     (then-answers c.args.system.now c.args.system.now c.tell-in-Err-NoMemory.new.system c.args.line.now (says.Unread) comes)) c.tell-in-Err-NoMemory.ensures.err
 
-pub returns-in-Ok-read-clause-ok : goal.returns-in-Ok-read-clause-ok
-returns-in-Ok-read-clause-ok g c =
+pub returns-in-Ok-read_with-clause-ok : goal.returns-in-Ok-read_with-clause-ok
+returns-in-Ok-read_with-clause-ok g c =
     let speaker : addressed c.args.line.now ≡ Ok c.in-Ok.address = sym c.addressed.ensures.exact ∙ c.in-Ok.is in
-    let spelled = rw (take_rest c.args.line.now c.in-Ok.address.1) at c.in-Ok-read.ensures.spelled in
-    let asks : Asks c.args.line.now c.in-Ok.address.0 c.in-Ok-read.statement = record { start = c.in-Ok.address.1; speaker = speaker; spelled = spelled } in
-    let comes : ComesTo c.args.system.now c.args.line.now (says.Answer c.step-reply.result) c.step-reply.new.self = (c.in-Ok.address.0, c.in-Ok-read.statement, asks, c.step-reply.ensures) in
-    on_ok_weaker c.tell-in-Ok-read.result (Writes-map (TellsThen (says.Answer c.step-reply.result) c.step-reply.new.self c.tell-in-Ok-read.new.system) (λ text. Answers c.args.system.now c.args.line.now text c.tell-in-Ok-read.new.system) _ _
-    (then-answers c.args.system.now c.step-reply.new.self c.tell-in-Ok-read.new.system c.args.line.now (says.Answer c.step-reply.result) comes)) c.tell-in-Ok-read.ensures.ok
+    let spelled = rw (take_rest c.args.line.now c.in-Ok.address.1) at c.in-Ok-read_with.ensures.spelled in
+    let asks : Asks c.args.line.now c.in-Ok.address.0 c.in-Ok-read_with.statement = record { start = c.in-Ok.address.1; speaker = speaker; spelled = spelled } in
+    on_ok_weaker c.ask.result (Writes-map (TellsAsked c.in-Ok.address.0 c.in-Ok-read_with.statement c.args.system.now c.ask.new.system) (λ text. Answers c.args.system.now c.args.line.now text c.ask.new.system) _ _
+    (asked-answers c.args.system.now c.ask.new.system c.args.line.now c.in-Ok.address.0 c.in-Ok-read_with.statement asks)) c.ask.ensures.ok
 
-pub returns-in-Ok-read-clause-err : goal.returns-in-Ok-read-clause-err
-returns-in-Ok-read-clause-err g c =
+pub returns-in-Ok-read_with-clause-err : goal.returns-in-Ok-read_with-clause-err
+returns-in-Ok-read_with-clause-err g c =
     let speaker : addressed c.args.line.now ≡ Ok c.in-Ok.address = sym c.addressed.ensures.exact ∙ c.in-Ok.is in
-    let spelled = rw (take_rest c.args.line.now c.in-Ok.address.1) at c.in-Ok-read.ensures.spelled in
-    let asks : Asks c.args.line.now c.in-Ok.address.0 c.in-Ok-read.statement = record { start = c.in-Ok.address.1; speaker = speaker; spelled = spelled } in
-    let comes : ComesTo c.args.system.now c.args.line.now (says.Answer c.step-reply.result) c.step-reply.new.self = (c.in-Ok.address.0, c.in-Ok-read.statement, asks, c.step-reply.ensures) in
-    on_err_weaker c.tell-in-Ok-read.result (WritesFrontOf-map (TellsThen (says.Answer c.step-reply.result) c.step-reply.new.self c.tell-in-Ok-read.new.system) (λ text. Answers c.args.system.now c.args.line.now text c.tell-in-Ok-read.new.system) _ _
-    (then-answers c.args.system.now c.step-reply.new.self c.tell-in-Ok-read.new.system c.args.line.now (says.Answer c.step-reply.result) comes)) c.tell-in-Ok-read.ensures.err
+    let spelled = rw (take_rest c.args.line.now c.in-Ok.address.1) at c.in-Ok-read_with.ensures.spelled in
+    let asks : Asks c.args.line.now c.in-Ok.address.0 c.in-Ok-read_with.statement = record { start = c.in-Ok.address.1; speaker = speaker; spelled = spelled } in
+    on_err_weaker c.ask.result (WritesFrontOf-map (TellsAsked c.in-Ok.address.0 c.in-Ok-read_with.statement c.args.system.now c.ask.new.system) (λ text. Answers c.args.system.now c.args.line.now text c.ask.new.system) _ _
+    (asked-answers c.args.system.now c.ask.new.system c.args.line.now c.in-Ok.address.0 c.in-Ok-read_with.statement asks)) c.ask.ensures.err

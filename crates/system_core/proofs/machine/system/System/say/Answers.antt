@@ -1,7 +1,7 @@
-use Rattle.std.proofs.Common.{◌≡◌, ℕ, true, Ok, Err, refl, sym, ap, subst, ◌∙◌}
+use Rattle.std.proofs.Common.{◌≡◌, true, Ok, sym, ap, subst, ◌∙◌}
 use Rattle.base_core.specs.declared.value.Moment.{Moment}
 use Rattle.monitor_core.specs.Verdict.{Check, first_lack, is_change}
-use Rattle.monitor_core.proofs.Allowing.{passed-allowed, change-allowed, lack-allowed}
+use Rattle.system_core.proofs.Passed.{change-some, none-passed, passed-some}
 use Rattle.system_core.specs.Journal.{verdict_at}
 use Rattle.system_core.specs.World.{World}
 use Rattle.system_core.specs.Judging.{checkpoint_checks, verdict_of, judged_at}
@@ -10,22 +10,12 @@ use Rattle.system_core.specs.Standing.{world_of}
 use Rattle.system_core.proofs.Judged.{passed-first, failed-first, no_more_checks, judged-now}
 use Rattle.system_core.proofs.machine.system.System.say.Goals as goal
 
-pub returns-in-Err : goal.returns-in-Err
-returns-in-Err c =
-    let w : World = world_of c.self.inside.chunk c.self.inside.ledger c.self.inside.capture c.self.inside.catalogue in
-    let lacks : verdict_at w.limits w.journal c.args.entry.user c.args.entry.statement ≡ Err c.in-Err.lack = lack-allowed _ c.args.entry.statement c.in-Err.lack (sym c.judged.ensures ∙ c.in-Err.is) in
-    let now : c.moment.result ≡ judged_at w c.args.entry.statement c.in-Err.lack = ap (λ (n : ℕ). record { 0 = n }) c.moment.ensures.moment ∙ sym (judged-now w c.args.entry.user c.args.entry.statement c.in-Err.lack lacks) in
-    let failed : verdict_of w c.args.entry.user c.args.entry.statement ≡ Err c.in-Err.lack = failed-first (verdict_at w.limits w.journal c.args.entry.user c.args.entry.statement) (checkpoint_checks w c.args.entry.user c.args.entry.statement) c.in-Err.lack lacks in
-    let By : Check → Type 0 = λ check. Responds w c.args.entry check c.lack_reply.result w in
-    let At : World → Type 0 = λ v. Responds v c.args.entry (verdict_of v c.args.entry.user c.args.entry.statement) c.lack_reply.result v in
-    subst At c.self.view_is (subst By (sym failed) (c.lack_reply.ensures ∙ ap (λ (m : Moment). lack_reply m c.in-Err.lack) now, refl))
-
 pub returns-then-allowed : goal.returns-then-allowed
 returns-then-allowed c =
-    let passes : verdict_at c.self.inside.ledger.limits c.self.inside.ledger.journal c.args.entry.user c.args.entry.statement ≡ Ok tt = passed-allowed _ c.args.entry.statement c.in-Ok.allowed (sym c.judged.ensures ∙ c.in-Ok.is) in
+    let passes : verdict_at c.self.inside.ledger.limits c.self.inside.ledger.journal c.args.entry.user c.args.entry.statement ≡ Ok tt = passed-some _ c.args.entry.statement c.in-Some.allowed (sym c.allowed.ensures ∙ c.in-Some.is) in
     let here : verdict_at c.args.self.now.limits c.args.self.now.journal c.args.entry.user c.args.entry.statement ≡ Ok tt =
     subst (λ (v : World). verdict_at v.limits v.journal c.args.entry.user c.args.entry.statement ≡ Ok tt) c.self.view_is passes in
-    let change : is_change c.args.entry.statement ≡ true = sym (change-allowed _ c.args.entry.statement c.in-Ok.allowed (sym c.judged.ensures ∙ c.in-Ok.is)) ∙ c.if-allowed.true in
+    let change : is_change c.args.entry.statement ≡ true = sym (change-some _ c.args.entry.statement c.in-Some.allowed (sym c.allowed.ensures ∙ c.in-Some.is)) ∙ c.if-allowed.true in
     let passed : verdict_of c.args.self.now c.args.entry.user c.args.entry.statement ≡ Ok tt =
     passed-first (verdict_at c.args.self.now.limits c.args.self.now.journal c.args.entry.user c.args.entry.statement) (checkpoint_checks c.args.self.now c.args.entry.user c.args.entry.statement) here
     ∙ ap first_lack (no_more_checks c.args.self.now c.args.entry.user c.args.entry.statement change) in
@@ -34,7 +24,7 @@ returns-then-allowed c =
 
 pub returns-else-allowed : goal.returns-else-allowed
 returns-else-allowed c =
-    let passes : verdict_at c.self.inside.ledger.limits c.self.inside.ledger.journal c.args.entry.user c.args.entry.statement ≡ Ok tt = passed-allowed _ c.args.entry.statement c.in-Ok.allowed (sym c.judged.ensures ∙ c.in-Ok.is) in
+    let passes : verdict_at c.self.inside.ledger.limits c.self.inside.ledger.journal c.args.entry.user c.args.entry.statement ≡ Ok tt = passed-some _ c.args.entry.statement c.in-Some.allowed (sym c.allowed.ensures ∙ c.in-Some.is) in
     let here : verdict_at c.args.self.now.limits c.args.self.now.journal c.args.entry.user c.args.entry.statement ≡ Ok tt =
     subst (λ (v : World). verdict_at v.limits v.journal c.args.entry.user c.args.entry.statement ≡ Ok tt) c.self.view_is passes in
     let By : Check → Type 0 = λ check. Responds c.args.self.now c.args.entry check c.look.result c.look.new.self in
