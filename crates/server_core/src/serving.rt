@@ -25,6 +25,13 @@ impl<'a> Promise<Pass> for OfDesk<'a> {
     ghost kept_by = { λ p pass. IsOf p.0.now pass };
 }
 
+/// Passes that are to be handed to threads. A type of its own, since a closure that owns a vector as
+/// it is takes minutes to prove.
+#[derive(Drop)]
+struct Dealt {
+    passes: Vec<Pass>,
+}
+
 /// Takes the steps of checkpoints until it is told to stop.
 fn check<R: Wait + Clock>(rt: &R, desk: &Desk, pass: Pass, stop: &AtomicBool) -> Pass
     requires { IsOf desk.now pass }
@@ -92,14 +99,15 @@ where
     requires { All (IsOf desk.now) passes.items }
     ensures { IfOk result (λ v. All (IsOf desk.now) v.items) }
 {
+    let dealt = Dealt { passes };
     thread::scope(
         thread::scope_env(),
         rt,
         move |scope| -> Result<Vec<Pass>, ServeFault>
-            requires { All (IsOf desk.now) passes.items }
+            requires { All (IsOf desk.now) dealt.passes.items }
             ensures { IfOk result (λ v. All (IsOf desk.entry.now) v.items) }
         {
-            let mut passes = passes;
+            let Dealt { mut passes } = dealt;
             let Ok(mut workers) = Vec::with_capacity(alloc, passes.len()) else {
                 return Err(ServeFault::NoMemory);
             };
