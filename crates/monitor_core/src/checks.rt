@@ -81,6 +81,7 @@ pub fn takes(column: Column, value: &Value) -> Result<(), Lack>
 }
 
 /// Passed where each column takes the value at its place.
+#[inline(always)]
 pub fn each_takes(columns: &[Column], values: &[Value]) -> Result<(), Lack>
     ensures { result ≡ each (zip columns.now values.now) (λ pair. takes pair.0 pair.1) }
 {

@@ -3,7 +3,7 @@
 //! names, values or users goes over them in the order written. It borrows what there is and keeps
 //! nothing. Of INSERT, SELECT, DELETE and UPDATE the table is looked up once, and their checks go
 //! by its columns.
-ghost use Rattle.std.specs.Prelude.{◌≡◌, ℕ, ◌∷◌, [], ◌≤◌, nat_lt, length, Ok, Err, OnOk, IfOk, IfErr};
+ghost use Rattle.std.specs.Prelude.{◌≡◌, ℕ, ◌∷◌, [], ◌≤◌, nat_lt, length, is_ok, Ok, Err, OnOk, IfOk, IfErr};
 ghost use Rattle.base_core.specs.declared.name.User.{User};
 ghost use Rattle.base_core.specs.declared.privilege.Kind.TheVariants as kinds;
 ghost use Rattle.reader_core.specs.declared.statement.Statement.TheVariants as statements;
@@ -285,6 +285,7 @@ impl<A: Authority> Judge<'_, A> {
         require(room, Lack::Full(What::Tables))
     }
 
+    #[inline(always)]
     fn insert(&self, user: &User, table: Name, values: &[Value]) -> Result<(), Lack>
         ensures { result ≡ verdict self.now user.now (statements.Insert table values.now) }
     {
@@ -469,6 +470,27 @@ impl<A: Authority> Judge<'_, A> {
             } => self.revoke(user, privileges.as_slice(), *table, users.as_slice()),
             Statement::Checkpoint | Statement::Checkpoints => Ok(()),
             Statement::Export { number: _, only } => self.export(only),
+        }
+    }
+    /// Whether the statement may be carried out.
+    // By itself, so that INSERT does not pay for the room of its lack.
+    #[inline(never)]
+    fn passes_judge(&self, user: &User, statement: &Statement) -> bool
+        ensures { result ≡ is_ok (verdict self.now user.now statement.now) }
+    {
+        self.judge(user, statement).is_ok()
+    }
+
+    /// Whether the statement may be carried out. Where it is an INSERT no lack is made.
+    #[inline(always)]
+    pub fn passes(&self, user: &User, statement: &Statement) -> bool
+        ensures { result ≡ is_ok (verdict self.now user.now statement.now) }
+    {
+        match statement {
+            Statement::Insert { table, values } => {
+                self.insert(user, *table, values.as_slice()).is_ok()
+            }
+            _ => self.passes_judge(user, statement),
         }
     }
 }

@@ -26,6 +26,8 @@
 //!                                                  // Ok(Allowed { change: true })
 //! ```
 //!
+//! [`allows`] answers the same without the lack, for whoever first asks whether there is one.
+//!
 //! It judges over any [`Authority`](grants_core::Authority), by that trait's contracts alone. Lacks
 //! of checkpoints and exports are not its matter, but for a table that an export names and that
 //! does not stand. It takes no memory, so it never answers that memory was refused.
@@ -50,4 +52,4 @@ mod monitor;
 
 pub use allowed::Allowed;
 pub use checks::columns_of;
-pub use monitor::judge;
+pub use monitor::{allows, is_change, judge};

@@ -1,5 +1,6 @@
-//! The monitor's one call.
+//! What the monitor is asked.
 ghost use Rattle.std.specs.Prelude.{◌≡◌, Err};
+ghost use Rattle.std.specs.Result.{result_ok};
 ghost use Rattle.monitor_core.specs.Verdict.{verdict, is_change, allowed_by};
 
 use crate::allowed::Allowed;
@@ -9,7 +10,8 @@ use grants_core::Authority;
 use reader_core::Statement;
 use tables_core::Tables;
 
-fn is_change(statement: &Statement) -> bool
+/// Whether a statement is a change: one that makes a moment, if it is allowed.
+pub fn is_change(statement: &Statement) -> bool
     ensures { result ≡ is_change statement.now }
 {
     match statement {
@@ -87,4 +89,39 @@ pub fn judge<A: Authority>(
         }),
         Err(lack) => Err(lack),
     }
+}
+
+/// What [`judge`] allows, asked the same, without the lack, which is large to make and to hand on.
+pub fn allows<A: Authority>(
+    tables: &Tables,
+    rights: &A,
+    limits: &Limits,
+    user: &User,
+    statement: &Statement,
+    moment: Moment,
+) -> Option<Allowed>
+    ensures { result
+        ≡ result_ok
+        (allowed_by
+        (verdict
+        (record {
+          tables = tables.now.tables;
+          rights = A.content rights.now;
+          limits = limits.now;
+          moment = moment.0;
+        })
+        user.now statement.now)
+        statement.now) }
+{
+    let judge = Judge {
+        tables,
+        rights,
+        limits,
+        moment,
+    };
+    if !judge.passes(user, statement) {
+        return None;
+    }
+    let change = is_change(statement);
+    Some(Allowed { change })
 }

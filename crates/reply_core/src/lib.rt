@@ -26,4 +26,4 @@ mod writing;
 
 pub use buffer::ReplyBuffer;
 pub use wording::reply_text;
-pub use writing::{write_fault, write_reply, write_unread};
+pub use writing::{write_done, write_fault, write_reply, write_unread};

@@ -228,6 +228,17 @@ fn push_header(text: &mut ReplyBuffer, ticket: &Ticket)
     push_number_in(text, b"", ticket.at().0, b"\n");
 }
 
+/// Appends the text of a change that made this moment, `done @m`.
+#[inline(always)]
+pub fn push_done(text: &mut ReplyBuffer, at: Moment)
+    requires { text.old ≡ [] }
+    ensures { text.new ≡ reply_text (Reply.Done at) }
+{
+    text.push(b"done @");
+    text.push_number(at.0);
+    text.push(b"\n");
+}
+
 /// Appends the text of a reply that is no list, which takes no memory: `done @m`;
 /// `checkpoint n begun @m` or `checkpoint n abandoned`; of an export the line before its records,
 /// `export n point p @m`; `denied @m:` or `refused @m:` and what is missing; nothing for the other
@@ -238,7 +249,7 @@ pub fn push_reply(text: &mut ReplyBuffer, reply: &Reply)
     ensures { text.new ≡ reply_text reply.now }
 {
     match reply {
-        Reply::Done { at } => push_number_in(text, b"done @", at.0, b"\n"),
+        Reply::Done { at } => push_done(text, *at),
         Reply::Begun { number, at } => push_begun(text, *number, *at),
         Reply::Export(ticket) => push_header(text, ticket),
         Reply::Denied { at, lack } => push_stamped(text, b"denied @", *at, lack),

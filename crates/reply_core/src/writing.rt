@@ -6,8 +6,8 @@ ghost use Rattle.reply_core.specs.Texts.{is_list, fault_text, unread_text};
 ghost use Rattle.reply_core.specs.Telling.{TellsReply, TellsRecords};
 
 use crate::buffer::ReplyBuffer;
-use crate::wording::{is_list, push_fault, push_reply, reply_text};
-use base_core::{Broken, NoMemory, Sink, write_all};
+use crate::wording::{is_list, push_done, push_fault, push_reply, reply_text};
+use base_core::{Broken, Moment, NoMemory, Sink, write_all};
 use export_core::{ExportFault, Gate, Ticket};
 use lexer_core::Code;
 use std::alloc::Global;
@@ -121,6 +121,28 @@ pub fn write_reply<W: Sink, G: Gate>(
         return write_list(alloc, &reply, writer);
     }
     write_brief(buffer, reply, writer, gate)
+}
+
+/// Writes the text of a change that made this moment, as [`write_reply`] does of [`Reply::Done`], which
+/// is large to hand on. It takes no memory. `Broken` exactly where the writer has failed, and then a front
+/// was written.
+#[inline]
+pub fn write_done<W: Sink>(
+    buffer: &mut ReplyBuffer,
+    at: Moment,
+    writer: &mut W,
+) -> Result<(), Broken>
+    requires { W.failed writer.old ≡ false }
+    ensures failed { MatchResult result (λ _. W.failed writer.new ≡ false)
+        (λ _. W.failed writer.new ≡ true) }
+    ensures ok { OnOk result
+        (Writes (TellsReply (Reply.Done at)) (W.taken writer.old) (W.taken writer.new)) }
+    ensures err { OnErr result
+        (WritesFrontOf (TellsReply (Reply.Done at)) (W.taken writer.old) (W.taken writer.new)) }
+{
+    buffer.clear();
+    push_done(buffer, at);
+    write_all(writer, buffer.as_slice())
 }
 
 /// Writes the text of a fault at this byte of its line. The buffer may have any text; what it has then

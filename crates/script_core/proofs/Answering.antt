@@ -1,14 +1,20 @@
 -- What is written for a line is an answer to it.
-use Rattle.std.proofs.Common.{◌≡◌, ℕ, true, false, not, List, [], ◌++◌, Option, Some, None, is_some, refl, sym, subst, inl}
+use Rattle.std.proofs.Common.{◌≡◌, ℕ, true, false, not, List, [], ◌++◌, Option, Some, None, Result, Ok, is_some, refl, sym, subst, inl}
 use Rattle.reply_core.specs.Texts.{reply_text}
 use Rattle.reply_core.specs.Telling.{TellsReply}
 use Rattle.reply_core.proofs.WritingLemmas.{Both, some_records}
 use Rattle.std.proofs.lemmas.List.{append-nil}
 use Rattle.base_core.specs.declared.name.User.{User}
 use Rattle.reader_core.specs.declared.statement.Statement.{Statement}
-use Rattle.system_core.specs.World.{World, ActiveCheckpoint}
+use Rattle.monitor_core.specs.Verdict.{is_change}
+use Rattle.system_core.specs.Journal.{verdict_at}
+use Rattle.system_core.specs.World.{World, ActiveCheckpoint, entry}
 use Rattle.system_core.specs.declared.machine.event.Reply.{Reply}
-use Rattle.system_core.specs.Step.{Advances, Step}
+use Rattle.base_core.specs.declared.value.Moment.{Moment}
+use Rattle.base_core.specs.declared.memory.NoMemory.{NoMemory}
+use Rattle.system_core.specs.Step.{change_reply, Advances, CarriesOut, Step}
+use Rattle.system_core.specs.declared.machine.event.Entry.{Entry}
+use Rattle.system_core.proofs.Judged.{change-responds}
 use Rattle.system_core.specs.declared.machine.event.Reply.TheVariants as replies
 use Rattle.system_core.specs.declared.machine.event.Event.TheVariants as events
 use Rattle.script_core.specs.Script.{is_refused, Answers, Asks, AnswersLine, faulty, said, unread, Follows, stepped, gave_up}
@@ -52,18 +58,28 @@ said-alone what old new reply step silent text tells = (None, (reply, step, sile
 pub said-then : (what : Said) (old mid new : World) (refusal reply : Reply) → Step old events.Step refusal mid → is_refused refusal ≡ true → Step mid events.Abandon reply new → (text : List ℕ) → Both (TellsSaid what) (TellsReply reply) text → TellsThen what old new text
 said-then what old mid new refusal reply step refused up text both = (Some reply, (refusal, mid, step, refused, up), both)
 
--- the user asks it
-pub asked-answers : (old new : World) (line : List ℕ) (user : User) (asked : Statement) → Asks line user asked → (text : List ℕ) → TellsAsked user asked old new text → Answers old line text new
+-- what is said of what was asked
+pub asked-answers : (old new : World) (line : List ℕ) (user : User) (asked : Statement) → Asks line user asked → (text : List ℕ) → TellsAsked (entry 0 user asked) old new text → Answers old line text new
 asked-answers old new line user asked asks text (reply, mid, step, tells) = then-answers old mid new line (says.Answer reply) (user, asked, asks, step) text tells
 
 idle-with : (w : World) (active : Option ActiveCheckpoint) → not (is_some active) ≡ true → Advances w active replies.Idle w
 idle-with w None idle = (refl, refl)
 idle-with w (Some a) idle = cc
 
--- the step does nothing
-pub asked-idle : (old mid : World) (user : User) (asked : Statement) (reply : Reply) → Step old (events.Say 0 user asked) reply mid → not (is_some mid.active) ≡ true → (text : List ℕ) → TellsReply reply text → TellsAsked user asked old mid text
-asked-idle old mid user asked reply step idle text tells = (reply, mid, step, said-alone (says.Answer reply) mid mid replies.Idle (idle-with mid mid.active idle) refl text tells)
+-- a step that does nothing
+pub said-idle : (w : World) (what : Said) → not (is_some w.active) ≡ true → (text : List ℕ) → TellsSaid what text → TellsThen what w w text
+said-idle w what idle text tells = said-alone what w w replies.Idle (idle-with w w.active idle) refl text tells
 
--- the step does something
-pub asked-then : (old mid new : World) (user : User) (asked : Statement) (reply : Reply) → Step old (events.Say 0 user asked) reply mid → (text : List ℕ) → TellsThen (says.Answer reply) mid new text → TellsAsked user asked old new text
-asked-then old mid new user asked reply step text tells = (reply, mid, step, tells)
+-- what was asked, and what is told of it
+pub asked-then : (old mid new : World) (e : Entry) (reply : Reply) → Step old (events.Say e.pass e.user e.statement) reply mid → (text : List ℕ) → TellsThen (says.Answer reply) mid new text → TellsAsked e old new text
+asked-then old mid new e reply step text tells = (reply, mid, step, tells)
+
+-- an allowed change
+pub changed-then : (old mid new : World) (e : Entry) (reply : Reply) → verdict_at old.limits old.journal e.user e.statement ≡ Ok tt → is_change e.statement ≡ true → CarriesOut old e reply mid → (text : List ℕ) → TellsThen (says.Answer reply) mid new text → TellsAsked e old new text
+changed-then old mid new e reply allowed change carries text tells = asked-then old mid new e reply (change-responds old mid e reply allowed change carries) text tells
+
+-- one behind which the step does nothing
+pub changed-idle : (old mid : World) (e : Entry) (at made : Moment) → verdict_at old.limits old.journal e.user e.statement ≡ Ok tt → is_change e.statement ≡ true → (result : Result Moment NoMemory) → result ≡ Ok made → CarriesOut old e (change_reply at result) mid → not (is_some mid.active) ≡ true → (text : List ℕ) → TellsReply (replies.Done made) text → TellsAsked e old mid text
+changed-idle old mid e at made allowed change result is carries idle text tells =
+    let done : CarriesOut old e (replies.Done made) mid = subst (λ (r : Result Moment NoMemory). CarriesOut old e (change_reply at r) mid) is carries in
+    changed-then old mid mid e (replies.Done made) allowed change done text (said-idle mid (says.Answer (replies.Done made)) idle text tells)

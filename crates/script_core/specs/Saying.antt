@@ -8,6 +8,7 @@ use Rattle.system_core.specs.World.{World}
 use Rattle.system_core.specs.Step.{Step}
 use Rattle.script_core.specs.Script.{addressed, Asks, IsFaulty, is_refused}
 use Rattle.system_core.specs.declared.machine.event.Event.TheVariants as events
+use Rattle.system_core.specs.declared.machine.event.Entry.{Entry}
 use Rattle.system_core.specs.declared.machine.event.Reply.{Reply}
 use Rattle.script_core.specs.declared.scripts.answer.Said.{Said}
 use Rattle.script_core.specs.declared.scripts.answer.Said.TheVariants as says
@@ -60,11 +61,11 @@ abbrev pub TellsThen : Said → World → World → List ℕ → Type 0
 TellsThen said old new text =
     (advanced : Option Reply) × Advanced old advanced new × TellsBoth said advanced text
 
--- From old, this text may be written of what the user asks and of the step after it, and new is the
--- next world.
-abbrev pub TellsAsked : User → Statement → World → World → List ℕ → Type 0
-TellsAsked user asked old new text =
+-- From old, this text may be written of what a user says and of the step after it, and new is the next
+-- world.
+abbrev pub TellsAsked : Entry → World → World → List ℕ → Type 0
+TellsAsked e old new text =
     (reply : Reply)
     × (mid : World)
-    × Step old (events.Say 0 user asked) reply mid
+    × Step old (events.Say e.pass e.user e.statement) reply mid
     × TellsThen (says.Answer reply) mid new text

@@ -1,5 +1,5 @@
 -- How the verdict at a world comes of the monitor's and of the checks of checkpoints.
-use Rattle.std.proofs.Common.{◌≡◌, ℕ, Bool, true, false, List, [], ◌∷◌, Option, Some, None, Ok, Err, refl, subst}
+use Rattle.std.proofs.Common.{◌≡◌, ℕ, Bool, true, false, List, [], ◌∷◌, Option, Some, None, Ok, Err, refl, sym, ap, subst, ◌∙◌}
 use Rattle.std.specs.List.{AllByRecursion}
 use Rattle.std.specs.Option.{unwrap_or}
 use Rattle.base_core.specs.declared.name.Name.{Name}
@@ -15,6 +15,8 @@ use Rattle.system_core.specs.declared.machine.event.Entry.{Entry}
 use Rattle.system_core.specs.Journal.{contents, state_of, verdict_at}
 use Rattle.system_core.specs.Exports.{journal_at}
 use Rattle.system_core.specs.World.{World, moment_of}
+use Rattle.system_core.specs.declared.machine.event.Reply.{Reply}
+use Rattle.system_core.specs.Step.{CarriesOut, Responds}
 use Rattle.system_core.specs.Judging.{point_of, at_point, export_check, stood_then, could_select_then, may_select_now, checkpoint_checks, verdict_of, moment_for, judged_at}
 
 pub passed-first : (check : Check) (more : List Check) → check ≡ Ok tt → first_lack (check ∷ more) ≡ first_lack more
@@ -37,6 +39,13 @@ no_more_checks w user (statements.Revoke privileges table users) e = refl
 no_more_checks w user statements.Checkpoint e = cc
 no_more_checks w user statements.Checkpoints e = refl
 no_more_checks w user (statements.Export number only) e = cc
+
+-- an allowed change that is carried out is a step of the machine
+pub change-responds : (w new : World) (e : Entry) (reply : Reply) → verdict_at w.limits w.journal e.user e.statement ≡ Ok tt → is_change e.statement ≡ true → CarriesOut w e reply new → Responds w e (verdict_of w e.user e.statement) reply new
+change-responds w new e reply allowed change carries =
+    let passed : verdict_of w e.user e.statement ≡ Ok tt = passed-first (verdict_at w.limits w.journal e.user e.statement) (checkpoint_checks w e.user e.statement) allowed ∙ ap first_lack (no_more_checks w e.user e.statement change) in
+    let By : Check → Type 0 = λ check. Responds w e check reply new in
+    subst By (sym passed) carries
 
 -- what the monitor finds missing is of now
 no_table-now : (b : Bool) (table : Name) (point now : Moment) (lack : Lack) → first_lack (require b (lacks.NoTable table) ∷ []) ≡ Err lack → moment_for point now lack ≡ now

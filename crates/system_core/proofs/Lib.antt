@@ -4,7 +4,6 @@ pub mod Growing
 pub mod Counting
 pub mod Keeping
 pub mod Owning
-mod Passed
 pub mod Fitting
 pub mod Sound
 pub mod Judged

@@ -1,5 +1,5 @@
 -- The steps of the machine, from one world to the next.
-use Rattle.std.specs.Prelude.{ℕ, ◌≡◌, ◌+◌, ◌-◌, ◌<◌, ◌≤◌, true, List, [], ◌∷◌, ◌++◌, map, if◌then◌else◌, Ok, Err, Option, Some, None, option_map, IsSomeAnd}
+use Rattle.std.specs.Prelude.{ℕ, ◌≡◌, ◌+◌, ◌-◌, ◌<◌, ◌≤◌, true, List, [], ◌∷◌, ◌++◌, map, if◌then◌else◌, Result, Ok, Err, Option, Some, None, option_map, IsSomeAnd}
 use Rattle.std.specs.Option.{unwrap_or}
 use Rattle.base_core.specs.Lacks.{is_denial}
 use Rattle.base_core.specs.declared.name.User.{User}
@@ -8,6 +8,7 @@ use Rattle.base_core.specs.declared.value.Column.{Column}
 use Rattle.base_core.specs.declared.value.Row.{Row}
 use Rattle.base_core.specs.declared.value.Moment.{Moment}
 use Rattle.base_core.specs.declared.lack.Lack.{Lack}
+use Rattle.base_core.specs.declared.memory.NoMemory.{NoMemory}
 use Rattle.base_core.specs.declared.lack.Lack.TheVariants as lacks
 use Rattle.reader_core.specs.declared.statement.Statement.{Statement}
 use Rattle.reader_core.specs.declared.statement.Statement.TheVariants as statements
@@ -30,6 +31,12 @@ use Rattle.system_core.specs.Judging.{point_of, verdict_of, judged_at}
 -- the reply to a lack: a denial names what is missing, a refusal what does not fit, is full, or is busy
 abbrev pub lack_reply : Moment → Lack → Reply
 lack_reply at lack = if is_denial lack then replies.Denied at lack else replies.Refused at lack
+
+-- the reply to an allowed change that was asked at this moment: the moment that it made, or that memory
+-- was refused
+abbrev pub change_reply : Moment → Result Moment NoMemory → Reply
+change_reply at (Ok made) = replies.Done made
+change_reply at (Err _) = replies.Refused at lacks.NoMemory
 
 -- ---- answers that change nothing
 -- the columns that a query gives: those listed, or with no list all, in table order

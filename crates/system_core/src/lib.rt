@@ -11,7 +11,7 @@
 //! from 1, made moment m. Every entry was allowed at the journal before it.
 //!
 //! [`System::step`] is the one contract: it is a step of the machine from the world that the system
-//! stands for to the one after. A user's statement is judged at the journal, by the monitor's
+//! stands for to the one after. [`System::change`] is the same step of an allowed change, without a reply. A user's statement is judged at the journal, by the monitor's
 //! [`judge`](monitor_core::judge), and then by the checkpoints. What is allowed is carried out, and a change
 //! is entered; else the first lack is the answer, as a denial or a refusal, and the world stays. A lack
 //! bears the moment, or, of what was missing at a checkpoint, its point. Want of memory is a refusal too,

@@ -1,10 +1,11 @@
 //! Who speaks in a script's line.
 ghost use Rattle.std.specs.Prelude.{◌≡◌, ◌≤◌, IfOk, length};
-ghost use Rattle.std.specs.List.{list_all};
+ghost use Rattle.std.specs.List.{list_all, prefix_len};
+ghost use Rattle.base_core.specs.Words.{is_word_byte};
 ghost use Rattle.lexer_core.specs.Lexing.{is_blank};
 ghost use Rattle.script_core.specs.Script.{addressed, addressed_by};
 
-use base_core::{Name, User};
+use base_core::{User, Word};
 use lexer_core::{Code, MAX_LINE, MAX_NAME, byte_at, is_blank, word_len};
 
 fn is_blank_line(line: &[u8]) -> bool
@@ -15,7 +16,7 @@ fn is_blank_line(line: &[u8]) -> bool
 
 /// The user whose word of so many bytes stands at the front, and the place behind its colon.
 fn addressed_by(line: &[u8], n: usize) -> Result<(User, usize), (Code, usize)>
-    requires { n ≤ length line.now }
+    requires { n ≡ prefix_len is_word_byte line.now }
     ensures exact { result ≡ addressed_by n line.now }
     ensures within { IfOk result (λ found. (found.1 ≤ length line.now) × (found.1 ≤ 31)) }
 {
@@ -29,9 +30,9 @@ fn addressed_by(line: &[u8], n: usize) -> Result<(User, usize), (Code, usize)>
     if byte_at(line, n) != b':' {
         return expected;
     }
-    match Name::read(&line[..n]) {
-        Some(name) => Ok((User(name), n + 1)),
-        None => expected,
+    match Word::read(&line[..n]) {
+        Word::Name(name) => Ok((User(name), n + 1)),
+        Word::Keyword(_) => expected,
     }
 }
 

@@ -1,17 +1,20 @@
 //! What is said of a line, and what is written for it.
-ghost use Rattle.std.specs.Prelude.{◌≡◌, false, true, OnOk, OnErr, MatchResult};
+ghost use Rattle.std.specs.Prelude.{◌≡◌, false, true, Ok, OnOk, OnErr, MatchResult};
 ghost use Rattle.base_core.specs.Streams.{Writes, WritesFrontOf};
+ghost use Rattle.monitor_core.specs.Verdict.{is_change};
+ghost use Rattle.system_core.specs.Journal.{verdict_at};
+ghost use Rattle.system_core.specs.Step.{change_reply};
 ghost use Rattle.script_core.specs.Script.{Answers, is_refused};
 ghost use Rattle.script_core.specs.Saying.{TellsAsked, TellsSaid, TellsThen};
 
 use crate::scripts::address::addressed;
-use base_core::{Broken, Sink, User};
+use base_core::{Broken, Moment, NoMemory, Sink};
 use export_core::NoGate;
 use lexer_core::{Code, ReadFault, Token};
-use reader_core::{Statement, read_with};
-use reply_core::{ReplyBuffer, write_fault, write_reply, write_unread};
+use reader_core::read_with;
+use reply_core::{ReplyBuffer, write_done, write_fault, write_reply, write_unread};
 use std::alloc::Global;
-use system_core::{Event, Reply, System};
+use system_core::{Entry, Event, Reply, System};
 
 /// What is said of a line.
 #[derive(Drop)]
@@ -81,39 +84,188 @@ fn tell<W: Sink>(
     write_reply(alloc, buffer, given_up, writer, &NoGate)
 }
 
-/// Asks a statement of the user, lets the checkpointer do a step, and writes what is said.
-fn ask<W: Sink>(
+/// Tells that a line has this fault.
+// This and the next three by themselves, so that no change pays for the room of what is said.
+#[inline(never)]
+fn tell_fault<W: Sink>(
     alloc: Global,
     buffer: &mut ReplyBuffer,
     system: &mut System,
     writer: &mut W,
-    user: User,
-    statement: Statement,
+    code: Code,
+    offset: usize,
 ) -> Result<(), Broken>
     requires { W.failed writer.old ≡ false }
     ensures failed { MatchResult result (λ _. W.failed writer.new ≡ false)
         (λ _. W.failed writer.new ≡ true) }
     ensures ok { OnOk result
-        (Writes (TellsAsked user statement system.old system.new)
+        (Writes (TellsThen (Said.Fault code offset) system.old system.new)
         (W.taken writer.old) (W.taken writer.new)) }
     ensures err { OnErr result
-        (WritesFrontOf (TellsAsked user statement system.old system.new)
+        (WritesFrontOf (TellsThen (Said.Fault code offset) system.old system.new)
         (W.taken writer.old) (W.taken writer.new)) }
 {
-    let reply = system.step(Event::Say {
-        pass: 0,
-        user,
-        statement,
-    });
-    // Where none is active the step does nothing, and nothing is to be said of it.
+    tell(alloc, buffer, system, writer, Said::Fault { code, offset })
+}
+
+/// Tells that a line was not read.
+#[inline(never)]
+fn tell_unread<W: Sink>(
+    alloc: Global,
+    buffer: &mut ReplyBuffer,
+    system: &mut System,
+    writer: &mut W,
+) -> Result<(), Broken>
+    requires { W.failed writer.old ≡ false }
+    ensures failed { MatchResult result (λ _. W.failed writer.new ≡ false)
+        (λ _. W.failed writer.new ≡ true) }
+    ensures ok { OnOk result
+        (Writes (TellsThen Said.Unread system.old system.new)
+        (W.taken writer.old) (W.taken writer.new)) }
+    ensures err { OnErr result
+        (WritesFrontOf (TellsThen Said.Unread system.old system.new)
+        (W.taken writer.old) (W.taken writer.new)) }
+{
+    tell(alloc, buffer, system, writer, Said::Unread)
+}
+
+/// Tells the reply. Where no checkpoint is active the checkpointer's step does nothing, and is left
+/// out.
+fn tell_reply<W: Sink>(
+    alloc: Global,
+    buffer: &mut ReplyBuffer,
+    system: &mut System,
+    writer: &mut W,
+    reply: Reply,
+) -> Result<(), Broken>
+    requires { W.failed writer.old ≡ false }
+    ensures failed { MatchResult result (λ _. W.failed writer.new ≡ false)
+        (λ _. W.failed writer.new ≡ true) }
+    ensures ok { OnOk result
+        (Writes (TellsThen (Said.Answer reply) system.old system.new)
+        (W.taken writer.old) (W.taken writer.new)) }
+    ensures err { OnErr result
+        (WritesFrontOf (TellsThen (Said.Answer reply) system.old system.new)
+        (W.taken writer.old) (W.taken writer.new)) }
+{
     if system.is_idle() {
         return write_reply(alloc, buffer, reply, writer, &NoGate);
     }
     tell(alloc, buffer, system, writer, Said::Answer(reply))
 }
 
+/// Tells what an allowed change that was asked at this moment came to.
+#[inline(never)]
+fn tell_change<W: Sink>(
+    alloc: Global,
+    buffer: &mut ReplyBuffer,
+    system: &mut System,
+    writer: &mut W,
+    at: Moment,
+    made: Result<Moment, NoMemory>,
+) -> Result<(), Broken>
+    requires { W.failed writer.old ≡ false }
+    ensures failed { MatchResult result (λ _. W.failed writer.new ≡ false)
+        (λ _. W.failed writer.new ≡ true) }
+    ensures ok { OnOk result
+        (Writes (TellsThen (Said.Answer (change_reply at made)) system.old system.new)
+        (W.taken writer.old) (W.taken writer.new)) }
+    ensures err { OnErr result
+        (WritesFrontOf (TellsThen (Said.Answer (change_reply at made)) system.old system.new)
+        (W.taken writer.old) (W.taken writer.new)) }
+{
+    tell_reply(alloc, buffer, system, writer, Reply::to_change(at, made))
+}
+
+/// Asks an allowed change, and tells what it came to.
+fn ask_change<W: Sink>(
+    alloc: Global,
+    buffer: &mut ReplyBuffer,
+    system: &mut System,
+    writer: &mut W,
+    entry: Entry,
+) -> Result<(), Broken>
+    requires writes { W.failed writer.old ≡ false }
+    requires allowed { let now = system.old in
+        verdict_at now.limits now.journal entry.user entry.statement ≡ Ok tt }
+    requires change { is_change entry.statement ≡ true }
+    ensures failed { MatchResult result (λ _. W.failed writer.new ≡ false)
+        (λ _. W.failed writer.new ≡ true) }
+    ensures ok { OnOk result
+        (Writes (TellsAsked entry system.old system.new)
+        (W.taken writer.old) (W.taken writer.new)) }
+    ensures err { OnErr result
+        (WritesFrontOf (TellsAsked entry system.old system.new)
+        (W.taken writer.old) (W.taken writer.new)) }
+{
+    let at = system.moment();
+    let made = system.change(entry);
+    if !system.is_idle() {
+        return tell_change(alloc, buffer, system, writer, at, made);
+    }
+    match made {
+        Ok(made) => write_done(buffer, made, writer),
+        Err(NoMemory) => tell_change(alloc, buffer, system, writer, at, Err(NoMemory)),
+    }
+}
+
+/// Asks any statement, and tells the reply.
+#[inline(never)]
+fn ask_any<W: Sink>(
+    alloc: Global,
+    buffer: &mut ReplyBuffer,
+    system: &mut System,
+    writer: &mut W,
+    entry: Entry,
+) -> Result<(), Broken>
+    requires { W.failed writer.old ≡ false }
+    ensures failed { MatchResult result (λ _. W.failed writer.new ≡ false)
+        (λ _. W.failed writer.new ≡ true) }
+    ensures ok { OnOk result
+        (Writes (TellsAsked entry system.old system.new)
+        (W.taken writer.old) (W.taken writer.new)) }
+    ensures err { OnErr result
+        (WritesFrontOf (TellsAsked entry system.old system.new)
+        (W.taken writer.old) (W.taken writer.new)) }
+{
+    let Entry {
+        pass,
+        user,
+        statement,
+    } = entry;
+    let reply = system.step(Event::Say {
+        pass,
+        user,
+        statement,
+    });
+    tell_reply(alloc, buffer, system, writer, reply)
+}
+
+/// Asks what a user says, lets the checkpointer do a step, and writes what is said.
+fn ask<W: Sink>(
+    alloc: Global,
+    buffer: &mut ReplyBuffer,
+    system: &mut System,
+    writer: &mut W,
+    entry: Entry,
+) -> Result<(), Broken>
+    requires { W.failed writer.old ≡ false }
+    ensures failed { MatchResult result (λ _. W.failed writer.new ≡ false)
+        (λ _. W.failed writer.new ≡ true) }
+    ensures ok { OnOk result
+        (Writes (TellsAsked entry system.old system.new)
+        (W.taken writer.old) (W.taken writer.new)) }
+    ensures err { OnErr result
+        (WritesFrontOf (TellsAsked entry system.old system.new)
+        (W.taken writer.old) (W.taken writer.new)) }
+{
+    if system.may_change(&entry) {
+        return ask_change(alloc, buffer, system, writer, entry);
+    }
+    ask_any(alloc, buffer, system, writer, entry)
+}
+
 /// Reads a line, asks what it says, lets the checkpointer do a step, and writes what is said.
-// Each case writes what it comes to by itself: a reply is large to hand on.
 pub fn answer<W: Sink>(
     alloc: Global,
     tokens: &mut Vec<Token>,
@@ -135,15 +287,22 @@ pub fn answer<W: Sink>(
     let (user, start) = match addressed(line) {
         Ok(address) => address,
         Err((code, offset)) => {
-            return tell(alloc, buffer, system, writer, Said::Fault { code, offset });
+            return tell_fault(alloc, buffer, system, writer, code, offset);
         }
     };
     match read_with(alloc, tokens, &line[start..]) {
-        Ok(statement) => ask(alloc, buffer, system, writer, user, statement),
+        Ok(statement) => {
+            let entry = Entry {
+                pass: 0,
+                user,
+                statement,
+            };
+            ask(alloc, buffer, system, writer, entry)
+        }
         Err(ReadFault::At { code, offset }) => {
             let offset = start + offset;
-            tell(alloc, buffer, system, writer, Said::Fault { code, offset })
+            tell_fault(alloc, buffer, system, writer, code, offset)
         }
-        Err(ReadFault::NoMemory) => tell(alloc, buffer, system, writer, Said::Unread),
+        Err(ReadFault::NoMemory) => tell_unread(alloc, buffer, system, writer),
     }
 }

@@ -94,24 +94,24 @@ pub fn carry_out(
     tables: &mut Tables,
     rights: &mut Graph,
     moment: Moment,
-    user: User,
+    user: &User,
     statement: &Statement,
 ) -> Result<(), NoMemory>
-    requires can { CanCarry tables.old.tables rights.old moment.0 user statement.now }
+    requires can { CanCarry tables.old.tables rights.old moment.0 user.now statement.now }
     requires early { moment.0 < 2 ^ 63 }
     ensures tables { OnOk result
-        (tables.new.tables ≡ tables_after tables.old.tables user statement.now) }
+        (tables.new.tables ≡ tables_after tables.old.tables user.now statement.now) }
     ensures rights { OnOk result (rights.new
-        ≡ rights_after rights.old moment.0 (change_of tables.old.tables user statement.now)) }
+        ≡ rights_after rights.old moment.0 (change_of tables.old.tables user.now statement.now)) }
     ensures narrow { OnOk result (HasFewColumns statement.now) }
     ensures few { OnOk result (rights.new.made ≤ rights.old.made + most_grants) }
     ensures same { OnErr result (tables.new ≡ tables.old) }
     ensures leaves { OnErr result
-        (MayLeave rights.old (change_of tables.old.tables user statement.now) rights.new) }
+        (MayLeave rights.old (change_of tables.old.tables user.now statement.now) rights.new) }
 {
     match statement {
         Statement::CreateTable { table, columns } => {
-            create(alloc, tables, rights, &user, table, columns)
+            create(alloc, tables, rights, user, table, columns)
         }
         Statement::Insert { table, values } => {
             let values = values.values().try_twin()?;
@@ -133,7 +133,7 @@ pub fn carry_out(
             option,
         } => {
             grant(
-                alloc, tables, rights, moment, user, privileges, *table, users, *option,
+                alloc, tables, rights, moment, *user, privileges, *table, users, *option,
             )
         }
         Statement::Revoke {
@@ -145,7 +145,7 @@ pub fn carry_out(
                 alloc,
                 tables,
                 rights,
-                user,
+                *user,
                 privileges,
                 *table,
                 users.as_slice(),

@@ -1,6 +1,8 @@
 //! Events, replies, and the entries of the journal.
+ghost use Rattle.std.specs.Prelude.{◌≡◌};
+ghost use Rattle.system_core.specs.Step.{change_reply};
 
-use base_core::{Lack, Moment, Row, Sequence, User};
+use base_core::{Lack, Moment, NoMemory, Row, Sequence, User};
 use export_core::Ticket;
 use reader_core::Statement;
 
@@ -91,4 +93,20 @@ pub enum Reply {
     Abandoned {
         number: u64,
     },
+}
+
+impl Reply {
+    /// The reply to an allowed change that was asked at this moment, by what
+    /// [`System::change`](crate::System::change) says of it.
+    pub fn to_change(at: Moment, made: Result<Moment, NoMemory>) -> Reply
+        ensures { result ≡ change_reply at made }
+    {
+        match made {
+            Ok(made) => Reply::Done { at: made },
+            Err(NoMemory) => Reply::Refused {
+                at,
+                lack: Lack::NoMemory,
+            },
+        }
+    }
 }

@@ -15,7 +15,7 @@ use crate::machine::event::Entry;
 use base_core::{Column, Condition, Distinct, Lack, Limits, Moment, Name, NoMemory, Row, User};
 use grants_core::{Authority, Change, audit};
 use graph_core::Graph;
-use monitor_core::{Allowed, columns_of, judge};
+use monitor_core::{Allowed, allows, columns_of, judge};
 use reader_core::{MAX_ITEMS, Statement};
 use std::alloc::{AllocError, Global};
 use std::marker::Model;
@@ -164,18 +164,17 @@ impl Ledger {
         judge(tables, rights, &self.limits, user, statement, moment)
     }
 
-    /// What the verdict allows, without the lack, which is large to hand on.
+    /// What the verdict allows, without the lack.
     #[inline(never)]
-    pub fn allowed(&self, user: User, statement: &Statement) -> Option<Allowed>
+    pub fn allowed(&self, user: &User, statement: &Statement) -> Option<Allowed>
         ensures { result
             ≡ result_ok
             (allowed_by
-            (verdict_at self.now.limits self.now.journal user statement.now) statement.now) }
+            (verdict_at self.now.limits self.now.journal user.now statement.now) statement.now) }
     {
-        match self.judged(user, statement) {
-            Ok(allowed) => Some(allowed),
-            Err(_) => None,
-        }
+        let moment = Moment(count(&self.journal));
+        let (tables, rights) = (&self.tables, &self.rights);
+        allows(tables, rights, &self.limits, user, statement, moment)
     }
 
     /// Carries out an allowed change, and enters it. `NoMemory` where a request for memory was refused:
@@ -195,7 +194,7 @@ impl Ledger {
             &mut self.tables,
             &mut self.rights,
             Moment(moment),
-            entry.user,
+            &entry.user,
             &entry.statement,
         )?;
         self.journal.push_reserved(entry);

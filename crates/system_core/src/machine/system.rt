@@ -1,5 +1,5 @@
 //! The core: one event after another, each a step of the machine.
-ghost use Rattle.std.specs.Prelude.{ℕ, ◌≡◌, ◌<◌, ◌≤◌, ◌++◌, ◌∷◌, [], true, false, not, length, Ok, Some, IsSome, is_some, IfOk, MatchResult};
+ghost use Rattle.std.specs.Prelude.{ℕ, ◌≡◌, ◌↔◌, ◌<◌, ◌≤◌, ◌++◌, ◌∷◌, [], true, false, not, length, Ok, Some, IsSome, IsTrue, is_some, IfOk, MatchResult};
 ghost use Rattle.base_core.specs.Full.{IsFull};
 ghost use Rattle.grants_core.specs.History.{in_force_after};
 ghost use Rattle.monitor_core.specs.Verdict.{first_lack, is_change};
@@ -8,7 +8,7 @@ ghost use Rattle.reader_core.specs.declared.statement.Statement.TheVariants as s
 ghost use Rattle.system_core.specs.Journal.{verdict_at, contents, changes};
 ghost use Rattle.system_core.specs.World.{opening, entry, moment_of, IsLawfulWorld};
 ghost use Rattle.system_core.specs.Judging.{checkpoint_checks, verdict_of};
-ghost use Rattle.system_core.specs.Step.{lack_reply, CarriesOut, Responds, Advances, GivesUp, Step, Run, IsRunOfSome};
+ghost use Rattle.system_core.specs.Step.{change_reply, lack_reply, CarriesOut, Responds, Advances, GivesUp, Step, Run, IsRunOfSome};
 
 use crate::machine::checkpoints::{judged_at, listed, may_export};
 use crate::machine::event::{Entry, Event, Reply};
@@ -18,6 +18,7 @@ use capture_core::{Capture, Progress};
 use catalogue_core::Catalogue;
 use export_core::Ticket;
 use grants_core::Change;
+use monitor_core::is_change;
 use reader_core::{MAX_ITEMS, Statement};
 use std::alloc::{AllocError, Global};
 use std::marker::Model;
@@ -124,19 +125,31 @@ impl System {
         self.ledger.audit()
     }
 
-    /// Carries out an allowed change.
-    fn change(&mut self, entry: Entry) -> Reply
+    /// Whether what a user says is an allowed change, which [`change`](System::change) carries out. Else
+    /// [`step`](System::step) names what is missing, or answers what is no change.
+    pub fn may_change(&self, entry: &Entry) -> bool
+        ensures { let asked = entry.now.statement in
+            IsTrue result
+            ↔ ((verdict_at self.now.limits self.now.journal entry.now.user asked ≡ Ok tt)
+            × (is_change asked ≡ true)) }
+    {
+        let asked = &entry.statement;
+        is_change(asked) && self.ledger.allowed(&entry.user, asked).is_some()
+    }
+
+    /// Carries out an allowed change, as [`step`](System::step) does, and says the moment that it made in
+    /// place of the reply, which is large to hand on; [`Reply::to_change`] makes it of that. `NoMemory` where
+    /// a request for memory was refused: then nothing has changed.
+    pub fn change(&mut self, entry: Entry) -> Result<Moment, NoMemory>
         requires allowed { verdict_at self.old.limits self.old.journal entry.user entry.statement
             ≡ Ok tt }
         requires change { is_change entry.statement ≡ true }
-        ensures { CarriesOut self.old entry result self.new }
+        ensures { CarriesOut self.old entry (change_reply (moment_of self.old) result) self.new }
     {
         let at = self.ledger.moment();
         match self.ledger.change(entry) {
-            Ok(()) => Reply::Done {
-                at: Moment(at.0 + 1),
-            },
-            Err(NoMemory) => no_memory(at),
+            Ok(()) => Ok(Moment(at.0 + 1)),
+            Err(NoMemory) => Err(NoMemory),
         }
     }
 
@@ -255,10 +268,11 @@ impl System {
         ensures { Responds self.old entry
             (verdict_of self.old entry.user entry.statement) result self.new }
     {
-        match self.ledger.allowed(entry.user, &entry.statement) {
+        match self.ledger.allowed(&entry.user, &entry.statement) {
             Some(allowed) => {
                 if allowed.change {
-                    self.change(entry)
+                    let at = self.moment();
+                    Reply::to_change(at, self.change(entry))
                 } else {
                     self.look(&entry)
                 }

@@ -1,13 +1,13 @@
-use Rattle.std.proofs.Common.{◌≡◌, ℕ, true, Ok, Err, refl, sym, ap, subst, ◌∙◌}
+use Rattle.std.proofs.Common.{◌≡◌, ℕ, Ok, Err, refl, sym, ap, subst, ◌∙◌}
 use Rattle.base_core.specs.declared.value.Moment.{Moment}
-use Rattle.monitor_core.specs.Verdict.{Check, first_lack, is_change}
-use Rattle.monitor_core.proofs.Allowing.{passed-allowed, change-allowed, lack-allowed}
+use Rattle.monitor_core.specs.Verdict.{Check}
+use Rattle.monitor_core.proofs.Allowing.{passed-allowed, lack-allowed}
 use Rattle.system_core.specs.Journal.{verdict_at}
 use Rattle.system_core.specs.World.{World}
 use Rattle.system_core.specs.Judging.{checkpoint_checks, verdict_of, judged_at}
 use Rattle.system_core.specs.Step.{lack_reply, Responds}
 use Rattle.system_core.specs.Standing.{world_of}
-use Rattle.system_core.proofs.Judged.{passed-first, failed-first, no_more_checks, judged-now}
+use Rattle.system_core.proofs.Judged.{failed-first, judged-now}
 use Rattle.system_core.proofs.machine.system.System.refuse.Goals as goal
 
 pub returns : goal.returns

@@ -1,13 +1,13 @@
 use Rattle.std.proofs.Common.{◌≡◌, true, Ok, sym, ap, subst, ◌∙◌}
 use Rattle.base_core.specs.declared.value.Moment.{Moment}
-use Rattle.monitor_core.specs.Verdict.{Check, first_lack, is_change}
-use Rattle.system_core.proofs.Passed.{change-some, none-passed, passed-some}
+use Rattle.monitor_core.specs.Verdict.{Check, is_change}
+use Rattle.monitor_core.proofs.Allowing.{change-some, none-passed, passed-some}
 use Rattle.system_core.specs.Journal.{verdict_at}
-use Rattle.system_core.specs.World.{World}
-use Rattle.system_core.specs.Judging.{checkpoint_checks, verdict_of, judged_at}
-use Rattle.system_core.specs.Step.{lack_reply, Responds}
-use Rattle.system_core.specs.Standing.{world_of}
-use Rattle.system_core.proofs.Judged.{passed-first, failed-first, no_more_checks, judged-now}
+use Rattle.system_core.specs.World.{World, moment_of}
+use Rattle.system_core.specs.declared.machine.event.Reply.{Reply}
+use Rattle.system_core.specs.Judging.{checkpoint_checks}
+use Rattle.system_core.specs.Step.{change_reply, CarriesOut, Responds}
+use Rattle.system_core.proofs.Judged.{passed-first, change-responds}
 use Rattle.system_core.proofs.machine.system.System.say.Goals as goal
 
 pub returns-then-allowed : goal.returns-then-allowed
@@ -16,11 +16,9 @@ returns-then-allowed c =
     let here : verdict_at c.args.self.now.limits c.args.self.now.journal c.args.entry.user c.args.entry.statement ≡ Ok tt =
     subst (λ (v : World). verdict_at v.limits v.journal c.args.entry.user c.args.entry.statement ≡ Ok tt) c.self.view_is passes in
     let change : is_change c.args.entry.statement ≡ true = sym (change-some _ c.args.entry.statement c.in-Some.allowed (sym c.allowed.ensures ∙ c.in-Some.is)) ∙ c.if-allowed.true in
-    let passed : verdict_of c.args.self.now c.args.entry.user c.args.entry.statement ≡ Ok tt =
-    passed-first (verdict_at c.args.self.now.limits c.args.self.now.journal c.args.entry.user c.args.entry.statement) (checkpoint_checks c.args.self.now c.args.entry.user c.args.entry.statement) here
-    ∙ ap first_lack (no_more_checks c.args.self.now c.args.entry.user c.args.entry.statement change) in
-    let By : Check → Type 0 = λ check. Responds c.args.self.now c.args.entry check c.change.result c.change.new.self in
-    subst By (sym passed) c.change.ensures
+    let told : c.to_change.result ≡ change_reply (moment_of c.args.self.now) c.change.result = c.to_change.ensures ∙ ap (λ (m : Moment). change_reply m c.change.result) c.moment-at.ensures in
+    let By : Reply → Type 0 = λ reply. CarriesOut c.args.self.now c.args.entry reply c.change.new.self in
+    change-responds c.args.self.now c.change.new.self c.args.entry c.to_change.result here change (subst By (sym told) c.change.ensures)
 
 pub returns-else-allowed : goal.returns-else-allowed
 returns-else-allowed c =
