@@ -85,7 +85,7 @@ fn tell<W: Sink>(
 }
 
 /// Tells that a line has this fault.
-// This and the next three by themselves, so that no change pays for the room of what is said.
+// What is no change stands out of line, here and below, so that no change pays for its room.
 #[inline(never)]
 fn tell_fault<W: Sink>(
     alloc: Global,
