@@ -35,9 +35,13 @@ impl ValuesBuilder {
     }
 
     /// No values, and room for so many. `NoMemory` where a request for memory was refused.
+    #[inline]
     pub fn with_capacity(alloc: Global, capacity: usize) -> Result<ValuesBuilder, NoMemory>
         ensures { IfOk result (λ builder. builder ≡ []) }
     {
+        if capacity <= INSIDE {
+            return Ok(ValuesBuilder::new(alloc));
+        }
         let items = SmallVec::with_capacity(alloc, capacity)?;
         Ok(ValuesBuilder { items })
     }
@@ -54,7 +58,7 @@ impl ValuesBuilder {
     }
 
     /// Puts a value behind the others. `NoMemory` where a request for memory was refused.
-    #[inline]
+    #[inline(always)]
     pub fn push(&mut self, value: Value) -> Result<(), NoMemory>
         ensures ok { OnOk result (self.new ≡ self.old ++ value ∷ []) }
         ensures no_memory { OnErr result (self.new ≡ self.old) }

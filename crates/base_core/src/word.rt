@@ -52,6 +52,7 @@ pub fn is_word(word: &[u8]) -> bool
 impl Word {
     /// The keyword or the name that a word of at most 30 bytes spells, in any case. It takes no
     /// memory, and the word is compared with one keyword at most.
+    #[inline(always)]
     pub fn read(word: &[u8]) -> Word
         requires word { is_word word.now ≡ true }
         requires short { length word.now ≤ 30 }

@@ -1,4 +1,5 @@
 //! The tables' owners.
+ghost use Rattle.std.specs.Option.{option_copied};
 ghost use Rattle.std.specs.Prelude.{◌≡◌, [], ◌∷◌, OnOk, OnErr};
 ghost use Rattle.grants_core.specs.Owners.{owner_of, owns, with_owner, with_granted};
 
@@ -78,10 +79,10 @@ impl Owners {
     }
 
     #[tactic(auto, using(crate::proofs::OwnedLemmas::owner_of_entries))]
-    fn owner_of(&self, table: Name) -> Option<User>
-        ensures { result ≡ owner_of self.now table }
+    fn owner_of(&self, table: &Name) -> Option<&User>
+        ensures { option_copied result ≡ owner_of self.now table.now }
     {
-        Some(self.tables.get(&table)?.owner)
+        Some(&self.tables.get(table)?.owner)
     }
 
     /// Whether the user owns the atom's table. Nobody owns one that has no owner.
@@ -89,8 +90,8 @@ impl Owners {
     pub fn owns(&self, user: &User, atom: &Atom) -> bool
         ensures { result ≡ owns self.now user.now atom.now }
     {
-        match self.owner_of(atom.table) {
-            Some(owner) => owner == *user,
+        match self.owner_of(&atom.table) {
+            Some(owner) => *owner == *user,
             None => false,
         }
     }

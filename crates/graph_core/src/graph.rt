@@ -68,6 +68,7 @@ impl Authority for Graph {
         revoke(&self.owners, &mut self.edges, &by, atoms, whom);
     }
 
+    #[inline(always)]
     fn holds(&self, user: User, atom: &Atom) -> bool {
         self.owners.owns(&user, atom) || self.edges.any_gives(&user, atom)
     }

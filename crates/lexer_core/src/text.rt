@@ -158,6 +158,7 @@ fn with_quotes_once(alloc: Global, quoted: &[u8]) -> Result<Text, AllocError>
 /// What a quoted text says: its characters, a doubled quote once. The bytes are those of a token
 /// of kind `Text`, with its quotes. Takes memory for a long text, and for a while where quotes are
 /// doubled.
+#[inline(always)]
 pub fn unquoted(alloc: Global, quoted: &[u8]) -> Result<Text, AllocError>
     requires text { IsSomeText quoted.now }
     requires short { length quoted.now ≤ 4096 }

@@ -75,6 +75,7 @@ impl ReplyBuffer {
     }
 
     /// Appends a number in plain decimal, of at most 20 digits.
+    #[inline(always)]
     pub(crate) fn push_number(&mut self, number: u64)
         requires { length self.old + 20 ≤ REPLY_BYTES }
         ensures text { self.new ≡ self.old ++ decimal number }

@@ -238,6 +238,8 @@ impl Tables {
     /// their places and numbers. The table must be there, and the assignments must fit its columns,
     /// as [`takes_assignments`](Tables::takes_assignments) tells. `NoMemory` where a request for
     /// memory was refused: then no row has changed.
+    // What goes over all rows stands out of line, here and below, so that no INSERT pays for its room.
+    #[inline(never)]
     pub fn update(
         &mut self,
         name: Name,
@@ -259,6 +261,7 @@ impl Tables {
 
     /// Drops the rows that the filter chooses; the others keep their order and numbers. Where there
     /// is no such table, nothing changes.
+    #[inline(never)]
     pub fn delete(&mut self, name: Name, filter: &[Condition])
         ensures { self.new.tables
             ≡ with_change name (without_chosen_rows filter.now) self.old.tables }

@@ -243,6 +243,7 @@ impl Reader<'_> {
     }
 
     /// The value of the literal that comes next, which stays where it is.
+    #[inline(always)]
     pub fn value(&self, alloc: Global) -> Result<Value, ReadFault>
         requires { next_is AnyLiteral self.now ≡ true }
         ensures ok { IfOk result (λ v. next_lexeme self.now ≡ Some (value_lexeme v)) }
