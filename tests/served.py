@@ -1,4 +1,4 @@
-"""`sysr serve`, spoken to over loopback: sessions, misuse by clients, and what it says at its end."""
+"""`sysr serve`, spoken to over loopback: sessions, checkpoints, misuse by clients, and what it says at its end."""
 import re
 import socket
 import struct
@@ -16,125 +16,273 @@ def free_port():
 
 
 class Server:
-    """A server for so many sessions, which listens."""
+    """A server for so many sessions, which listens: at a free port, where none is given."""
 
-    def __init__(self, program, sessions, workers=2):
-        self.port = free_port()
-        words = ["--port", str(self.port), "--workers", str(workers), "--sessions", str(sessions)]
+    running = []
+
+    def __init__(self, program, sessions, workers=2, port=None, chunk=None):
+        words = ["--workers", str(workers), "--sessions", str(sessions)]
+        words += ["--chunk", str(chunk)] if chunk else []
         pipes = {"stdout": subprocess.PIPE, "stderr": subprocess.PIPE}
-        self.child = subprocess.Popen([program, "serve", *words], **pipes)
-        self.listening = self.child.stdout.readline()
+        # (another process may take the port first)
+        for _ in range(50):
+            self.port = port or free_port()
+            self.child = subprocess.Popen([program, "serve", "--port", str(self.port), *words], **pipes)
+            self.listening = self.child.stdout.readline()
+            if self.listening:
+                break
+            self.said = self.child.communicate(timeout=WAIT)[1]
+            time.sleep(0.1)
+        self.running.append(self.child)
 
     def connect(self):
-        client = socket.create_connection(("127.0.0.1", self.port), timeout=WAIT)
-        return client
+        return socket.create_connection(("127.0.0.1", self.port), timeout=WAIT)
 
     def end(self):
         """Status, what it said at its end, and its lines of faults."""
         out, err = self.child.communicate(timeout=WAIT)
         return self.child.returncode, out, err.decode().splitlines()
 
+    @classmethod
+    def stop_all(cls):
+        """Ends the servers that still run."""
+        while cls.running:
+            child = cls.running.pop()
+            if child.poll() is None:
+                child.kill()
+                child.communicate(timeout=WAIT)
 
-def read_all(client):
-    parts = []
-    while part := client.recv(65536):
-        parts.append(part)
-    return b"".join(parts)
+
+class Session:
+    """A session of this user, who reads what he is answered before he asks more."""
+
+    def __init__(self, server, user):
+        self.client = server.connect()
+        self.reader = self.client.makefile("rb")
+        self.welcome = self.ask(f"USER {user}")
+
+    def send(self, text):
+        self.client.sendall(text.encode())
+
+    def line(self):
+        return self.reader.readline().decode()
+
+    def ask(self, line):
+        """The first line of the answer."""
+        self.send(line + "\n")
+        return self.line()
+
+    def listed(self):
+        """The lines of the list of checkpoints that is read next."""
+        return [self.line() for _ in range(int(self.line().split()[1]))]
+
+    def settled(self):
+        """The list of checkpoints when none is active any more, or the last that was seen."""
+        late = time.monotonic() + WAIT
+        while True:
+            self.send("CHECKPOINTS\n")
+            lines = self.listed()
+            if time.monotonic() > late or not any(line.startswith("active,") for line in lines):
+                return lines
+            time.sleep(0.005)
+
+    def export(self, number):
+        """The lines of an export, with its end if it has one."""
+        lines = [self.ask(f"EXPORT {number}")]
+        while lines[-1].startswith(("export ", "table,", "row,", "withheld,")):
+            lines.append(self.line())
+        return lines
+
+    def end(self):
+        """What is read after the last line was sent."""
+        self.client.shutdown(socket.SHUT_WR)
+        rest = self.reader.read().decode()
+        self.reader.close()
+        self.client.close()
+        return rest
+
+    def reset(self):
+        """Closes the connection at once, so that what is under way is lost."""
+        self.client.setsockopt(socket.SOL_SOCKET, socket.SO_LINGER, struct.pack("ii", 1, 0))
+        self.reader.close()
+        self.client.close()
+
+
+def send_all(client, lines):
+    try:
+        client.sendall(lines.encode())
+        client.shutdown(socket.SHUT_WR)
+    except OSError:
+        pass  # (the server ended the session, and what it wrote is read)
 
 
 def talk(server, lines):
-    """What is written in a session of these lines."""
-    with server.connect() as client:
-        client.sendall(lines.encode())
-        client.shutdown(socket.SHUT_WR)
-        return read_all(client).decode()
-
-
-def ask(client, line):
-    """The answer, of one line, to one line."""
-    client.sendall(line.encode() + b"\n")
-    answer = b""
-    while not answer.endswith(b"\n"):
-        answer += client.recv(65536)
-    return answer.decode()
+    """What is written in a session of these lines, which is read while they are sent."""
+    with server.connect() as client, client.makefile("rb") as reader:
+        sender = threading.Thread(target=send_all, args=(client, lines))
+        sender.start()
+        said = reader.read().decode()
+        sender.join()
+    return said
 
 
 def two_users(program, check):
     """Rights between users, and a checkpoint while both are connected."""
     server = Server(program, 2)
     check("listens", server.listening == f"listening on {server.port}\n".encode(), server.listening)
-    with server.connect() as ann, server.connect() as bob:
-        said = [ask(ann, line) for line in (
-            "USER ann", "CREATE TABLE pay (wage INTEGER)", "INSERT INTO pay VALUES (5)")]
-        said += [ask(bob, line) for line in ("USER bob", "DELETE FROM pay")]
-        said += [ask(ann, "GRANT SELECT, DELETE ON pay TO bob"), ask(ann, "CHECKPOINT")]
-        for _ in range(1000):
-            ann.sendall(b"CHECKPOINTS\n")
-            listed = ann.recv(65536).decode()
-            if "finished,1,3\n" in listed:
-                break
-            time.sleep(0.005)
-        said += [ask(bob, "DELETE FROM pay")]
-        bob.sendall(b"EXPORT 1\n")
-        export = ""
-        while not export.endswith("end 1\n"):
-            export += bob.recv(65536).decode()
-    wanted = ["welcome ann\n", "done @1\n", "done @2\n", "welcome bob\n",
-        "denied @2: bob lacks DELETE on pay\n", "done @3\n", "checkpoint 1 begun @3\n", "done @4\n"]
+    ann, bob = Session(server, "ann"), Session(server, "bob")
+    said = [ann.welcome, bob.welcome]
+    said += [ann.ask(line) for line in ("CREATE TABLE pay (wage INTEGER)", "INSERT INTO pay VALUES (5)")]
+    said += [bob.ask("DELETE FROM pay"), ann.ask("GRANT SELECT, DELETE ON pay TO bob"), ann.ask("CHECKPOINT")]
+    said += [*ann.settled(), bob.ask("DELETE FROM pay")]
+    export = bob.export(1)
+    said += [ann.end(), bob.end()]
+    wanted = ["welcome ann\n", "welcome bob\n", "done @1\n", "done @2\n", "denied @2: bob lacks DELETE on pay\n",
+        "done @3\n", "checkpoint 1 begun @3\n", "finished,1,3\n", "done @4\n", "", ""]
     check("two users", said == wanted, said)
-    told = "export 1 point 3 @4\ntable,pay,wage\nrow,5\nend 1\n"
+    told = ["export 1 point 3 @4\n", "table,pay,wage\n", "row,5\n", "end 1\n"]
     check("an export over TCP", export == told, export)
     ended = server.end()
     check("two users: the end", ended == (0, b"served 2\n", []), ended)
 
 
 def first_lines(program, check):
-    """What a first line is told that names no user, with more lines behind it."""
-    server = Server(program, 4, workers=1)
+    """What a first line is told that names no user, with more lines behind it, and one that names one."""
     refused = "error 4 at 0: not expected\n"
-    for lines, wanted in (
+    played = (
         ("bob\n" + 1000 * "CHECKPOINTS\n", refused),
         ("USER " + 5000 * "x" + "\n", "error 2 at 4096: too long\n"),
         ("", ""),
         ("USER bob\n" + 3 * "CHECKPOINTS\n", "welcome bob\n" + 3 * "checkpoints 0 @0\n"),
-    ):
+        ("bob", refused),
+        ("USER\tbob\nCHECKPOINTS\n", refused),
+        (" USER bob", refused),
+        ("USER table", refused),
+        ("USER bob x", refused),
+        ("user   Bob  \r\n?\n", "welcome bob\nerror 3 at 0: bad byte\n"),
+    )
+    server = Server(program, len(played), workers=1)
+    for lines, wanted in played:
         seen = talk(server, lines)
         check(f"a first line: {lines[:20]}", seen == wanted, seen)
     ended = server.end()
-    check("first lines: the end", ended == (0, b"served 4\n", []), ended)
+    check("first lines: the end", ended == (0, f"served {len(played)}\n".encode(), []), ended)
 
 
-def reset(client):
-    """Closes the connection at once, so that what is under way is lost."""
-    client.setsockopt(socket.SOL_SOCKET, socket.SO_LINGER, struct.pack("ii", 1, 0))
-    client.close()
+def wide_table(server):
+    """What is written last where a table is made whose rows are 128 MB: no buffers of a connection hold them."""
+    names = [f"c{n}" for n in range(32)]
+    lines = ["USER ann", f"CREATE TABLE t ({' TEXT, '.join(names)} TEXT)"]
+    lines += 4000 * [f"INSERT INTO t VALUES ({', '.join(32 * [chr(39) * 2])})"]
+    for at in range(0, 32, 3):
+        lines.append("UPDATE t SET " + ", ".join(f"{name} = '{1000 * 'x'}'" for name in names[at:at + 3]))
+    lines.append("GRANT SELECT ON t TO eve")
+    return talk(server, "\n".join(lines) + "\n")[-20:]
 
 
 def misuse(program, check):
-    """Clients that leave early, send a line without end, or never read harm their own sessions alone."""
-    server = Server(program, 5)
-    rows = "".join(f"INSERT INTO t VALUES ('{'x' * 1000}', {n})\n" for n in range(300))
-    seen = talk(server, "USER ann\nCREATE TABLE t (x TEXT, n INTEGER)\n" + rows + "GRANT SELECT ON t TO eve\n")
-    check("a table", seen.endswith("done @302\n"), seen[-40:])
-    eve = server.connect()
-    eve.sendall(b"USER eve\nSELECT * FR")
-    reset(eve)
-    deaf = server.connect()
-    deaf.sendall(b"USER eve\n" + 1000 * b"SELECT * FROM t\n")
+    """Clients that leave early, send a line without end, or stop reading harm their own sessions alone.
+
+    Three leave in the middle of a line, when nothing is written to them: their faults are of reading. One
+    leaves in the middle of an answer: its fault is of writing.
+    """
+    server = Server(program, 7)
+    seen = wide_table(server)
+    check("a table", seen.endswith("\ndone @4013\n"), seen)
+    for _ in range(3):
+        eve = Session(server, "eve")
+        eve.send("SELECT * FR")
+        eve.reset()
+    deaf = Session(server, "eve")
+    seen = deaf.ask("SELECT * FROM t")
+    check("an answer begins", seen == "rows 4000 @4013\n", seen)
     seen = talk(server, "USER bob\n" + 100_000_000 * "x" + "\nCHECKPOINTS\n")
-    wanted = "welcome bob\nerror 2 at 4096: too long\ncheckpoints 0 @302\n"
+    wanted = "welcome bob\nerror 2 at 4096: too long\ncheckpoints 0 @4013\n"
     check("a line of 100 MB", seen == wanted, seen[:200])
-    reset(deaf)
+    deaf.reset()
     seen = talk(server, "USER ann\nCHECKPOINTS\n")
-    check("a session beside them", seen == "welcome ann\ncheckpoints 0 @302\n", seen)
+    check("a session beside them", seen == "welcome ann\ncheckpoints 0 @4013\n", seen)
     status, out, faults = server.end()
-    good = all(re.fullmatch("session fault: (read|write)", fault) for fault in faults)
-    check("misuse: the end", (status, out) == (0, b"served 5\n") and good, (status, out, faults))
+    told = sorted(faults) == 3 * ["session fault: read"] + ["session fault: write"]
+    check("misuse: the end", (status, out) == (0, b"served 7\n") and told, (status, out, faults))
+
+
+def asked_by_clients(program, check):
+    """Nothing is done but what clients asked for, also behind sessions that end in the middle of a line.
+
+    So the moment is the number of changes that they saw done, and the next checkpoint's number is one more
+    than those that they saw begun.
+    """
+    server, done, begun = Server(program, 61, workers=4), 0, 0
+    for n in range(60):
+        session = Session(server, f"u{n % 7}")
+        lines = [f"CREATE TABLE t{n} (x INTEGER)", f"INSERT INTO t{n} VALUES (1)", f"DELETE FROM t{n // 2}"]
+        lines += [f"GRANT SELECT ON t{n} TO bob", "CHECKPOINT"][: n % 3]
+        said = [session.ask(line) for line in lines]
+        done += sum(answer.startswith("done @") for answer in said)
+        begun += sum(answer.endswith(f" begun @{done}\n") for answer in said)
+        if n % 2:
+            session.send("DELETE FROM t0")
+            session.reset()
+        else:
+            session.end()
+    last = Session(server, "bob")
+    last.settled()
+    seen = last.ask("CHECKPOINT")
+    wanted = f"checkpoint {begun + 1} begun @{done}\n"
+    check("what clients asked for", seen == wanted and done > 120 and begun > 5, (seen, wanted))
+    last.end()
+    ended = server.end()
+    check("what clients asked for: the end", ended == (0, b"served 61\n", 30 * ["session fault: read"]), ended)
+
+
+def large_checkpoints(program, check):
+    """Checkpoints that take 1,200, 5,000 and 30,000 steps are finished, though the sessions that began them ended
+    at once, and have all rows."""
+    sizes, rows = (1_200, 5_000, 30_000), 0
+    server = Server(program, 1 + 2 * len(sizes), chunk=1)
+    ann = Session(server, "ann")
+    ann.ask("CREATE TABLE t (x INTEGER)")
+    for number, size in enumerate(sizes, 1):
+        talk(server, "USER ann\n" + "".join(f"INSERT INTO t VALUES ({n})\n" for n in range(rows, size)))
+        rows, point = size, size + 1
+        seen = talk(server, "USER bob\nCHECKPOINT\n")
+        check(f"begun and left, {size} records", seen == f"welcome bob\ncheckpoint {number} begun @{point}\n", seen)
+        listed = ann.settled()
+        check(f"finished, {size} records", listed[-1:] == [f"finished,{number},{point}\n"], listed)
+        wanted = [f"export {number} point {point} @{point}\n", "table,t,x\n"]
+        wanted += [*(f"row,{n}\n" for n in range(size)), f"end {number}\n"]
+        export = ann.export(number)
+        check(f"exported, {size} records", export == wanted, (len(export), export[:3], export[-1:]))
+    ann.end()
+    ended = server.end()
+    check("large checkpoints: the end", ended == (0, b"served 7\n", []), ended)
+
+
+def chunk_is_kept(program, check):
+    """With a chunk of 61 what is left of 30,000 records is always 30,000 less some times 61.
+
+    When it is looked at is chance, and at the start nothing is taken off; another number is never right.
+    """
+    server, records, chunk = Server(program, 2, chunk=61), 30_000, 61
+    made = talk(server, "USER ann\nCREATE TABLE t (x INTEGER)\n" + records * "INSERT INTO t VALUES (1)\n")
+    ann, listed = Session(server, "ann"), []
+    for _ in range(20):
+        ann.send("CHECKPOINT\n" + 50 * "CHECKPOINTS\n")
+        ann.line()
+        listed += [line for _ in range(50) for line in ann.listed()]
+        listed += ann.settled()
+    lefts = {int(line.split(",")[3]) for line in listed if line.startswith("active,")}
+    good = made.endswith(f"\ndone @{records + 1}\n") and f"finished,20,{records + 1}\n" in listed
+    check("the chunk of a server", good and all((records - left) % chunk == 0 for left in lefts), lefts)
+    ann.end()
+    ended = server.end()
+    check("the chunk of a server: the end", ended == (0, b"served 2\n", []), ended)
 
 
 def many(program, check):
-    """Eight clients at once: each change is done once, in one order."""
-    server, answers = Server(program, 8, workers=4), [None] * 8
+    """Eight clients at once, by four workers: each is welcomed, and each change is done once, in one order."""
+    server, answers = Server(program, 8, workers=4), [""] * 8
 
     def client(n):
         lines = f"USER u{n}\nCREATE TABLE t{n} (x INTEGER)\n" + 200 * f"INSERT INTO t{n} VALUES (1)\n"
@@ -145,6 +293,8 @@ def many(program, check):
         thread.start()
     for thread in threads:
         thread.join()
+    welcome = [text.split("\n")[0] for text in answers]
+    check("each is welcomed", welcome == [f"welcome u{n}" for n in range(8)], welcome)
     moments = sorted(int(at) for text in answers for at in re.findall(r"done @(\d+)\n", text))
     check("each change once", moments == list(range(1, 8 * 201 + 1)), moments[:10])
     rise = all(found == sorted(found, key=int) for found in (re.findall(r"@(\d+)", text) for text in answers))
@@ -179,6 +329,29 @@ def taken_port(program, check):
     check("a port that is taken", seen == (1, b"", b"sysr: cannot listen\n"), seen)
 
 
+def greatest_numbers(program, check):
+    """The greatest port and the most workers and sessions are taken: sixteen clients are served at once."""
+    server = Server(program, 10_000, workers=16, port=65535)
+    if server.listening == b"" and server.said == b"sysr: cannot listen\n":
+        print("port 65535 is not free: the greatest numbers were not tried")
+        return
+    check("the greatest port", server.listening == b"listening on 65535\n", server.listening)
+    sessions = [Session(server, f"u{n}") for n in range(16)]
+    said = [session.welcome for session in sessions]
+    check("sixteen workers", said == [f"welcome u{n}\n" for n in range(16)], said)
+    for session in sessions:
+        session.end()
+
+
+TESTS = (two_users, first_lines, misuse, asked_by_clients, large_checkpoints, chunk_is_kept, many, chain, taken_port,
+    greatest_numbers)
+
+
 def played(program, check):
-    for test in (two_users, first_lines, misuse, many, taken_port):
-        test(program, check)
+    for test in TESTS:
+        try:
+            test(program, check)
+        except (OSError, LookupError, ValueError, subprocess.TimeoutExpired) as error:
+            check(f"{test.__name__}: an answer in time", False, error)
+        finally:
+            Server.stop_all()
