@@ -1,4 +1,5 @@
 """`sysr serve`, spoken to over loopback: sessions, checkpoints, misuse by clients, and what it says at its end."""
+import contextlib
 import re
 import socket
 import struct
@@ -72,19 +73,21 @@ class Session:
         self.send(line + "\n")
         return self.line()
 
-    def listed(self):
-        """The lines of the list of checkpoints that is read next."""
-        return [self.line() for _ in range(int(self.line().split()[1]))]
+    def lists(self, pause):
+        """The lines of each list of checkpoints, until none is active."""
+        late = time.monotonic() + WAIT
+        while True:
+            head = self.ask("CHECKPOINTS")
+            lines = [self.line() for _ in range(int(head.split()[1]))]
+            yield lines
+            if time.monotonic() > late or not any(line.startswith("active,") for line in lines):
+                return
+            time.sleep(pause)
 
     def settled(self):
         """The list of checkpoints when none is active any more, or the last that was seen."""
-        late = time.monotonic() + WAIT
-        while True:
-            self.send("CHECKPOINTS\n")
-            lines = self.listed()
-            if time.monotonic() > late or not any(line.startswith("active,") for line in lines):
-                return lines
-            time.sleep(0.005)
+        *_, last = self.lists(0.005)
+        return last
 
     def export(self, number):
         """The lines of an export, with its end if it has one."""
@@ -109,11 +112,10 @@ class Session:
 
 
 def send_all(client, lines):
-    try:
+    # (where the server ends the session first, what it wrote is read)
+    with contextlib.suppress(OSError):
         client.sendall(lines.encode())
         client.shutdown(socket.SHUT_WR)
-    except OSError:
-        pass  # (the server ended the session, and what it wrote is read)
 
 
 def talk(server, lines):
@@ -262,16 +264,14 @@ def large_checkpoints(program, check):
 def chunk_is_kept(program, check):
     """With a chunk of 61 what is left of 30,000 records is always 30,000 less some times 61.
 
-    When it is looked at is chance, and at the start nothing is taken off; another number is never right.
+    What is seen between two steps is chance, and may be none; another number is never right.
     """
     server, records, chunk = Server(program, 2, chunk=61), 30_000, 61
     made = talk(server, "USER ann\nCREATE TABLE t (x INTEGER)\n" + records * "INSERT INTO t VALUES (1)\n")
     ann, listed = Session(server, "ann"), []
     for _ in range(20):
-        ann.send("CHECKPOINT\n" + 50 * "CHECKPOINTS\n")
-        ann.line()
-        listed += [line for _ in range(50) for line in ann.listed()]
-        listed += ann.settled()
+        ann.ask("CHECKPOINT")
+        listed += [line for lines in ann.lists(0) for line in lines]
     lefts = {int(line.split(",")[3]) for line in listed if line.startswith("active,")}
     good = made.endswith(f"\ndone @{records + 1}\n") and f"finished,20,{records + 1}\n" in listed
     check("the chunk of a server", good and all((records - left) % chunk == 0 for left in lefts), lefts)
@@ -286,7 +286,8 @@ def many(program, check):
 
     def client(n):
         lines = f"USER u{n}\nCREATE TABLE t{n} (x INTEGER)\n" + 200 * f"INSERT INTO t{n} VALUES (1)\n"
-        answers[n] = talk(server, lines)
+        with contextlib.suppress(OSError):
+            answers[n] = talk(server, lines)
 
     threads = [threading.Thread(target=client, args=(n,)) for n in range(8)]
     for thread in threads:
@@ -306,11 +307,15 @@ def many(program, check):
 def chain(program, check):
     """As many grants as may be in force, each by the one before, fall in a worker's thread."""
     server = Server(program, 1026)
-    answers = [talk(server, "USER own\nCREATE TABLE t (x INTEGER)\n")]
+    own = Session(server, "own")
+    answers = [own.ask("CREATE TABLE t (x INTEGER)")]
+    own.end()
     names = ["own"] + [f"u{n}" for n in range(1024)]
     for by, to in zip(names, names[1:]):
-        answers.append(talk(server, f"USER {by}\nGRANT SELECT ON t TO {to} WITH GRANT OPTION\n"))
-    check("a chain stands", all("done @" in answer for answer in answers), answers[-3:])
+        session = Session(server, by)
+        answers.append(session.ask(f"GRANT SELECT ON t TO {to} WITH GRANT OPTION"))
+        session.end()
+    check("a chain stands", answers == [f"done @{m}\n" for m in range(1, 1026)], answers[-3:])
     seen = talk(server, "USER own\nREVOKE SELECT ON t FROM u0\nGRANT SELECT ON t TO u1\nREVOKE SELECT ON t FROM u1\n"
         "REVOKE SELECT ON t FROM u1\n")
     wanted = "welcome own\ndone @1026\ndone @1027\ndone @1028\ndenied @1028: own granted no SELECT on t to u1\n"
