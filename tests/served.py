@@ -188,7 +188,7 @@ def misuse(program, check):
     Three leave in the middle of a line, when nothing is written to them: their faults are of reading. One
     leaves in the middle of an answer: its fault is of writing.
     """
-    server = Server(program, 7)
+    server = Server(program, 8)
     seen = wide_table(server)
     check("a table", seen.endswith("\ndone @4013\n"), seen)
     for _ in range(3):
@@ -201,12 +201,15 @@ def misuse(program, check):
     seen = talk(server, "USER bob\n" + 100_000_000 * "x" + "\nCHECKPOINTS\n")
     wanted = "welcome bob\nerror 2 at 4096: too long\ncheckpoints 0 @4013\n"
     check("a line of 100 MB", seen == wanted, seen[:200])
+    seen = talk(server, "USER eve\nSELECT c31, c0 FROM t\n")
+    wanted = "welcome eve\nrows 4000 @4013\n" + 4000 * f"row,{1000 * 'x'},{1000 * 'x'}\n"
+    check("a reply of 8 MB", seen == wanted, (len(seen), seen[:100]))
     deaf.reset()
     seen = talk(server, "USER ann\nCHECKPOINTS\n")
     check("a session beside them", seen == "welcome ann\ncheckpoints 0 @4013\n", seen)
     status, out, faults = server.end()
     told = sorted(faults) == 3 * ["session fault: read"] + ["session fault: write"]
-    check("misuse: the end", (status, out) == (0, b"served 7\n") and told, (status, out, faults))
+    check("misuse: the end", (status, out) == (0, b"served 8\n") and told, (status, out, faults))
 
 
 def asked_by_clients(program, check):
@@ -261,23 +264,29 @@ def large_checkpoints(program, check):
     check("large checkpoints: the end", ended == (0, b"served 7\n", []), ended)
 
 
+def seen_left(server, rounds):
+    """What is told to be left of checkpoints of 30,000 records, each looked at until it is finished."""
+    made = talk(server, "USER ann\nCREATE TABLE t (x INTEGER)\n" + 30_000 * "INSERT INTO t VALUES (1)\n")
+    ann, listed = Session(server, "ann"), []
+    for _ in range(rounds):
+        ann.ask("CHECKPOINT")
+        listed += [line for lines in ann.lists(0) for line in lines]
+    ann.end()
+    is_whole = made.endswith("\ndone @30001\n") and f"finished,{rounds},30001\n" in listed
+    return is_whole, {int(line.split(",")[3]) for line in listed if line.startswith("active,")}
+
+
 def chunk_is_kept(program, check):
-    """With a chunk of 61 what is left of 30,000 records is always 30,000 less some times 61.
+    """What is left of a checkpoint is all its records less some times the chunk, which is 16 where none is given.
 
     What is seen between two steps is chance, and may be none; another number is never right.
     """
-    server, records, chunk = Server(program, 2, chunk=61), 30_000, 61
-    made = talk(server, "USER ann\nCREATE TABLE t (x INTEGER)\n" + records * "INSERT INTO t VALUES (1)\n")
-    ann, listed = Session(server, "ann"), []
-    for _ in range(20):
-        ann.ask("CHECKPOINT")
-        listed += [line for lines in ann.lists(0) for line in lines]
-    lefts = {int(line.split(",")[3]) for line in listed if line.startswith("active,")}
-    good = made.endswith(f"\ndone @{records + 1}\n") and f"finished,20,{records + 1}\n" in listed
-    check("the chunk of a server", good and all((records - left) % chunk == 0 for left in lefts), lefts)
-    ann.end()
-    ended = server.end()
-    check("the chunk of a server: the end", ended == (0, b"served 2\n", []), ended)
+    for given, chunk in ((61, 61), (None, 16)):
+        server = Server(program, 2, chunk=given)
+        is_whole, lefts = seen_left(server, 20)
+        check(f"chunk {given}", is_whole and all((30_000 - left) % chunk == 0 for left in lefts), sorted(lefts)[:20])
+        ended = server.end()
+        check(f"chunk {given}: the end", ended == (0, b"served 2\n", []), ended)
 
 
 def many(program, check):
