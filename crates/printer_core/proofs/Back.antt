@@ -23,7 +23,9 @@ use Rattle.lexer_core.specs.declared.token.Token as tokens
 use Rattle.lexer_core.proofs.Numbers.{sign_drop}
 use Rattle.lexer_core.proofs.Proper.{proper_lexed}
 use Rattle.reader_core.specs.declared.statement.Statement.{Statement}
-use Rattle.reader_core.specs.Language.{statement_says, IsWellFormed, SaysStatement, Spells}
+use Rattle.reader_core.specs.Saying.{statement_says}
+use Rattle.reader_core.specs.Forming.{IsWellFormed}
+use Rattle.reader_core.specs.Language.{SaysStatement, Spells}
 use Rattle.printer_core.specs.Printing.{spaced_text, gap, lexeme_text, is_opening, is_trailing, doubled, canonical, Sheet, Prints}
 use Rattle.printer_core.proofs.Doubled.{doubled_written}
 use Rattle.printer_core.proofs.Names.{name_word}

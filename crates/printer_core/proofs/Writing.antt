@@ -8,7 +8,7 @@ use Rattle.base_core.specs.declared.keyword.Keyword.TheVariants as keywords
 use Rattle.base_core.specs.declared.condition.Condition.{Condition}
 use Rattle.lexer_core.specs.Lexing as lexemes
 use Rattle.lexer_core.specs.Lexing.{Lexeme, IsProper}
-use Rattle.reader_core.specs.Language.{listed, condition_says, filter_says}
+use Rattle.reader_core.specs.Saying.{listed, condition_says, filter_says}
 use Rattle.printer_core.specs.Printing.{Sheet, Prints, spaced_text, tight_behind, gap, lexeme_text, is_opening}
 
 spaced-append : (t : Bool) (xs ys : List Lexeme) → spaced_text t (xs ++ ys) ≡ spaced_text t xs ++ spaced_text (tight_behind t xs) ys

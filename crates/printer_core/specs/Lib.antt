@@ -4,4 +4,7 @@ pub use Rattle.lexer_core.specs.Lexing
 pub use Rattle.reader_core.specs.Grammar
 pub use Rattle.reader_core.specs.Matches
 pub use Rattle.reader_core.specs.Privileges
+pub use Rattle.reader_core.specs.Sentences
+pub use Rattle.reader_core.specs.Saying
+pub use Rattle.reader_core.specs.Forming
 pub use Rattle.reader_core.specs.Language

@@ -6,7 +6,7 @@ use Rattle.base_core.specs.Words.{text_of}
 use Rattle.lexer_core.specs.Lexing.{Lexeme, Key, Named, Number, Text, Sign, mark_text, IsProper}
 use Rattle.lexer_core.specs.declared.token.Mark.TheVariants as marks
 use Rattle.reader_core.specs.declared.statement.Statement.{Statement}
-use Rattle.reader_core.specs.Language.{statement_says}
+use Rattle.reader_core.specs.Saying.{statement_says}
 
 -- each quote twice
 abbrev pub doubled : List ℕ → List ℕ

@@ -1,7 +1,8 @@
 //! Laws of printing, each the contract of an empty function.
 ghost use Rattle.std.specs.Prelude.{◌≤◌, ℕ, List, length};
 ghost use Rattle.reader_core.specs.declared.statement.Statement.{Statement};
-ghost use Rattle.reader_core.specs.Language.{Spells, IsWellFormed};
+ghost use Rattle.reader_core.specs.Forming.{IsWellFormed};
+ghost use Rattle.reader_core.specs.Language.{Spells};
 ghost use Rattle.printer_core.specs.Printing.{canonical, HoldsProper};
 
 /// The canonical text of a statement spells it, where it has at most 4,096 bytes, and where the

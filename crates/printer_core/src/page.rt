@@ -3,7 +3,7 @@ ghost use Rattle.std.specs.Prelude.{◌≡◌, ◌++◌, ◌∷◌, [], true, fa
 ghost use Rattle.base_core.specs.Words.{text_of};
 ghost use Rattle.lexer_core.specs.Text.{written};
 ghost use Rattle.lexer_core.specs.Lexing.{Key, Named, Number, Text as Quoted, Sign};
-ghost use Rattle.reader_core.specs.Language.{separator_lexeme, value_says};
+ghost use Rattle.reader_core.specs.Saying.{separator_lexeme, value_says};
 ghost use Rattle.printer_core.specs.Printing.{Sheet, Prints, doubled};
 
 use base_core::{Keyword, Name, NoMemory, Text, Value};

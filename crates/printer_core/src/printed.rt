@@ -5,7 +5,8 @@ ghost use Rattle.lexer_core.specs.Lexing as lexemes;
 ghost use Rattle.lexer_core.specs.Lexing.{Lexeme};
 ghost use Rattle.lexer_core.specs.declared.token.Mark.TheVariants as marks;
 ghost use Rattle.reader_core.specs.declared.separator.Separator.{Separator};
-ghost use Rattle.reader_core.specs.Language.{listed, separator_lexeme, names_say, columns_say, type_lexeme, comparison_mark, AreNamed, IsSelection};
+ghost use Rattle.reader_core.specs.Saying.{listed, separator_lexeme, names_say, columns_say, type_lexeme, comparison_mark};
+ghost use Rattle.reader_core.specs.Forming.{AreNamed, IsSelection};
 ghost use Rattle.printer_core.specs.Printing.{Prints};
 
 use crate::page::Page;
@@ -63,7 +64,7 @@ pub fn write_list<T: Printed>(page: &mut Page, items: &[T]) -> Result<(), NoMemo
 
 impl Printed for Name {
     ghost use Rattle.reader_core.specs.declared.separator.Separator.TheVariants as separators;
-    ghost use Rattle.reader_core.specs.Language.{name_says};
+    ghost use Rattle.reader_core.specs.Saying.{name_says};
 
     ghost SEPARATOR = { separators.Comma };
 
@@ -78,7 +79,7 @@ impl Printed for Name {
 
 impl Printed for User {
     ghost use Rattle.reader_core.specs.declared.separator.Separator.TheVariants as separators;
-    ghost use Rattle.reader_core.specs.Language.{user_says};
+    ghost use Rattle.reader_core.specs.Saying.{user_says};
 
     ghost SEPARATOR = { separators.Comma };
 
@@ -102,7 +103,7 @@ fn type_keyword(ty: ColType) -> Keyword
 
 impl Printed for Column {
     ghost use Rattle.reader_core.specs.declared.separator.Separator.TheVariants as separators;
-    ghost use Rattle.reader_core.specs.Language.{column_says};
+    ghost use Rattle.reader_core.specs.Saying.{column_says};
 
     ghost SEPARATOR = { separators.Comma };
 
@@ -119,7 +120,7 @@ impl Printed for Column {
 
 impl Printed for Value {
     ghost use Rattle.reader_core.specs.declared.separator.Separator.TheVariants as separators;
-    ghost use Rattle.reader_core.specs.Language.{value_says};
+    ghost use Rattle.reader_core.specs.Saying.{value_says};
 
     ghost SEPARATOR = { separators.Comma };
 
@@ -134,7 +135,7 @@ impl Printed for Value {
 
 impl Printed for Assignment {
     ghost use Rattle.reader_core.specs.declared.separator.Separator.TheVariants as separators;
-    ghost use Rattle.reader_core.specs.Language.{set_says};
+    ghost use Rattle.reader_core.specs.Saying.{set_says};
 
     ghost SEPARATOR = { separators.Comma };
 
@@ -165,7 +166,7 @@ fn comparison_mark(comparison: Comparison) -> Mark
 
 impl Printed for Condition {
     ghost use Rattle.reader_core.specs.declared.separator.Separator.TheVariants as separators;
-    ghost use Rattle.reader_core.specs.Language.{condition_says};
+    ghost use Rattle.reader_core.specs.Saying.{condition_says};
 
     ghost SEPARATOR = { separators.And };
 
@@ -209,7 +210,8 @@ fn write_columns(
 
 impl Printed for Privilege {
     ghost use Rattle.reader_core.specs.declared.separator.Separator.TheVariants as separators;
-    ghost use Rattle.reader_core.specs.Language.{privilege_says, IsWellFormedPrivilege};
+    ghost use Rattle.reader_core.specs.Saying.{privilege_says};
+    ghost use Rattle.reader_core.specs.Forming.{IsWellFormedPrivilege};
 
     ghost SEPARATOR = { separators.Comma };
 

@@ -1,7 +1,9 @@
 //! Statements as text.
 ghost use Rattle.std.specs.Prelude.{◌≡◌, ◌<◌, ◌≤◌, OnOk, IfOk, IsErrOf, length, string_bytes};
 ghost use Rattle.reader_core.specs.declared.statement.Statement.TheVariants as statements;
-ghost use Rattle.reader_core.specs.Language.{selection_says, filter_says, option_says, only_says, statement_says, IsSelection, IsWellFormed, Spells};
+ghost use Rattle.reader_core.specs.Saying.{selection_says, filter_says, option_says, only_says, statement_says};
+ghost use Rattle.reader_core.specs.Forming.{IsSelection, IsWellFormed};
+ghost use Rattle.reader_core.specs.Language.{Spells};
 ghost use Rattle.printer_core.specs.Printing.{Prints, canonical};
 
 use crate::page::Page;

@@ -13,7 +13,7 @@ use Rattle.lexer_core.specs.declared.fault.Code.TheVariants as codes
 use Rattle.reader_core.specs.Grammar.{Grammar, is_any_keyword}
 use Rattle.reader_core.specs.Recogniser.{step, can_end, first_fault}
 use Rattle.reader_core.specs.Cursor.{Cursor, Faults, Reads, fault_left, fault_of, next_kind, next_is_keyword, offset_at}
-use Rattle.reader_core.specs.Language.{body}
+use Rattle.reader_core.specs.Sentences.{body}
 use Rattle.reader_core.proofs.Theory.{first_fault_nil, first_fault_none, first_fault_some}
 use Rattle.reader_core.proofs.Taking.{at_line}
 

@@ -10,7 +10,7 @@ use Rattle.lexer_core.specs.declared.fault.Code.{Code}
 use Rattle.reader_core.specs.Grammar.{Grammar, End, One, Case, Items, More, Class, Key, Sign, fits, followed_by}
 use Rattle.reader_core.specs.Matches.{TokenWithFault, is_next, Matches, done, one, this, other, item, next, last}
 use Rattle.reader_core.specs.Choices.{Derives, stop, token, left, right, first, further, behind, can_begin, IsApart, IsPredictive, no_token}
-use Rattle.reader_core.specs.Language.{statement, finish, optional, filter, grant_option, privilege_item}
+use Rattle.reader_core.specs.Sentences.{statement, finish, optional, filter, grant_option, privilege_item}
 use Rattle.reader_core.proofs.Taking.{key_fits, sign_fits}
 
 -- ---- what follows may be told apart from the grammar

@@ -10,7 +10,8 @@ use Rattle.reader_core.specs.declared.statement.Statement.{Statement}
 use Rattle.reader_core.specs.Grammar.{Fault}
 use Rattle.reader_core.specs.Recogniser.{first_fault}
 use Rattle.reader_core.specs.Matches.{IsWhole}
-use Rattle.reader_core.specs.Language.{statement, Spells, IsReadFault, lexical, nothing, ungrammatical}
+use Rattle.reader_core.specs.Sentences.{statement}
+use Rattle.reader_core.specs.Language.{Spells, IsReadFault, lexical, nothing, ungrammatical}
 use Rattle.reader_core.proofs.Theory.{sound, fault_from_first_fault, whole_from_first_fault}
 use Rattle.reader_core.proofs.Exactness.{lexed_kinds}
 use Rattle.lexer_core.proofs.Proper.{proper_lexed}

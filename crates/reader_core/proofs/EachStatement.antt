@@ -14,7 +14,10 @@ use Rattle.reader_core.specs.declared.statement.Statement.TheVariants as stateme
 use Rattle.reader_core.specs.Grammar.{Grammar, End, One, Case, Items, Key, Sign, AnyName, AtLeastOne}
 use Rattle.reader_core.specs.Matches.{Matches}
 use Rattle.lexer_core.specs.Lexing.{IsProper}
-use Rattle.reader_core.specs.Language.{names_rule, comma_separated, privileges_rule, column_item, literal_item, set_item, privilege_item, name_list, optional, filter, selection, from_table, grant_option, only_table, statement, finish, comma_lexeme, listed, user_says, column_says, value_says, value_lexeme, set_says, filter_says, selection_says, privilege_says, option_says, statement_says, IsWellFormed, IsFinished, SaysStatement}
+use Rattle.reader_core.specs.Sentences.{names_rule, comma_separated, privileges_rule, column_item, literal_item, set_item, privilege_item, name_list, optional, filter, selection, from_table, grant_option, only_table, statement, finish}
+use Rattle.reader_core.specs.Saying.{comma_lexeme, listed, user_says, column_says, value_says, value_lexeme, set_says, filter_says, selection_says, privilege_says, option_says, statement_says, IsFinished}
+use Rattle.reader_core.specs.Forming.{IsWellFormed}
+use Rattle.reader_core.specs.Language.{SaysStatement}
 use Rattle.reader_core.proofs.Fine.{few_if_fine, distinct_if_fine}
 use Rattle.reader_core.proofs.Lines.{says_statement}
 use Rattle.reader_core.proofs.Fronts.{Front, faultless_all, key_only, sign_only, key_front, sign_front, name_front, least_front, case_front, list_front, then, and_then}

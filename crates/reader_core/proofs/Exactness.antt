@@ -11,7 +11,9 @@ use Rattle.reader_core.specs.declared.statement.Statement.{Statement}
 use Rattle.reader_core.specs.declared.statement.Statement.TheVariants as statements
 use Rattle.reader_core.specs.Grammar.{Fault}
 use Rattle.reader_core.specs.Matches.{IsFault, IsWhole}
-use Rattle.reader_core.specs.Language.{statement, statement_says, SaysStatement, Spells, IsReadFault, lexical, nothing, ungrammatical, IsReadFaultOf, UnlessNoMemory}
+use Rattle.reader_core.specs.Sentences.{statement}
+use Rattle.reader_core.specs.Saying.{statement_says}
+use Rattle.reader_core.specs.Language.{SaysStatement, Spells, IsReadFault, lexical, nothing, ungrammatical, IsReadFaultOf, UnlessNoMemory}
 use Rattle.reader_core.proofs.Theory.{sound, first_fault_from_whole, first_fault_from_fault, one_fault as one_grammar_fault}
 use Rattle.lexer_core.proofs.Lines.{says_once as one_reading, tokens_once as one_list_of_tokens, says_no_fault as said_or_faulty, fault_once as one_lexical_fault}
 use Rattle.reader_core.proofs.Whole.{says_whole, ending, ended}

@@ -15,7 +15,7 @@ use Rattle.reader_core.specs.Grammar.{Rule, repeated_or_too_many, same}
 use Rattle.reader_core.specs.Recogniser.{AreFaultless}
 use Rattle.reader_core.specs.declared.privilege.Privilege.{Privilege}
 use Rattle.reader_core.specs.Privileges.{word_of, word_keyword, same_word, are_different}
-use Rattle.reader_core.specs.Language.{names_rule, comma_separated, privileges_rule}
+use Rattle.reader_core.specs.Sentences.{names_rule, comma_separated, privileges_rule}
 
 -- ---- single marks
 no_mark : (repeated : Bool) (full : Bool) → ◌≡◌ {A = Option Code} (if repeated then Some codes.Duplicate else if full then Some codes.TooMany else None) None → (repeated ≡ false) × (full ≡ false)

@@ -5,7 +5,8 @@ use Rattle.lexer_core.specs.declared.token.Mark.TheVariants as marks
 use Rattle.lexer_core.specs.declared.fault.ReadFault.{ReadFault}
 use Rattle.reader_core.specs.Grammar.{Sign, End}
 use Rattle.reader_core.specs.Cursor.{Cursor, fault_left, fault_of, left_says, next_is, next_lexeme}
-use Rattle.reader_core.specs.Language.{finish, IsFinished}
+use Rattle.reader_core.specs.Sentences.{finish}
+use Rattle.reader_core.specs.Saying.{IsFinished}
 use Rattle.reader_core.proofs.Taking.{one_taken}
 use Rattle.reader_core.proofs.Lists.{case_yes}
 

@@ -23,7 +23,7 @@ use Rattle.lexer_core.specs.declared.fault.Code.{Code}
 use Rattle.reader_core.specs.Grammar.{Grammar, Class, One, Case, Items, More, Rule, Key, Sign, AnyName, AnyLiteral, AnyType, AnyTest, AtLeastOne, fits, item_fault, followed_by}
 use Rattle.reader_core.specs.Recogniser.{AreFaultless}
 use Rattle.reader_core.specs.Matches.{TokenWithFault, faultless, Matches, one, this, other, item, next, last}
-use Rattle.reader_core.specs.Language.{listed, value_lexeme, type_lexeme, comparison_mark}
+use Rattle.reader_core.specs.Saying.{listed, value_lexeme, type_lexeme, comparison_mark}
 use Rattle.reader_core.proofs.Taking.{key_fits, sign_fits}
 
 -- what is said, as tokens none of which is wrong

@@ -12,7 +12,10 @@ use Rattle.reader_core.specs.declared.statement.Statement.{Statement}
 use Rattle.reader_core.specs.Grammar.{Fault}
 use Rattle.reader_core.specs.Recogniser.{first_fault}
 use Rattle.reader_core.specs.Cursor.{Cursor, Takes, Faults, fault_left, fault_of, left_says}
-use Rattle.reader_core.specs.Language.{statement, body, finish, statement_says, SaysStatement, IsFinished, IsWellFormed, Spells, IsReadFault, lexical, nothing, ungrammatical, IsReadFaultOf}
+use Rattle.reader_core.specs.Sentences.{statement, body, finish}
+use Rattle.reader_core.specs.Saying.{statement_says, IsFinished}
+use Rattle.reader_core.specs.Forming.{IsWellFormed}
+use Rattle.reader_core.specs.Language.{SaysStatement, Spells, IsReadFault, lexical, nothing, ungrammatical, IsReadFaultOf}
 use Rattle.reader_core.proofs.Theory.{sound, fault_from_first_fault}
 
 -- ---- what the reader answers

@@ -14,7 +14,7 @@ use Rattle.lexer_core.specs.declared.fault.Code.TheVariants as codes
 use Rattle.reader_core.specs.Grammar.{Grammar, Class, Rule, Items, More, One, Case, fits, item_fault, followed_by, same, repeated_or_too_many}
 use Rattle.reader_core.specs.Recogniser.{first_fault, with_fault, step, can_end, AreFaultless}
 use Rattle.reader_core.specs.Cursor.{Cursor, Takes, Faults, fault_of, fault_left, left_says, next_kind, next_lexeme, next_is, offset_at}
-use Rattle.reader_core.specs.Language.{listed}
+use Rattle.reader_core.specs.Saying.{listed}
 use Rattle.reader_core.proofs.Theory.{first_fault_nil, first_fault_none, first_fault_some}
 use Rattle.reader_core.proofs.Taking.{says_taken, at_line}
 

@@ -20,7 +20,8 @@ use Rattle.reader_core.specs.declared.privilege.Privilege.{Privilege}
 use Rattle.reader_core.specs.declared.privilege.Privilege.TheVariants as privileges_of
 use Rattle.reader_core.specs.declared.statement.Statement.{Statement}
 use Rattle.reader_core.specs.declared.statement.Statement.TheVariants as statements
-use Rattle.reader_core.specs.Language.{comma_lexeme, listed, name_says, names_say, user_says, column_says, value_says, value_lexeme, type_lexeme, comparison_mark, condition_says, set_says, filter_says, selection_says, columns_say, privilege_says, option_says, only_says, statement_says, SaysStatement}
+use Rattle.reader_core.specs.Saying.{comma_lexeme, listed, name_says, names_say, user_says, column_says, value_says, value_lexeme, type_lexeme, comparison_mark, condition_says, set_says, filter_says, selection_says, columns_say, privilege_says, option_says, only_says, statement_says}
+use Rattle.reader_core.specs.Language.{SaysStatement}
 use Rattle.reader_core.proofs.Whole.{ending, ended}
 
 abbrev bracket : Lexeme

@@ -10,7 +10,9 @@ use Rattle.reader_core.specs.declared.privilege.Privilege.TheVariants as privile
 use Rattle.reader_core.specs.Grammar.{Grammar, One, Items, Key, Sign, AnyName, followed_by}
 use Rattle.reader_core.specs.Matches.{Matches}
 use Rattle.reader_core.specs.Privileges.{word_of, word_keyword}
-use Rattle.reader_core.specs.Language.{comma_separated, names_rule, conditions_rule, privileges_rule, column_item, literal_item, name_item, name_list, set_item, condition_item, privilege_item, optional, filter, selection, grant_option, in_brackets, only_table, comma_lexeme, listed, name_says, names_say, user_says, column_says, value_says, value_lexeme, type_lexeme, comparison_mark, condition_says, set_says, filter_says, selection_says, columns_say, privilege_says, privilege_columns, option_says, only_says, AreNamed, IsSelection, IsWellFormedPrivilege, ArePrivileges, AreUsers}
+use Rattle.reader_core.specs.Sentences.{comma_separated, names_rule, conditions_rule, privileges_rule, column_item, literal_item, name_item, name_list, set_item, condition_item, privilege_item, optional, filter, selection, grant_option, in_brackets, only_table}
+use Rattle.reader_core.specs.Saying.{comma_lexeme, listed, name_says, names_say, user_says, column_says, value_says, value_lexeme, type_lexeme, comparison_mark, condition_says, set_says, filter_says, selection_says, columns_say, privilege_says, privilege_columns, option_says, only_says}
+use Rattle.reader_core.specs.Forming.{AreNamed, IsSelection, IsWellFormedPrivilege, ArePrivileges, AreUsers}
 use Rattle.reader_core.proofs.Fine.{few_if_fine, distinct_if_fine, different_if_fine}
 use Rattle.reader_core.proofs.Fronts.{Front, TellsItem, Any, faultless_all, key_only, sign_only, key_front, sign_front, name_front, literal_front, type_front, test_front, case_front, list_front, then, and_then}
 

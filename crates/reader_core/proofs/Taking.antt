@@ -23,7 +23,7 @@ use Rattle.lexer_core.specs.declared.fault.ReadFault.TheVariants as faults
 use Rattle.reader_core.specs.Grammar.{Grammar, Class, End, One, Key, Sign, AnyType, AnyLiteral, AnyTest, fits, keyword_number, mark_number}
 use Rattle.reader_core.specs.Recogniser.{first_fault}
 use Rattle.reader_core.specs.Cursor.{Cursor, Takes, Faults, fault_left, left_says, next_kind, next_lexeme, next_is, offset_at, fault_of}
-use Rattle.reader_core.specs.Language.{type_lexeme, value_lexeme, comparison_mark}
+use Rattle.reader_core.specs.Saying.{type_lexeme, value_lexeme, comparison_mark}
 use Rattle.reader_core.proofs.Theory.{first_fault_nil, first_fault_none, first_fault_some}
 
 -- what is left is spelled too

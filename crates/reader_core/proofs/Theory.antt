@@ -10,7 +10,7 @@ use Rattle.lexer_core.specs.declared.fault.Code.{Code}
 use Rattle.lexer_core.specs.declared.fault.Code.TheVariants as codes
 use Rattle.reader_core.specs.Grammar.{Grammar, End, One, Case, Items, More, Class, Key, Sign, AnyName, AnyLiteral, AnyType, AnyTest, AtLeastOne, fits, item_fault, repeated_or_too_many, followed_by, Fault}
 use Rattle.reader_core.specs.Recogniser.{with_fault, enter, step, can_end, first_fault}
-use Rattle.reader_core.specs.Language.{statement}
+use Rattle.reader_core.specs.Sentences.{statement}
 use Rattle.reader_core.specs.Matches.{TokenWithFault, faultless, is_next, Matches, done, one, this, other, item, next, last, IsWhole, IsViablePrefix, CanFollow, IsWrongAt, IsWrongHere, IsFault}
 
 -- ---- grammars whose items begin with a token of their own, and whose lists are followed by no comma

@@ -23,7 +23,10 @@ use Rattle.reader_core.specs.Grammar.{Grammar, Class, Key, Sign, Rule, Items, Mo
 use Rattle.reader_core.specs.Recogniser.{AreFaultless}
 use Rattle.reader_core.specs.Matches.{TokenWithFault, faultless, is_next, Matches, done, one, this, other, item, next, last, IsWhole}
 use Rattle.reader_core.specs.Privileges.{word_of, word_keyword}
-use Rattle.reader_core.specs.Language.{comma_separated, names_rule, conditions_rule, privileges_rule, column_item, literal_item, name_item, set_item, condition_item, privilege_item, optional, filter, selection, from_table, grant_option, only_table, statement, finish, comma_lexeme, listed, name_says, names_say, user_says, column_says, value_says, value_lexeme, type_lexeme, comparison_mark, condition_says, set_says, filter_says, selection_says, columns_say, privilege_says, privilege_columns, option_says, only_says, statement_says, AreNamed, IsSelection, IsWellFormedPrivilege, ArePrivileges, AreUsers, IsWellFormed, SaysStatement}
+use Rattle.reader_core.specs.Sentences.{comma_separated, names_rule, conditions_rule, privileges_rule, column_item, literal_item, name_item, set_item, condition_item, privilege_item, optional, filter, selection, from_table, grant_option, only_table, statement, finish}
+use Rattle.reader_core.specs.Saying.{comma_lexeme, listed, name_says, names_say, user_says, column_says, value_says, value_lexeme, type_lexeme, comparison_mark, condition_says, set_says, filter_says, selection_says, columns_say, privilege_says, privilege_columns, option_says, only_says, statement_says}
+use Rattle.reader_core.specs.Forming.{AreNamed, IsSelection, IsWellFormedPrivilege, ArePrivileges, AreUsers, IsWellFormed}
+use Rattle.reader_core.specs.Language.{SaysStatement}
 use Rattle.reader_core.proofs.Taking.{value_fits, type_fits, comparison_fits}
 use Rattle.reader_core.proofs.Fine.{fine_if_few, fine_if_distinct, fine_if_different}
 

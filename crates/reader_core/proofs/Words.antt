@@ -15,7 +15,8 @@ use Rattle.reader_core.specs.Grammar.{Grammar, Items, More, item_fault, is_keywo
 use Rattle.reader_core.specs.Recogniser.{first_fault, with_fault, enter, step}
 use Rattle.reader_core.specs.Cursor.{Cursor, Takes, Faults, fault_left, fault_of, next_kind, next_is_privilege, offset_at}
 use Rattle.reader_core.specs.Privileges.{word_keyword}
-use Rattle.reader_core.specs.Language.{privileges_rule, privilege_item, behind_word, word_says}
+use Rattle.reader_core.specs.Sentences.{privileges_rule, privilege_item, behind_word}
+use Rattle.reader_core.specs.Saying.{word_says}
 use Rattle.reader_core.proofs.Theory.{first_fault_nil, first_fault_none, first_fault_some}
 use Rattle.reader_core.proofs.Taking.{says_taken, said_by_kind, at_line}
 

@@ -1,6 +1,9 @@
 pub mod Grammar
 pub mod Matches
 pub mod Privileges
+pub mod Sentences
+pub mod Saying
+pub mod Forming
 pub mod Language
 pub mod Choices
 pub mod Recogniser

@@ -5,7 +5,9 @@ ghost use Rattle.lexer_core.specs.declared.fault.Code.{Code};
 ghost use Rattle.reader_core.specs.declared.statement.Statement.{Statement};
 ghost use Rattle.reader_core.specs.Matches.{TokenWithFault, Matches, IsWhole};
 ghost use Rattle.reader_core.specs.Choices.{Derives, IsPredictive, no_token};
-ghost use Rattle.reader_core.specs.Language.{statement, SaysStatement, Spells, IsWellFormed, IsReadFault};
+ghost use Rattle.reader_core.specs.Sentences.{statement};
+ghost use Rattle.reader_core.specs.Forming.{IsWellFormed};
+ghost use Rattle.reader_core.specs.Language.{SaysStatement, Spells, IsReadFault};
 
 /// No line spells two statements.
 pub fn one_statement()

@@ -6,7 +6,8 @@ ghost use Rattle.lexer_core.specs.declared.token.TokenKind.TheVariants as kinds;
 ghost use Rattle.reader_core.specs.Grammar.{Grammar, Items, More, One, AnyName, AnyTest, AnyLiteral, followed_by, item_fault, same};
 ghost use Rattle.reader_core.specs.Cursor.{Leads};
 ghost use Rattle.reader_core.specs.Privileges.{word_keyword, first_words};
-ghost use Rattle.reader_core.specs.Language.{first_names, name_says, names_rule, conditions_rule, condition_item, privileges_rule, privilege_item, behind_word, word_says};
+ghost use Rattle.reader_core.specs.Sentences.{first_names, names_rule, conditions_rule, condition_item, privileges_rule, privilege_item, behind_word};
+ghost use Rattle.reader_core.specs.Saying.{name_says, word_says};
 
 use crate::parsing::reader::Reader;
 use crate::privilege::{MAX_PRIVILEGES, Privilege, PrivilegeWord};

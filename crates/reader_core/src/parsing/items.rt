@@ -16,7 +16,8 @@ use std::alloc::Global;
 impl Item for Column {
     ghost use Rattle.reader_core.specs.declared.separator.Separator.TheVariants as separators;
     ghost use Rattle.lexer_core.specs.declared.token.TokenKind.TheVariants as kinds;
-    ghost use Rattle.reader_core.specs.Language.{names_rule, column_item, column_says};
+    ghost use Rattle.reader_core.specs.Sentences.{names_rule, column_item};
+    ghost use Rattle.reader_core.specs.Saying.{column_says};
 
     ghost rule = { names_rule 32 };
 
@@ -47,7 +48,8 @@ impl Item for Value {
     ghost use Rattle.reader_core.specs.declared.separator.Separator.TheVariants as separators;
     ghost use Rattle.std.specs.Prelude.{false};
     ghost use Rattle.lexer_core.specs.Lexing.{kind_of};
-    ghost use Rattle.reader_core.specs.Language.{comma_separated, literal_item, value_lexeme, value_says};
+    ghost use Rattle.reader_core.specs.Sentences.{comma_separated, literal_item};
+    ghost use Rattle.reader_core.specs.Saying.{value_lexeme, value_says};
 
     ghost rule = { comma_separated 32 false };
 
@@ -77,7 +79,8 @@ impl Item for Value {
 impl Item for Name {
     ghost use Rattle.reader_core.specs.declared.separator.Separator.TheVariants as separators;
     ghost use Rattle.lexer_core.specs.declared.token.TokenKind.TheVariants as kinds;
-    ghost use Rattle.reader_core.specs.Language.{names_rule, name_item, name_says};
+    ghost use Rattle.reader_core.specs.Sentences.{names_rule, name_item};
+    ghost use Rattle.reader_core.specs.Saying.{name_says};
 
     ghost rule = { names_rule 32 };
 
@@ -101,7 +104,8 @@ impl Item for Name {
 impl Item for User {
     ghost use Rattle.reader_core.specs.declared.separator.Separator.TheVariants as separators;
     ghost use Rattle.lexer_core.specs.declared.token.TokenKind.TheVariants as kinds;
-    ghost use Rattle.reader_core.specs.Language.{names_rule, name_item, user_says};
+    ghost use Rattle.reader_core.specs.Sentences.{names_rule, name_item};
+    ghost use Rattle.reader_core.specs.Saying.{user_says};
 
     ghost rule = { names_rule 16 };
 
@@ -126,7 +130,8 @@ impl Item for User {
 impl Item for Assignment {
     ghost use Rattle.reader_core.specs.declared.separator.Separator.TheVariants as separators;
     ghost use Rattle.lexer_core.specs.declared.token.TokenKind.TheVariants as kinds;
-    ghost use Rattle.reader_core.specs.Language.{names_rule, set_item, set_says};
+    ghost use Rattle.reader_core.specs.Sentences.{names_rule, set_item};
+    ghost use Rattle.reader_core.specs.Saying.{set_says};
 
     ghost rule = { names_rule 32 };
 
@@ -159,7 +164,8 @@ impl Item for Condition {
     ghost use Rattle.lexer_core.specs.Lexing as lexemes;
     ghost use Rattle.lexer_core.specs.declared.token.TokenKind.TheVariants as kinds;
     ghost use Rattle.base_core.specs.declared.keyword.Keyword.TheVariants as keywords;
-    ghost use Rattle.reader_core.specs.Language.{conditions_rule, condition_item, condition_says};
+    ghost use Rattle.reader_core.specs.Sentences.{conditions_rule, condition_item};
+    ghost use Rattle.reader_core.specs.Saying.{condition_says};
 
     ghost rule = { conditions_rule };
 
@@ -195,7 +201,9 @@ impl Item for Privilege {
     ghost use Rattle.reader_core.specs.declared.separator.Separator.TheVariants as separators;
     ghost use Rattle.lexer_core.specs.declared.token.TokenKind.TheVariants as kinds;
     ghost use Rattle.reader_core.specs.Privileges.{word_of, word_keyword};
-    ghost use Rattle.reader_core.specs.Language.{privileges_rule, privilege_item, privilege_says, IsWellFormedPrivilege};
+    ghost use Rattle.reader_core.specs.Sentences.{privileges_rule, privilege_item};
+    ghost use Rattle.reader_core.specs.Saying.{privilege_says};
+    ghost use Rattle.reader_core.specs.Forming.{IsWellFormedPrivilege};
 
     ghost rule = { privileges_rule };
 

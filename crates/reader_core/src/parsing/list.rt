@@ -6,7 +6,7 @@ ghost use Rattle.reader_core.specs.Grammar.{Grammar, Rule, Items, More, item_fau
 ghost use Rattle.reader_core.specs.Recogniser.{AreFaultless};
 ghost use Rattle.reader_core.specs.Cursor.{Reads, Leads, next_is, next_lexeme};
 ghost use Rattle.reader_core.specs.declared.separator.Separator.{Separator};
-ghost use Rattle.reader_core.specs.Language.{listed, separator_class, separator_lexeme};
+ghost use Rattle.reader_core.specs.Saying.{listed, separator_class, separator_lexeme};
 
 use crate::parsing::reader::Reader;
 use crate::separator::Separator;

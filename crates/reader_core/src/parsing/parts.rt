@@ -6,7 +6,9 @@ ghost use Rattle.lexer_core.specs.declared.token.Mark.TheVariants as marks;
 ghost use Rattle.reader_core.specs.Grammar.{Items};
 ghost use Rattle.reader_core.specs.Cursor.{Reads};
 ghost use Rattle.reader_core.specs.Privileges.{word_of};
-ghost use Rattle.reader_core.specs.Language.{optional, comma_lexeme, listed, name_list, names_say, name_says, user_says, selection, selection_says, in_brackets, columns_say, behind_word, privilege_columns, IsWellFormedPrivilege, privileges_rule, privilege_item, privilege_says, ArePrivileges, filter, filter_says, grant_option, option_says, only_table, only_says};
+ghost use Rattle.reader_core.specs.Sentences.{optional, name_list, selection, in_brackets, behind_word, privileges_rule, privilege_item, filter, grant_option, only_table};
+ghost use Rattle.reader_core.specs.Saying.{comma_lexeme, listed, names_say, name_says, user_says, selection_says, columns_say, privilege_columns, privilege_says, filter_says, option_says, only_says};
+ghost use Rattle.reader_core.specs.Forming.{IsWellFormedPrivilege, ArePrivileges};
 
 use crate::parsing::list::list;
 use crate::parsing::reader::Reader;

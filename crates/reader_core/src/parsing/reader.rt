@@ -7,7 +7,7 @@ ghost use Rattle.lexer_core.specs.declared.token.TokenKind.TheVariants as kinds;
 ghost use Rattle.reader_core.specs.Grammar.{One, Key, Sign, AnyName, AnyLiteral, AnyType, AnyTest, AtLeastOne, is_test, is_privilege, repeated_or_too_many};
 ghost use Rattle.reader_core.specs.Cursor.{Cursor, Reads, Faults, Checks, offset_at, next_kind, next_lexeme, next_is, next_is_keyword, next_is_privilege};
 ghost use Rattle.reader_core.specs.Privileges.{word_keyword};
-ghost use Rattle.reader_core.specs.Language.{name_says, type_lexeme, type_says, value_lexeme, value_says, comparison_mark, comparison_says, number_says, separator_class, separator_lexeme};
+ghost use Rattle.reader_core.specs.Saying.{name_says, type_lexeme, type_says, value_lexeme, value_says, comparison_mark, comparison_says, number_says, separator_class, separator_lexeme};
 
 use crate::checkpoint::CheckpointNumber;
 use crate::privilege::PrivilegeWord;

@@ -2,7 +2,9 @@
 ghost use Rattle.std.specs.Prelude.{◌≡◌, ◌∷◌, [], None, IfOk, OnOk, IfErr};
 ghost use Rattle.reader_core.specs.Grammar.{End};
 ghost use Rattle.reader_core.specs.Cursor.{Reads, fault_left, fault_of, left_says};
-ghost use Rattle.reader_core.specs.Language.{create, insert, select, delete, update, grant, revoke, checkpoint, checkpoints, export, body, finish, statement_says, IsFinished, IsWellFormed};
+ghost use Rattle.reader_core.specs.Sentences.{create, insert, select, delete, update, grant, revoke, checkpoint, checkpoints, export, body, finish};
+ghost use Rattle.reader_core.specs.Saying.{statement_says, IsFinished};
+ghost use Rattle.reader_core.specs.Forming.{IsWellFormed};
 
 use crate::parsing::list::list;
 use crate::parsing::reader::Reader;

@@ -1,7 +1,7 @@
 use Rattle.std.proofs.Common.{arith}
 use Rattle.std.proofs.lemmas.List.Elements.{All-nil}
 use Rattle.printer_core.proofs.Writing.{nothing, each_on, all_on}
-use Rattle.reader_core.specs.Language.{separator_lexeme}
+use Rattle.reader_core.specs.Saying.{separator_lexeme}
 use Rattle.printer_core.proofs.printed.write_behind.Goals as goal
 
 pub loop-item-init : goal.loop-item-init

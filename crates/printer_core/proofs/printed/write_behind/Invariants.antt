@@ -1,7 +1,7 @@
 use Rattle.std.proofs.Common.{◌∷◌, All, take}
 use Rattle.std.specs.List.{flat_map}
 use Rattle.printer_core.specs.Printing.{Prints}
-use Rattle.reader_core.specs.Language.{separator_lexeme}
+use Rattle.reader_core.specs.Saying.{separator_lexeme}
 use Rattle.printer_core.proofs.printed.write_behind.Given as goal
 
 -- the items so far are on the page, each behind a separator

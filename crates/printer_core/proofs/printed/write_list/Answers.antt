@@ -1,6 +1,6 @@
 use Rattle.std.proofs.Common.{arith}
 use Rattle.printer_core.proofs.Writing.{first_and_rest}
-use Rattle.reader_core.specs.Language.{separator_lexeme}
+use Rattle.reader_core.specs.Saying.{separator_lexeme}
 use Rattle.printer_core.proofs.printed.write_list.Goals as goal
 
 pub returns-in_ok-write_behind-in-len1-up-clause-written : goal.returns-in_ok-write_behind-in-len1-up-clause-written

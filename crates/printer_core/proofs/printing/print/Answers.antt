@@ -1,6 +1,6 @@
 use Rattle.std.proofs.Common.{◌≤◌, length, rules, subst}
 use Rattle.std.specs.String.{string_bytes}
-use Rattle.reader_core.specs.Language.{statement_says}
+use Rattle.reader_core.specs.Saying.{statement_says}
 use Rattle.printer_core.specs.Printing.{Sheet, Prints}
 use Rattle.printer_core.proofs.Back.{page_spells}
 use Rattle.printer_core.proofs.printing.print.Goals as goal

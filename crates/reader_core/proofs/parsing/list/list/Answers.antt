@@ -1,7 +1,7 @@
 use Rattle.std.proofs.Common.{Bool, ◌≡◌, sym, ap, ◌∙◌}
 use Rattle.reader_core.specs.Grammar.{Class}
 use Rattle.reader_core.specs.Cursor.{Cursor, next_is}
-use Rattle.reader_core.specs.Language.{separator_class}
+use Rattle.reader_core.specs.Saying.{separator_class}
 use Rattle.reader_core.specs.declared.separator.Separator.{Separator}
 use Rattle.reader_core.proofs.Lists.{list_on, list_done, faultless_on, lawful_on, shorter, nothing_yet}
 use Rattle.reader_core.proofs.parsing.list.list.Goals as goal

@@ -1,6 +1,6 @@
 use Rattle.std.proofs.Common.{length}
 use Rattle.reader_core.proofs.Lists.{SoFar}
-use Rattle.reader_core.specs.Language.{separator_lexeme}
+use Rattle.reader_core.specs.Saying.{separator_lexeme}
 use Rattle.reader_core.proofs.parsing.list.list.Given as goal
 
 -- the items so far, and a separator behind each

@@ -3,7 +3,7 @@ use Rattle.base_core.specs.declared.condition.Assignment.{Assignment}
 use Rattle.lexer_core.specs.declared.token.TokenKind.TheVariants as kinds
 use Rattle.lexer_core.specs.declared.token.Mark.TheVariants as marks
 use Rattle.reader_core.specs.Grammar.{Grammar, One, More, Sign, AnyLiteral, End}
-use Rattle.reader_core.specs.Language.{names_rule, set_item}
+use Rattle.reader_core.specs.Sentences.{names_rule, set_item}
 use Rattle.reader_core.proofs.Exits.{exits}
 use Rattle.reader_core.proofs.Joining.{fault_behind, joined}
 use Rattle.reader_core.proofs.Lists.{firsts_push}

@@ -1,7 +1,7 @@
 use Rattle.std.proofs.Common.{◌++◌, ◌∷◌, [], map}
 use Rattle.lexer_core.specs.declared.token.TokenKind.TheVariants as kinds
 use Rattle.reader_core.specs.Grammar.{One, More, AnyType, End}
-use Rattle.reader_core.specs.Language.{names_rule, column_item}
+use Rattle.reader_core.specs.Sentences.{names_rule, column_item}
 use Rattle.base_core.specs.declared.value.Column.{Column}
 use Rattle.reader_core.proofs.Exits.{exits}
 use Rattle.reader_core.proofs.Joining.{fault_behind, joined}

@@ -1,7 +1,8 @@
 use Rattle.std.proofs.Common.{◌∷◌, ◌++◌, [], map, sym, ap}
 use Rattle.lexer_core.specs.declared.token.TokenKind.TheVariants as kinds
 use Rattle.reader_core.specs.Grammar.{Items, More, End}
-use Rattle.reader_core.specs.Language.{names_rule, name_item, name_says}
+use Rattle.reader_core.specs.Sentences.{names_rule, name_item}
+use Rattle.reader_core.specs.Saying.{name_says}
 use Rattle.reader_core.proofs.Choosing.{leads_so}
 use Rattle.reader_core.proofs.Lists.{firsts_push}
 use Rattle.reader_core.proofs.parsing.items.NameItem.read.Goals as goal

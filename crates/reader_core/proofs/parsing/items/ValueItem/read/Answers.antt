@@ -2,7 +2,8 @@ use Rattle.std.proofs.Common.{refl, ◌≡◌, None, Some, sym, map, List, false
 use Rattle.lexer_core.specs.Lexing.{kind_of}
 use Rattle.lexer_core.specs.declared.token.TokenKind.{TokenKind}
 use Rattle.reader_core.specs.Grammar.{item_fault, repeated_or_too_many, AnyLiteral, End}
-use Rattle.reader_core.specs.Language.{comma_separated, value_lexeme}
+use Rattle.reader_core.specs.Sentences.{comma_separated}
+use Rattle.reader_core.specs.Saying.{value_lexeme}
 use Rattle.reader_core.proofs.Exits.{exits}
 use Rattle.reader_core.proofs.Lists.{item_bad_at, item_misfit_at, item_taken, firsts_length, firsts_push}
 use Rattle.reader_core.proofs.Taking.{value_fits}

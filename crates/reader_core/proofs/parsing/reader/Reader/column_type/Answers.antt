@@ -1,6 +1,6 @@
 use Rattle.reader_core.specs.Grammar.{AnyType}
 use Rattle.lexer_core.specs.Lexing.{kind_of}
-use Rattle.reader_core.specs.Language.{type_lexeme}
+use Rattle.reader_core.specs.Saying.{type_lexeme}
 use Rattle.reader_core.proofs.Taking.{kind_taken, missing_so, type_fits, type_said}
 use Rattle.reader_core.proofs.Exits.{exits}
 use Rattle.reader_core.proofs.parsing.reader.Reader.column_type.Goals as goal

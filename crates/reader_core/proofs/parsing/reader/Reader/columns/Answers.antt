@@ -1,7 +1,7 @@
 use Rattle.std.proofs.Common.{sym}
 use Rattle.lexer_core.specs.declared.token.Mark.TheVariants as marks
 use Rattle.reader_core.specs.Grammar.{Grammar, One, Sign}
-use Rattle.reader_core.specs.Language.{name_list}
+use Rattle.reader_core.specs.Sentences.{name_list}
 use Rattle.reader_core.proofs.Exits.{exits}
 use Rattle.reader_core.proofs.Choosing.{skipped, entered_takes, entered_faults}
 use Rattle.reader_core.proofs.parsing.reader.Reader.columns.Goals as goal

@@ -2,7 +2,7 @@ use Rattle.std.proofs.Common.{refl}
 use Rattle.lexer_core.specs.Lexing as lexemes
 use Rattle.lexer_core.specs.declared.token.TokenKind.TheVariants as kinds
 use Rattle.reader_core.specs.Grammar.{AnyTest}
-use Rattle.reader_core.specs.Language.{comparison_mark}
+use Rattle.reader_core.specs.Saying.{comparison_mark}
 use Rattle.reader_core.proofs.Taking.{kind_taken, missing_so, comparison_fits}
 use Rattle.reader_core.proofs.Exits.{exits}
 use Rattle.reader_core.proofs.parsing.reader.Reader.comparison.Goals as goal

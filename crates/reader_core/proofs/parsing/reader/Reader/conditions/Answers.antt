@@ -1,6 +1,6 @@
 use Rattle.std.proofs.Common.{arith}
 use Rattle.lexer_core.specs.declared.token.TokenKind.TheVariants as kinds
-use Rattle.reader_core.specs.Language.{conditions_rule}
+use Rattle.reader_core.specs.Sentences.{conditions_rule}
 use Rattle.reader_core.proofs.Fine.{few_if_fine}
 use Rattle.reader_core.proofs.parsing.reader.Reader.conditions.Goals as goal
 

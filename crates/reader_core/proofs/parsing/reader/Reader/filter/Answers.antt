@@ -1,7 +1,8 @@
 use Rattle.std.proofs.Common.{[], sym}
 use Rattle.base_core.specs.declared.keyword.Keyword.TheVariants as keywords
 use Rattle.reader_core.specs.Grammar.{Grammar, Items, Key}
-use Rattle.reader_core.specs.Language.{conditions_rule, condition_item, filter_says}
+use Rattle.reader_core.specs.Sentences.{conditions_rule, condition_item}
+use Rattle.reader_core.specs.Saying.{filter_says}
 use Rattle.reader_core.proofs.Choosing.{skipped, entered}
 use Rattle.reader_core.proofs.parsing.reader.Reader.filter.Goals as goal
 

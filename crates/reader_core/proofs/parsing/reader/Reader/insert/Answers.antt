@@ -1,7 +1,8 @@
 use Rattle.std.proofs.Common.{arith}
 use Rattle.std.specs.Prelude.{false}
 use Rattle.lexer_core.specs.Lexing.{kind_of}
-use Rattle.reader_core.specs.Language.{comma_separated, value_lexeme}
+use Rattle.reader_core.specs.Sentences.{comma_separated}
+use Rattle.reader_core.specs.Saying.{value_lexeme}
 use Rattle.reader_core.proofs.Fine.{few_if_fine}
 use Rattle.reader_core.proofs.parsing.reader.Reader.insert.Goals as goal
 

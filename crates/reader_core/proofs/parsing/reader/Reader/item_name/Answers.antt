@@ -4,7 +4,7 @@ use Rattle.lexer_core.specs.declared.token.TokenKind.{TokenKind}
 use Rattle.lexer_core.specs.declared.token.TokenKind.TheVariants as kinds
 use Rattle.reader_core.specs.Grammar.{item_fault, AnyName}
 use Rattle.reader_core.specs.Cursor.{fault_of}
-use Rattle.reader_core.specs.Language.{names_rule}
+use Rattle.reader_core.specs.Sentences.{names_rule}
 use Rattle.reader_core.proofs.Exits.{exits}
 use Rattle.reader_core.proofs.Taking.{said_by_kind}
 use Rattle.reader_core.proofs.Lists.{item_bad, item_misfit_so, item_taken, firsts_length}

@@ -3,7 +3,7 @@ use Rattle.lexer_core.specs.declared.token.TokenKind.{TokenKind}
 use Rattle.lexer_core.specs.declared.token.TokenKind.TheVariants as kinds
 use Rattle.reader_core.specs.Grammar.{item_fault}
 use Rattle.reader_core.specs.Privileges.{word_of, word_keyword}
-use Rattle.reader_core.specs.Language.{privileges_rule}
+use Rattle.reader_core.specs.Sentences.{privileges_rule}
 use Rattle.reader_core.proofs.Exits.{exits}
 use Rattle.reader_core.proofs.Lists.{firsts_length}
 use Rattle.reader_core.proofs.Words.{word_bad_at, word_misfit_so, word_taken}

@@ -1,6 +1,6 @@
 use Rattle.std.proofs.Common.{sym}
 use Rattle.reader_core.specs.Grammar.{AnyLiteral}
-use Rattle.reader_core.specs.Language.{value_lexeme}
+use Rattle.reader_core.specs.Saying.{value_lexeme}
 use Rattle.reader_core.proofs.Taking.{one_taken, missing}
 use Rattle.reader_core.proofs.parsing.reader.Reader.literal.Goals as goal
 

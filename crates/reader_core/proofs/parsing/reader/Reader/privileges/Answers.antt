@@ -1,6 +1,6 @@
 use Rattle.lexer_core.specs.declared.token.TokenKind.TheVariants as kinds
 use Rattle.reader_core.specs.Privileges.{word_of, word_keyword}
-use Rattle.reader_core.specs.Language.{privileges_rule}
+use Rattle.reader_core.specs.Sentences.{privileges_rule}
 use Rattle.reader_core.proofs.Fine.{few_if_fine, different_if_fine}
 use Rattle.reader_core.proofs.parsing.reader.Reader.privileges.Goals as goal
 

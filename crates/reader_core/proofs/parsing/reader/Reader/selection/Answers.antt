@@ -2,7 +2,7 @@ use Rattle.std.proofs.Common.{sym}
 use Rattle.lexer_core.specs.Lexing as lexemes
 use Rattle.lexer_core.specs.declared.token.Mark.TheVariants as marks
 use Rattle.reader_core.specs.Grammar.{Grammar, Sign}
-use Rattle.reader_core.specs.Language.{name_list}
+use Rattle.reader_core.specs.Sentences.{name_list}
 use Rattle.reader_core.proofs.Exits.{exits}
 use Rattle.reader_core.proofs.Taking.{one_taken}
 use Rattle.reader_core.proofs.Choosing.{entered_takes, passed_takes, passed_faults}
