@@ -68,8 +68,9 @@ fn play(rt: &impl Abort, alloc: Global, limits: Limits, session: &str, changes: 
     let mut system = System::with_limits(alloc, 16, limits).expect(rt, "memory");
     let replies = replies(rt, alloc, &mut system, session);
     let said = texts(rt, alloc, &replies);
-    assert_eq!(rt; said.as_slice(), wanted(rt, alloc, session).as_slice());
+    assert!(rt; said.as_slice() == wanted(rt, alloc, session).as_slice());
     assert!(rt; system.changes().expect(rt, "memory").len() == changes);
+    system.free();
 }
 
 /// As many changes, tables, grants of one privilege and checkpoints as may be. Of the checks of a

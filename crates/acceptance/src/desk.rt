@@ -67,8 +67,12 @@ fn close(rt: &impl Abort, desk: Desk, first: Pass, second: Pass, mut passes: Vec
     requires others { passes.items ≡ [] }
 {
     assert!(rt; passes.push(second).is_ok());
-    let Err((desk, mut passes)) = desk.close(passes) else {
-        panic!(rt; "closed without a pass")
+    let (desk, mut passes) = match desk.close(passes) {
+        Err(given_back) => given_back,
+        Ok(system) => {
+            system.free();
+            panic!(rt; "closed without a pass")
+        }
     };
     assert!(rt; passes.push(first).is_ok());
     let Ok(system) = desk.close(passes) else {
@@ -91,10 +95,9 @@ fn freshness(rt: HostRuntime) {
         panic!(rt; "not two entries")
     };
     assert!(rt; made.pass == 0 && inserted.pass == 0);
-    assert_eq!(rt;
-        said.as_slice(),
+    system.free();
+    let wanted =
         b"done @1\ndone @2\nrows 1 @2\nrow,7\ncheckpoint 1 begun @2\ncheckpoint 1 abandoned\n\
-checkpoint 2 begun @2\ncheckpoints 1 @2\nfinished,2,2\n"
-            .as_slice()
-    );
+checkpoint 2 begun @2\ncheckpoints 1 @2\nfinished,2,2\n";
+    assert!(rt; said.as_slice() == wanted.as_slice());
 }

@@ -18,7 +18,9 @@ const RECORDS: &'static [u8] = b"table,t,v\nrow,1\nrow,2\nend 1\n";
 /// The export of the lines above.
 fn export(rt: &impl Abort, alloc: Global) -> Ticket {
     let mut system = System::new(alloc, 16).expect(rt, "memory");
-    match replies(rt, alloc, &mut system, LINES).pop() {
+    let last = replies(rt, alloc, &mut system, LINES).pop();
+    system.free();
+    match last {
         Some(Reply::Export(ticket)) => ticket,
         _ => panic!(rt; "no export"),
     }

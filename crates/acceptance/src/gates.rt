@@ -8,6 +8,7 @@ use export_core::{Gate, NoGate};
 use reply_core::ReplyBuffer;
 use session_core::{checkpointer, serve_line};
 use std::alloc::Global;
+use std::mem::forget;
 use std::process::Abort;
 use std::sync::Wait;
 use std::sync::atomic::{AtomicBool, Ordering};
@@ -263,6 +264,8 @@ fn hold_up<R: Threads + Wait + Clock + Abort + Sync>(
             .as_slice()
             .ends_with(b"\ntable,t,x\nrow,1\nrow,2\nend 1\n")
     );
+    // A test that let the desk go would prove its destructor.
+    forget(desk);
 }
 
 /// No turn is held while an export is written.

@@ -17,13 +17,11 @@ mod lines;
 #[cfg(test)]
 mod locks;
 #[cfg(test)]
-mod loopback;
+mod nobody;
 #[cfg(test)]
 mod printer;
 #[cfg(test)]
 mod rights;
-#[cfg(test)]
-mod sessions;
 #[cfg(test)]
 mod slow;
 #[cfg(test)]

@@ -159,39 +159,3 @@ fn graph_and_replay_agree(rt: HostRuntime) {
     }
     assert!(&rt; falls > 100);
 }
-
-/// The user of this number, below 26^3.
-fn numbered(rt: &impl Abort, number: usize) -> User {
-    let letter = |part: usize| b'a'.wrapping_add((part % 26) as u8);
-    let letters = [
-        b'u',
-        letter(number / 676),
-        letter(number / 26),
-        letter(number),
-    ];
-    User(Name::read(&letters).expect(rt, "a name"))
-}
-
-/// As many as may be in force of one privilege fall at once, and each by the one before.
-#[test]
-fn a_chain_falls(rt: HostRuntime) {
-    let mut graph = Graph::new(rt.alloc());
-    let owner = User(named(&rt, b'o'));
-    let atom = Atom {
-        table: named(&rt, b't'),
-        kind: Kind::Select,
-    };
-    graph
-        .create(named(&rt, b't'), User(named(&rt, b'o')))
-        .expect(&rt, "memory");
-    grant(&rt, &mut graph, &owner, &atom, &numbered(&rt, 0), true, 2);
-    for number in 1..1024 {
-        let by = numbered(&rt, number - 1);
-        let user = numbered(&rt, number);
-        grant(&rt, &mut graph, &by, &atom, &user, true, number as u64 + 2);
-    }
-    assert!(&rt; graph.made() == 1024);
-    assert!(&rt; !graph.room(&atom, 1, 1024) && graph.room(&atom, 0, 1024));
-    graph.revoke(User(named(&rt, b'o')), &[atom], &[numbered(&rt, 0)]);
-    assert!(&rt; graph.in_force().expect(&rt, "memory").is_empty());
-}

@@ -1,4 +1,5 @@
-//! How often the streams of `std` are called, which no clause can say.
+//! How often the streams of `std` are called, and that they take and give what is long, which no clause
+//! can say.
 use base_core::{Broken, Sink, Source, StdSink, StdSource, write_all};
 use std::alloc::Global;
 use std::io::{self, BufWriter, ErrorKind};
@@ -101,4 +102,18 @@ fn a_flush_is_one_call(rt: HostRuntime) {
     assert!(rt; unflushed == (Err(Broken), [1, 1, 0]));
     let unwritten = flush(&rt, rt.alloc(), Counted::new(true, false));
     assert!(rt; unwritten == (Err(Broken), [1, 0, 1]));
+}
+
+const LONG: usize = 2_000_000;
+
+/// A stream gives and takes as much as is asked for at once: no error is made up where there is much.
+#[test]
+fn long_reads_and_writes_are_one_call(rt: HostRuntime) {
+    let bytes = vec![in rt.alloc(); b'x'; LONG].expect(&rt, "memory");
+    let mut into = vec![in rt.alloc(); 0; LONG].expect(&rt, "memory");
+    let mut source = StdSource::new(bytes.as_slice());
+    assert!(rt; source.read(&mut into) == Ok(LONG));
+    assert!(rt; into.as_slice() == bytes.as_slice());
+    let (outcome, calls) = write(&rt, rt.alloc(), Counted::new(false, false), &bytes);
+    assert!(rt; outcome == Ok(()) && calls == 1);
 }

@@ -1,5 +1,5 @@
 //! A checkpoint that is being captured.
-ghost use Rattle.std.specs.Prelude.{◌≡◌, ◌+◌, ◌^◌, ◌<◌, length, Err, None, IsNone, option_map, IfSome, IfOk, IfErr, OnOk, OnErr};
+ghost use Rattle.std.specs.Prelude.{◌≡◌, ◌+◌, ◌^◌, ◌<◌, length, Err, None, IsNone, option_map, IfSome, IsOk, IfOk, IfErr, OnOk, OnErr};
 ghost use Rattle.std.specs.Arc.{arc_value};
 ghost use Rattle.base_core.specs.declared.lack.Lack.TheVariants as lacks;
 ghost use Rattle.capture_core.specs.Image.{image, records, row_total};
@@ -141,18 +141,16 @@ impl Capture {
     /// where none is active: then nothing has changed.
     ///
     /// Since all is copied when a capture begins, a step counts alone: it looks at neither tables
-    /// nor rights, takes no memory, and so never answers `NoMemory`. The contract leaves that
-    /// answer open to a capture that copies step by step: after it the number left and the image to
-    /// come would be as they were, and the step could be tried again.
+    /// nor rights, takes no memory, and never answers `NoMemory`.
     pub fn step<A: Authority>(
         &mut self,
         _tables: &Tables,
         _rights: &A,
         k: usize,
     ) -> Result<Progress, NoMemory>
+        ensures done { IsOk result }
         ensures tells { IfOk result (λ progress. TellsProgress k self.old.active progress) }
         ensures ok { OnOk result (self.new ≡ after_step k self.old) }
-        ensures no_memory { OnErr result (self.new ≡ self.old) }
     {
         let k = k as u64;
         match self.active.take() {

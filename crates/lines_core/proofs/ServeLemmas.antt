@@ -1,5 +1,5 @@
 -- What each step of `serve` does, and what holds at its ends.
-use Rattle.std.proofs.Common.{◌≡◌, ◌≤◌, ◌<◌, ◌-◌, ◌^◌, ℕ, List, [], ◌∷◌, ◌++◌, refl, sym, ap, ◌∙◌, append_assoc, append-nil, map, length, take, arith, subst, inl, inr, Option}
+use Rattle.std.proofs.Common.{◌≡◌, ◌≤◌, ◌<◌, ◌-◌, ◌^◌, ℕ, Bool, false, List, [], ◌∷◌, ◌++◌, refl, sym, ap, ◌∙◌, append_assoc, append-nil, map, length, take, arith, subst, inl, inr, Option}
 use Rattle.std.specs.Str.Lines.{lines, strip_carriage_return}
 use Rattle.std.specs.Io.KnownBytes.{Consumes, Keeps, IsAtEnd}
 use Rattle.std.proofs.lemmas.List.{map-append, length-append}
@@ -7,7 +7,7 @@ use Rattle.std.proofs.KnownBytes.{Appends-trans, Appends-kept, Consumes-trans, C
 use Rattle.lexer_core.specs.declared.lexer.TheConstants.{MAX_LINE}
 use Rattle.lines_core.specs.declared.line.TheConstants.{KEPT_BYTES}
 use Rattle.lines_core.specs.Lines.{Cut, NoFeed, whole_lines}
-use Rattle.lines_core.specs.Serving.{AnswersAll, WritesAnswer, BreaksAnswer, AnswersPiece, BreaksPiece, AnswersInput, BreaksInput, HasServed}
+use Rattle.lines_core.specs.Serving.{AnswersAll, WritesAnswer, BreaksAnswer, AnswersPiece, BreaksPiece, AnswersInput, BreaksInput, HasServed, WasOpen}
 use Rattle.lines_core.proofs.LineLemmas.{Cut-append, lines-Cut, whole_lines-Cut, last_line}
 use Rattle.lines_core.proofs.AnswerLemmas.{AnswersAll-append, AnswersAll-one, R-kept}
 use Rattle.lines_core.proofs.FeedLemmas.{Feeds-none, WritesFront-after, no_rest}
@@ -53,6 +53,7 @@ module _ {X : Type 0} (R : X → List ℕ → List ℕ → X → Type 0)
       → (s : HasServed R kept start world unread left0 left1 taken0 taken1) → Keeps left1 left2 → AnswersInput R whole_lines start world left0 left2 taken0 taken1 s.bytes
   Run-whole kept start world unread left0 left1 left2 taken0 taken1 s keeps = record {
     text = s.fed.text;
+    bounded = omega (arith, s.count);
     answered = subst (λ ls. AnswersAll R start ls s.fed.text world) (sym (whole_lines-Cut s.bytes s.fed.parts s.fed.now s.fed.cut)) s.fed.answered;
     read = Consumes-kept left0 left1 left2 s.bytes s.read keeps;
     wrote = s.fed.wrote;
@@ -74,6 +75,7 @@ module _ {X : Type 0} (R : X → List ℕ → List ℕ → X → Type 0)
       → AnswersInput R lines start new left0 left2 taken0 taken2 s.bytes
   Run-last kept start mid new unread left0 left1 left2 taken0 taken1 taken2 s read some last = record {
     text = s.fed.text ++ last.text;
+    bounded = omega (arith, s.count);
     answered = all_answers s.bytes start mid new s.fed.text last.text s.fed.parts s.fed.now kept s.fed.cut s.fed.kept_is some s.fed.answered last.answered;
     read = at_end left0 left1 left2 s.bytes s.read read;
     wrote = Appends-trans taken0 taken1 taken2 s.fed.text last.text s.fed.wrote last.wrote;
@@ -84,6 +86,7 @@ module _ {X : Type 0} (R : X → List ℕ → List ℕ → X → Type 0)
       → AnswersInput R lines start new left0 left2 taken0 taken2 s.bytes
   Run-nothing kept start mid new unread left0 left1 left2 taken0 taken1 taken2 s read none same keeps = record {
     text = s.fed.text;
+    bounded = omega (arith, s.count);
     answered = subst (λ w. AnswersAll R start (lines s.bytes) s.fed.text w) (sym same)
         (subst (λ ls. AnswersAll R start ls s.fed.text mid)
         (sym (lines-Cut s.bytes s.fed.parts s.fed.now s.fed.cut ∙ ap (λ r. map strip_carriage_return s.fed.parts ++ last_line r) (no_rest s.fed.now kept s.fed.kept_is none) ∙ append-nil (map strip_carriage_return s.fed.parts)))
@@ -91,6 +94,41 @@ module _ {X : Type 0} (R : X → List ℕ → List ℕ → X → Type 0)
     read = at_end left0 left1 left2 s.bytes s.read read;
     wrote = Appends-kept taken0 taken1 taken2 s.fed.text s.fed.wrote keeps;
   }
+
+  -- the last line is answered, if it has a byte
+  last_answers : (mid new : X) (more : List ℕ) (now kept : List ℕ) → kept ≡ take KEPT_BYTES now → 0 < length kept → R mid kept more new → AnswersAll R mid (last_line now) more new
+  last_answers mid new more [] kept e some q = let none : length kept ≡ 0 = ap length e in absurd (omega arith)
+  last_answers mid new more (b ∷ bs) kept e some q =
+      AnswersAll-one R mid new (b ∷ bs) more (R-kept R too_long (b ∷ bs) mid new more (subst (λ x. R mid x more new) e q))
+
+  -- the server was not over behind the whole lines
+  was_open : (over : X → Bool) (kept : List ℕ) (start mid new : X) (more : List ℕ) (unread : ℕ) (left0 left1 taken0 taken1 : Option (List ℕ))
+      → (s : HasServed R kept start mid unread left0 left1 taken0 taken1) → (over start ≡ false → over mid ≡ false) → AnswersAll R mid (last_line s.fed.now) more new
+      → WasOpen R over start new s.bytes
+  was_open over kept start mid new more unread left0 left1 taken0 taken1 s h q =
+      let whole = whole_lines-Cut s.bytes s.fed.parts s.fed.now s.fed.cut in record {
+        between = mid;
+        last = last_line s.fed.now;
+        first_text = s.fed.text;
+        last_text = more;
+        lines_are = lines-Cut s.bytes s.fed.parts s.fed.now s.fed.cut ∙ ap (λ ls. ls ++ last_line s.fed.now) (sym whole);
+        answered = subst (λ ls. AnswersAll R start ls s.fed.text mid) (sym whole) s.fed.answered;
+        open_then = h;
+        answered_last = q;
+      }
+
+  pub Open-last : (over : X → Bool) (kept : List ℕ) (start mid new : X) (unread : ℕ) (left0 left1 taken0 taken1 taken2 : Option (List ℕ))
+      → (s : HasServed R kept start mid unread left0 left1 taken0 taken1) → (over start ≡ false → over mid ≡ false) → 0 < length kept → WritesAnswer R kept mid new taken1 taken2
+      → WasOpen R over start new s.bytes
+  Open-last over kept start mid new unread left0 left1 taken0 taken1 taken2 s h some last =
+      was_open over kept start mid new last.text unread left0 left1 taken0 taken1 s h (last_answers mid new last.text s.fed.now kept s.fed.kept_is some last.answered)
+
+  pub Open-nothing : (over : X → Bool) (kept : List ℕ) (start mid new : X) (unread : ℕ) (left0 left1 taken0 taken1 : Option (List ℕ))
+      → (s : HasServed R kept start mid unread left0 left1 taken0 taken1) → (over start ≡ false → over mid ≡ false) → length kept ≡ 0 → new ≡ mid
+      → WasOpen R over start new s.bytes
+  Open-nothing over kept start mid new unread left0 left1 taken0 taken1 s h none same =
+      was_open over kept start mid new [] unread left0 left1 taken0 taken1 s h
+      (subst (λ now. AnswersAll R mid (last_line now) [] new) (sym (no_rest s.fed.now kept s.fed.kept_is none)) (refl, same))
 
   -- The writer failed at the last line.
   pub BrokenRun-last : (kept : List ℕ) (start mid new : X) (unread : ℕ) (left0 left1 left2 taken0 taken1 taken2 : Option (List ℕ))

@@ -2,7 +2,7 @@
 -- `answers old line text new`: from the state old, text may be written for the line, and new is the
 -- next state. A reader has `left` bytes at first and `left'` at last, a writer has `taken` and `taken'`,
 -- where they are known.
-use Rattle.std.specs.Prelude.{◌≡◌, ◌⊎◌, Bool, true, ◌+◌, ◌^◌, ℕ, List, [], ◌∷◌, ◌++◌, length, map, take, Option, Result, Ok, Err}
+use Rattle.std.specs.Prelude.{◌≡◌, ◌⊎◌, Bool, true, false, ◌+◌, ◌^◌, ◌≤◌, ℕ, List, [], ◌∷◌, ◌++◌, length, map, take, Option, Result, Ok, Err}
 use Rattle.std.specs.Str.Lines.{lines, strip_carriage_return}
 use Rattle.std.specs.Io.KnownBytes.{Appends, Consumes, Keeps, IsAtEnd}
 use Rattle.base_core.specs.Streams.{WritesFront}
@@ -62,9 +62,23 @@ pub record AnswersInput {X : Type 0} (answers : X → List ℕ → List ℕ → 
     (lines_of : List ℕ → List (List ℕ)) (old new : X)
     (left left' taken taken' : Option (List ℕ)) (bytes : List ℕ) : Type 0 where
   pub text : List ℕ
+  pub bounded : length bytes ≤ 2 ^ 32
   pub answered : AnswersAll answers old (lines_of bytes) text new
   pub read : Consumes left left' bytes
   pub wrote : Appends taken taken' text
+
+-- The server was not over when the end of these bytes was looked for: not behind the lines whose line
+-- feed had come. Only a last line without one can have ended it.
+pub record WasOpen {X : Type 0} (answers : X → List ℕ → List ℕ → X → Type 0) (over : X → Bool)
+    (old new : X) (bytes : List ℕ) : Type 0 where
+  pub between : X
+  pub last : List (List ℕ)
+  pub first_text : List ℕ
+  pub last_text : List ℕ
+  pub lines_are : lines bytes ≡ whole_lines bytes ++ last
+  pub answered : AnswersAll answers old (whole_lines bytes) first_text between
+  pub open_then : over old ≡ false → over between ≡ false
+  pub answered_last : AnswersAll answers between last last_text new
 
 -- The writer failed: what was written is a front of the answers to the lines of a front of what was
 -- read. That ends with a line: each of its lines has its line feed, or it is the whole input.
@@ -82,10 +96,13 @@ pub record BreaksInput {X : Type 0} (answers : X → List ℕ → List ℕ → X
 abbrev pub Ends : {X : Type 0} → (X → List ℕ → List ℕ → X → Type 0) → (X → Bool)
     → Result (Unit {0}) SessionFault → X → X
     → Option (List ℕ) → Option (List ℕ) → Option (List ℕ) → Option (List ℕ) → Type 0
--- all lines are answered at the end of the input, or the server was over before it
+-- all lines are answered at the end of the input, before which the server was not over; or it was
+-- over at the end of some line before that
 Ends answers over (Ok x) old new left left' taken taken' =
     (bytes : List ℕ)
-    × ((AnswersInput answers lines old new left left' taken taken' bytes × IsAtEnd left')
+    × ((AnswersInput answers lines old new left left' taken taken' bytes
+    × IsAtEnd left'
+    × WasOpen answers over old new bytes)
     ⊎ (AnswersInput answers whole_lines old new left left' taken taken' bytes × (over new ≡ true)))
 -- the whole lines of what was read are answered
 Ends answers over (Err faults.Read) old new left left' taken taken' =

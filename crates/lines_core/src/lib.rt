@@ -15,6 +15,9 @@
 //! serve(alloc, &mut server, &mut reader, &mut writer)?;             // a, then b: a answered, then b
 //! ```
 //!
+//! [`fault_text`] and [`fault_name`] say what is told of a fault that ended the answering, [`audit_end`]
+//! how an audit ends, and [`give_up`] ends a process that could not go on.
+//!
 //! # Mechanism
 //!
 //! The input comes in pieces of at most 65,536 bytes, which are cut at line feeds. What is kept between two
@@ -29,7 +32,9 @@
 //! piece is flushed at its end.
 #![tactic(auto)]
 
+mod ending;
 mod line;
 mod serving;
 
+pub use ending::{NO_MEMORY, audit_end, fault_name, fault_text, give_up};
 pub use serving::{LineServer, MOST_BYTES, SessionFault, serve};

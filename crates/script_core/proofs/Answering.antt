@@ -18,7 +18,7 @@ use Rattle.system_core.proofs.Judged.{change-responds}
 use Rattle.system_core.specs.declared.machine.event.Reply.TheVariants as replies
 use Rattle.system_core.specs.declared.machine.event.Event.TheVariants as events
 use Rattle.script_core.specs.Script.{is_refused, Answers, Asks, AnswersLine, faulty, said, unread, Follows, stepped, gave_up}
-use Rattle.script_core.specs.Saying.{ComesTo, TellsSaid, Advanced, TellsAdvanced, TellsBoth, TellsThen, TellsAsked}
+use Rattle.script_core.specs.Replying.{ComesTo, TellsSaid, Advanced, TellsAdvanced, TellsBoth, TellsThen, TellsAsked}
 use Rattle.script_core.specs.declared.scripts.answer.Said.{Said}
 use Rattle.script_core.specs.declared.scripts.answer.Said.TheVariants as says
 

@@ -1,11 +1,12 @@
--- Answers in full: those in which no want of memory is told.
+-- Answers in full: those in which nothing is told of memory.
 use Rattle.std.specs.Prelude.{ℕ, ◌≡◌, Bool, true, false, List, [], ◌++◌}
 use Rattle.std.specs.List.{concat}
 use Rattle.base_core.specs.declared.name.User.{User}
+use Rattle.base_core.specs.declared.value.Moment.{Moment}
 use Rattle.base_core.specs.declared.lack.Lack.TheVariants as lacks
 use Rattle.lexer_core.specs.declared.fault.Code.{Code}
 use Rattle.reader_core.specs.declared.statement.Statement.{Statement}
-use Rattle.reply_core.specs.Texts.{reply_text, fault_text}
+use Rattle.reply_core.specs.Texts.{reply_text, fault_text, unread_text, lost_text, cut_text}
 use Rattle.system_core.specs.World.{World}
 use Rattle.system_core.specs.Step.{Step}
 use Rattle.script_core.specs.Script.{Asks, IsFaulty, is_refused}
@@ -40,3 +41,20 @@ pub record AnswersInFull (old : World) (line text : List ℕ) (new : World) : Ty
   pub answered : AnswersLineInFull old line text mid
   pub stepped : Step mid events.Step reply new
   pub silent : is_refused reply ≡ false
+
+-- a line that tells that memory was refused: to a statement, to the reading of a line, to a list, to an
+-- export's last records, or to the step of a checkpoint, which is given up
+pub data IsMemoryLine : List ℕ → Type 0 where
+  refused : (at : Moment) → IsMemoryLine (reply_text (replies.Refused at lacks.NoMemory))
+  unread : IsMemoryLine unread_text
+  lost : IsMemoryLine lost_text
+  cut : IsMemoryLine cut_text
+  given_up : (number : ℕ) → IsMemoryLine (reply_text (replies.Abandoned number))
+
+-- such a line stands in the text
+pub record TellsOfMemory (text : List ℕ) : Type 0 where
+  pub front : List ℕ
+  pub line : List ℕ
+  pub behind : List ℕ
+  pub text_is : text ≡ front ++ (line ++ behind)
+  pub tells : IsMemoryLine line

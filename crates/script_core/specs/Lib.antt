@@ -1,5 +1,5 @@
 pub mod Script
-pub mod Saying
+pub mod Replying
 pub mod InFull
 pub use Rattle.lines_core.specs.Lines
 pub use Rattle.lines_core.specs.Serving
@@ -14,6 +14,9 @@ pub use Rattle.monitor_core.specs.Atoms
 pub use Rattle.monitor_core.specs.Verdict
 pub use Rattle.grants_core.specs.Content
 pub use Rattle.grants_core.specs.History
+pub use Rattle.reader_core.specs.Sentences
+pub use Rattle.reader_core.specs.Saying
+pub use Rattle.reader_core.specs.Forming
 pub use Rattle.reader_core.specs.Language
 pub use Rattle.capture_core.specs.Image
 pub use Rattle.catalogue_core.specs.Kept

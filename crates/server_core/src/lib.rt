@@ -1,23 +1,25 @@
-//! Sessions over sockets: threads that serve them, and one that takes the steps of checkpoints.
+//! Sessions over sockets: the door at which they come in, the log of their faults, and the worker that
+//! serves them.
 //!
-//! [`serve_on`] builds a desk and shares it among threads, each with a pass of its own: as many
-//! workers as are asked for, which take the sessions that a listener gives and serve them one after
-//! another, and the checkpointer. What a session writes, and what it does to the desk, is the
-//! contract of [`serve_session`](session_core::serve_session). When all sessions have ended, it
-//! closes the desk and answers their number. Each pass comes back to the desk that it is of, or
-//! `close` would not take it.
+//! A server shares one desk among threads, each with a pass of its own. [`work`] is what a worker's
+//! thread does: it takes sessions from the [`Door`] one after another, and serves each through its pass.
+//! Its contract says that sessions went through the pass, and that nothing else was done through it
+//! (`specs/Sessions.antt`); what a session writes, and what it does to the desk, is the contract of
+//! [`serve_session`](session_core::serve_session). There too stands what a whole server leaves, of which
+//! the program's threads make use.
 //!
 //! ```text
-//! let listener = TcpListener::bind(&rt, ("127.0.0.1", 7878))?;
-//! serve_on(&rt, alloc, &listener, 4, 100, 16, &mut err)?;        // 100
+//! let door = Mutex::new(Door::new(100));
+//! let pass = work(&rt, alloc, &desk, pass, &listener, &door, &log);
+//! door.into_inner().served(100)?;                                // 100
 //! ```
 //!
 //! # Mechanism
 //!
-//! The listener stands behind a lock, and who has the lock accepts the next session. So no session
-//! waits in the program, none is lost on the way to a worker, and the program has at most one
-//! socket for each worker. The lock is held until all threads have started: where one can't be
-//! started, no session is taken.
+//! The door stands behind a lock, and who has the lock accepts the next session. So no session waits in
+//! the program, none is lost on the way to a worker, and the program has at most one socket for each
+//! worker. A server keeps the lock until all threads have started: where one can't be started, no session
+//! is taken.
 //!
 //! A session that has ended is shut for writing and then read for a while, since to close a socket
 //! with unread bytes would take the last replies from the client. A fault of a session ends that
@@ -25,14 +27,13 @@
 //!
 //! # Cost
 //!
-//! A thread for each worker and one for the checkpointer, a socket and two buffers of 65,536 bytes
-//! for each session that runs.
+//! A socket and two buffers of 65,536 bytes for each session that runs.
 #![tactic(auto)]
 
 mod door;
 mod log;
-mod serving;
 mod worker;
 
-pub use door::ServeFault;
-pub use serving::serve_on;
+pub use door::{Door, ServeFault};
+pub use log::{Log, SharedLog};
+pub use worker::work;

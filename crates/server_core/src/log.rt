@@ -1,16 +1,7 @@
 //! Faults of sessions, told by any thread.
-use lines_core::SessionFault;
+use lines_core::{SessionFault, fault_name};
 use std::io::Write;
 use std::sync::{Mutex, Wait};
-
-fn fault_name(fault: SessionFault) -> &'static str {
-    match fault {
-        SessionFault::Read => "read",
-        SessionFault::Write => "write",
-        SessionFault::Bound => "bound",
-        SessionFault::NoMemory => "no memory",
-    }
-}
 
 /// Where faults of sessions are told. It is a trait so that no closure of a thread holds a `&mut`:
 /// of one that does, no caller learns what it ensures.

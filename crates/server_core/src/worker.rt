@@ -1,6 +1,6 @@
 //! A thread that serves sessions.
 ghost use Rattle.std.specs.Prelude.{◌≡◌, Some};
-ghost use Rattle.server_core.specs.Own.{IsOf};
+ghost use Rattle.server_core.specs.Sessions.{IsOf, Attends, Attended};
 
 use crate::door::Door;
 use crate::log::Log;
@@ -40,7 +40,7 @@ fn let_go(stream: &TcpStream) {
     }
 }
 
-/// Serves one session to its end.
+/// Serves one session to its end, through the pass and through nothing else.
 fn attend<R: Wait>(
     rt: &R,
     alloc: Global,
@@ -49,7 +49,7 @@ fn attend<R: Wait>(
     stream: &TcpStream,
 ) -> Result<u64, SessionFault>
     requires { IsOf desk.now pass.old }
-    ensures { IsOf desk.now pass.new }
+    ensures { Attends desk.now result pass.old pass.new }
 {
     let _ = stream.set_nodelay(true);
     let Ok(buffered) = BufWriter::with_capacity(alloc, OUTPUT_BYTES, stream) else {
@@ -62,7 +62,8 @@ fn attend<R: Wait>(
     served
 }
 
-/// Takes sessions one by one and serves them, until all are taken or one can't be.
+/// Takes sessions one by one and serves each through the pass, until all are taken or one can't be.
+/// Nothing else is done through it.
 pub fn work<R: Wait, L: Log>(
     rt: &R,
     alloc: Global,
@@ -73,7 +74,7 @@ pub fn work<R: Wait, L: Log>(
     log: &L,
 ) -> Pass
     requires { IsOf desk.now pass }
-    ensures { IsOf desk.now result }
+    ensures { Attended desk.now pass result }
 {
     let mut pass = pass;
     for _ in rt.forever() {

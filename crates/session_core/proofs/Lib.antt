@@ -1,3 +1,4 @@
 pub mod Pieces
 pub mod Growing
 pub mod Sessions
+pub mod Checked

@@ -4,7 +4,7 @@ use Rattle.std.specs.Prelude.{Result, Ok, Err}
 use Rattle.std.specs.Str.Lines.{lines}
 use Rattle.base_core.specs.declared.name.User.{User}
 use Rattle.lines_core.specs.Lines.{whole_lines}
-use Rattle.lines_core.specs.Serving.{AnswersAll, AnswersInput, BreaksInput, Ends}
+use Rattle.lines_core.specs.Serving.{AnswersAll, AnswersInput, BreaksInput, WasOpen, Ends}
 use Rattle.lines_core.specs.declared.serving.SessionFault.{SessionFault}
 use Rattle.lines_core.specs.declared.serving.SessionFault.TheVariants as faults
 use Rattle.turnstile.specs.Passes.{Lock, Held, IsSamePass}
@@ -27,7 +27,7 @@ module _ {X Y : Type 0} (R : X → List ℕ → List ℕ → X → Type 0) (S : 
       → Inv x → AnswersInput R lines_of x y left left' taken taken' bytes → AnswersInput S lines_of (f x) (f y) left left' taken taken' bytes × Inv y
   input-seen lines_of x y left left' taken taken' bytes i r =
       let all = all-seen x y (lines_of bytes) r.text i r.answered in
-      (record { text = r.text; answered = all.0; read = r.read; wrote = r.wrote }, all.1)
+      (record { text = r.text; bounded = r.bounded; answered = all.0; read = r.read; wrote = r.wrote }, all.1)
 
   pub broken-seen : (x y : X) (left left' taken taken' : Option (List ℕ))
       → Inv x → BreaksInput R x y left left' taken taken' → BreaksInput S (f x) (f y) left left' taken taken' × Inv y
@@ -36,10 +36,24 @@ module _ {X Y : Type 0} (R : X → List ℕ → List ℕ → X → Type 0) (S : 
       (record { done = r.done; undone = r.undone; text = r.text; line_end = r.line_end; answered = all.0; read = r.read; wrote = r.wrote }, all.1)
 
   module _ (over : X → Bool) (over' : Y → Bool) (overs : (x : X) → over' (f x) ≡ over x) where
+    open-seen : (x y : X) (bytes : List ℕ) → Inv x → WasOpen R over x y bytes → WasOpen S over' (f x) (f y) bytes
+    open-seen x y bytes i w =
+        let first = all-seen x w.between (whole_lines bytes) w.first_text i w.answered in
+        let behind = all-seen w.between y w.last w.last_text first.1 w.answered_last in record {
+          between = f w.between;
+          last = w.last;
+          first_text = w.first_text;
+          last_text = w.last_text;
+          lines_are = w.lines_are;
+          answered = first.0;
+          open_then = λ h. overs w.between ∙ w.open_then (sym (overs x) ∙ h);
+          answered_last = behind.0;
+        }
+
     pub ends-seen : (r : Result (Unit {0}) SessionFault) (x y : X) (left left' taken taken' : Option (List ℕ))
         → Inv x → Ends R over r x y left left' taken taken' → Ends S over' r (f x) (f y) left left' taken taken' × Inv y
     ends-seen (Ok u) x y left left' taken taken' i (bytes, inl h) =
-        let run = input-seen lines x y left left' taken taken' bytes i h.0 in ((bytes, inl (run.0, h.1)), run.1)
+        let run = input-seen lines x y left left' taken taken' bytes i h.0 in ((bytes, inl (run.0, h.1, open-seen x y bytes i h.2)), run.1)
     ends-seen (Ok u) x y left left' taken taken' i (bytes, inr h) =
         let run = input-seen whole_lines x y left left' taken taken' bytes i h.0 in ((bytes, inr (run.0, overs y ∙ h.1)), run.1)
     ends-seen (Err faults.Read) x y left left' taken taken' i (bytes, h) =

@@ -1,11 +1,15 @@
 pub mod Greeting
 pub mod Gains
+pub mod Checking
 pub mod Session
 pub mod TooLong
 pub use Rattle.base_core.specs.Words
 pub use Rattle.base_core.specs.Streams
 pub use Rattle.lexer_core.specs.Lexing
 pub use Rattle.lexer_core.specs.Codes
+pub use Rattle.reader_core.specs.Sentences
+pub use Rattle.reader_core.specs.Saying
+pub use Rattle.reader_core.specs.Forming
 pub use Rattle.reader_core.specs.Language
 pub use Rattle.lines_core.specs.Lines
 pub use Rattle.lines_core.specs.Serving

@@ -1,5 +1,6 @@
 //! The checkpointer.
-ghost use Rattle.std.specs.Prelude.{◌≡◌, Some};
+ghost use Rattle.std.specs.Prelude.{◌≡◌, ◌^◌, Some, OnErr};
+ghost use Rattle.session_core.specs.Checking.{Looks, Checks};
 ghost use Rattle.session_core.specs.Gains.{Watches};
 
 use base_core::Lack;
@@ -15,24 +16,25 @@ use turnstile::Worn;
 // How long it sleeps where no checkpoint is active.
 const IDLE_MILLIS: u64 = 2;
 
-/// A step of the active checkpoint, which is given up where the step was refused memory.
+/// A step of the active checkpoint, which is given up exactly where the step was refused memory.
 fn step<R: Wait>(rt: &R, desk: &Desk, pass: &mut Pass) -> Reply
     requires { pass.old.lock ≡ Some desk.now }
-    ensures { Watches pass.old pass.new }
+    ensures { Looks desk.now result pass.old pass.new }
 {
     match desk.checkpoint_turn(rt, pass) {
-        Reply::Refused {
-            lack: Lack::NoMemory,
-            ..
-        } => desk.abandon_turn(rt, pass),
+        Reply::Refused { at, lack } => match lack {
+            Lack::NoMemory => desk.abandon_turn(rt, pass),
+            lack => Reply::Refused { at, lack },
+        },
         reply => reply,
     }
 }
 
 /// Takes steps of the active checkpoint, each in a turn of the pass, until the flag is set. A
-/// checkpoint whose step was refused memory is given up. Where none is active it sleeps some
-/// milliseconds before it looks again; between two steps it calls the gate with the number of
-/// records that are left. `Worn` where all turns are drawn.
+/// checkpoint is given up exactly where its step was refused memory, in the turn of the pass behind
+/// that. The pass makes no entry. Where no checkpoint is active it sleeps two milliseconds before it
+/// looks again; between two steps it calls the gate with the number of records that are left. `Worn`
+/// where all turns are drawn.
 pub fn checkpointer<R: Wait + Clock, G: Gate>(
     rt: &R,
     desk: &Desk,
@@ -41,7 +43,9 @@ pub fn checkpointer<R: Wait + Clock, G: Gate>(
     stop: &AtomicBool,
 ) -> Result<(), Worn>
     requires { pass.old.lock ≡ Some desk.now }
-    ensures { Watches pass.old pass.new }
+    ensures checks { Checks desk.now pass.old pass.new }
+    ensures watches { Watches pass.old pass.new }
+    ensures worn { OnErr result (pass.new.drawn ≡ 2 ^ 62) }
 {
     for _ in rt.forever() {
         if stop.load(Ordering::SeqCst) {

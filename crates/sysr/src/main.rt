@@ -6,19 +6,22 @@
 //! itself could not go on, with the reason on standard error; 2 where the command line was refused;
 //! 3 where an audit failed. Help and the version go to standard output, with status 0.
 //!
-//! What is written for what was read is the contract of [`script`], and what the command line may
-//! say is that of [`options`]; this file joins the two with the streams of the process.
+//! What is written for what was read is the contract of [`script`]; what the command line may say is
+//! that of [`options`]; and what the threads of a server do to its core is that of
+//! [`serve_on`](serving::serve_on). This file joins them with the streams of the process.
 #![tactic(auto)]
 
 ghost use Rattle.std.specs.Prelude.{◌≡◌, ◌<◌, ◌≤◌, false};
 
+mod command_line;
+mod listening;
 mod serving;
 
 use base_core::{Broken, Sink, StdSink, StdSource, write_all};
-use command_core::{CommandLine, NO_MEMORY, audit_end, fault_text, give_up, options, refuse};
-use lines_core::SessionFault;
+use command_line::{CommandLine, options, refuse};
+use lines_core::{NO_MEMORY, SessionFault, audit_end, fault_text, give_up};
+use listening::serve;
 use script_core::script;
-use serving::serve;
 use std::io::BufWriter;
 use std::mem::forget;
 use std::process::ExitCode;

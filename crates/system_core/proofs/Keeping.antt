@@ -153,7 +153,7 @@ other_name tables name other here none = false_from_ne_true _ (λ same.
 pub contents-more : (journal : List Entry) (e : Entry) → contents (journal ++ e ∷ []) ≡ tables_with (contents journal) e
 contents-more journal e = fold-append tables_with [] journal (e ∷ [])
 
-lawful-more : (l : Limits) (before es : List Entry) (e : Entry) → IsLawfulFrom l before es → verdict_at l (before ++ es) e.user e.statement ≡ Ok tt → is_change e.statement ≡ true → IsLawfulFrom l before (es ++ e ∷ [])
+pub lawful-more : (l : Limits) (before es : List Entry) (e : Entry) → IsLawfulFrom l before es → verdict_at l (before ++ es) e.user e.statement ≡ Ok tt → is_change e.statement ≡ true → IsLawfulFrom l before (es ++ e ∷ [])
 lawful-more l before [] e h ok change =
     let P : List Entry → Type 0 = λ k. verdict_at l k e.user e.statement ≡ Ok tt in
     (change, subst P (append-nil before) ok, tt)

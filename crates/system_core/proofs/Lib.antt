@@ -17,3 +17,4 @@ pub mod Replaying
 mod Running
 pub mod Entered
 pub mod Unworn
+pub mod Lawful

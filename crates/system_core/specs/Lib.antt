@@ -18,6 +18,9 @@ pub use Rattle.monitor_core.specs.Verdict
 pub use Rattle.grants_core.specs.Owners
 pub use Rattle.grants_core.specs.Content
 pub use Rattle.grants_core.specs.History
+pub use Rattle.reader_core.specs.Sentences
+pub use Rattle.reader_core.specs.Saying
+pub use Rattle.reader_core.specs.Forming
 pub use Rattle.reader_core.specs.Language
 pub use Rattle.capture_core.specs.Image
 pub use Rattle.catalogue_core.specs.Kept

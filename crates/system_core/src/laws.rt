@@ -13,7 +13,7 @@ ghost use Rattle.tables_core.specs.Contents.{table_of};
 ghost use Rattle.tables_core.specs.Fitting.{RowsFit};
 ghost use Rattle.grants_core.specs.Owners.{owner_of};
 ghost use Rattle.system_core.specs.Journal.{contents, rights_at, IsLawful};
-ghost use Rattle.system_core.specs.World.{World};
+ghost use Rattle.system_core.specs.World.{World, IsLawfulWorld};
 ghost use Rattle.system_core.specs.Judging.{verdict_of, judged_at};
 ghost use Rattle.system_core.specs.Step.{lack_reply, Step};
 ghost use Rattle.system_core.specs.Entering.{entered, Enters};
@@ -41,6 +41,14 @@ pub fn steps_enter_what_was_done()
     ensures { (old new : World) (event : Event) (reply : Reply)
         → Step old event reply new
         → Enters (entered event reply) old new }
+{}
+
+/// A step from a lawful world leads to a lawful world.
+pub fn steps_stay_lawful()
+    ensures { (old new : World) (event : Event) (reply : Reply)
+        → IsLawfulWorld old
+        → Step old event reply new
+        → IsLawfulWorld new }
 {}
 
 /// No step answers that turns are worn: that answer is a turn lock's.

@@ -14,7 +14,7 @@
 //! [`note`](Turnstile::note) carries what one pass has seen to another, which
 //! [`meet`](Turnstile::meet)s it. With all its passes, and only with them,
 //! [`close`](Turnstile::close) gives the object: its log begins with what each pass has seen, its
-//! entries are just those that the passes made, and no turns were drawn but theirs.
+//! entries are just those that the passes made, and no pass knows of more turns than they drew.
 //!
 //! ```text
 //! let (turnstile, mut passes) = Turnstile::build(alloc, Tally::new(alloc, 100), 2)?;
@@ -32,9 +32,9 @@
 //! **How it works.** There are two words and one slot. The ticket word counts the turns drawn, the
 //! served word says which turn is served, and the slot has the object. A turn raises the ticket
 //! word by one, and what it found there is its ticket. It reads the served word until that is its
-//! ticket. Meanwhile one whose turn is at most two away looks for some microseconds, about as long
-//! as a wake takes, and then sleeps, as all others do at once, each at its bell, one of a row of
-//! words that mean nothing to the rule. Then it takes the object out of the slot, lets it act, gives
+//! ticket. A thread at most two turns away spins for some microseconds, about as long as a wake
+//! takes, before it sleeps; any other sleeps at once. Each sleeps on its own bell. Bells carry no
+//! meaning in the proof. Then it takes the object out of the slot, lets it act, gives
 //! it back, raises the served word by one, and rings the bells of the next three tickets, so that
 //! each is awake by the time that it is near its turn. The stretch between taking the object and
 //! giving it back is the event, and its entry
@@ -47,7 +47,8 @@
 //!
 //! **Cost.** Only making a turnstile takes memory, beside what the object's acts take. A turn that
 //! nobody contends costs six atomic steps and two moves of the object, and no call of the system. A
-//! turn that ends makes one for each of the next two in line that may sleep, and wakes nobody else.
+//! turn that ends makes one for each of the next three tickets whose thread may sleep, and wakes
+//! nobody else.
 //! A note costs one atomic step, a meeting two, and closing one for each pass.
 //!
 //! **Not promised**: that a turn comes or ends, how long it waits, fairness, or any order between

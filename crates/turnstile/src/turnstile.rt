@@ -57,14 +57,15 @@ impl<O: Object> Model for Turnstile<O> {
 
 impl<O: Object> Turnstile<O> {
     /// A turnstile with `count` passes, from 1 to 64, whose turns are counted from 0. The object has an
-    /// empty log. The passes are numbered from 0 and have seen nothing. `NoMemory` where a request for
-    /// memory was refused; the object is then dropped.
+    /// empty log, and 0 as its mark. The passes are numbered from 0 and have seen nothing. `NoMemory`
+    /// where a request for memory was refused; the object is then dropped.
     pub fn build(
         alloc: Global,
         object: O,
         count: usize,
     ) -> Result<(Turnstile<O>, Vec<Pass<O>>), NoMemory>
         requires empty { O.log object ≡ [] }
+        requires unmarked { O.mark object ≡ 0 }
         requires counts { (0 < count) × (count ≤ 64) }
         ensures turnstile { IfOk result
             (λ b. (b.0.count ≡ count) × (b.0.start ≡ 0) × (b.0.fixed ≡ O.fixed object)) }
@@ -81,6 +82,7 @@ impl<O: Object> Turnstile<O> {
         start: u64,
     ) -> Result<(Turnstile<O>, Vec<Pass<O>>), NoMemory>
         requires empty { O.log object ≡ [] }
+        requires unmarked { O.mark object ≡ 0 }
         requires counts { (0 < count) × (count ≤ 64) }
         requires start { start ≤ 2 ^ 62 }
         ensures turnstile { IfOk result

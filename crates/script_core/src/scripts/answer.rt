@@ -5,7 +5,7 @@ ghost use Rattle.monitor_core.specs.Verdict.{is_change};
 ghost use Rattle.system_core.specs.Journal.{verdict_at};
 ghost use Rattle.system_core.specs.Step.{change_reply};
 ghost use Rattle.script_core.specs.Script.{Answers, is_refused};
-ghost use Rattle.script_core.specs.Saying.{TellsAsked, TellsSaid, TellsThen};
+ghost use Rattle.script_core.specs.Replying.{TellsAsked, TellsSaid, TellsThen};
 
 use crate::scripts::address::addressed;
 use base_core::{Broken, Moment, NoMemory, Sink};

@@ -77,10 +77,11 @@ pub fn script<S: Source, W: Sink>(
     ensures ends { EndsScript chunk result
         (S.left reader.old) (S.left reader.new) (W.taken writer.old) (W.taken writer.new) }
 {
-    let Ok(system) = System::with_limits(alloc, chunk, Limits::full()) else {
+    let limits = Limits::full();
+    let Ok(buffer) = ReplyBuffer::new(alloc) else {
         return Err(SessionFault::NoMemory);
     };
-    let Ok(buffer) = ReplyBuffer::new(alloc) else {
+    let Ok(system) = System::with_limits(alloc, chunk, limits) else {
         return Err(SessionFault::NoMemory);
     };
     let mut server = ScriptServer {
@@ -91,6 +92,9 @@ pub fn script<S: Source, W: Sink>(
     };
     match serve(alloc, &mut server, reader, writer) {
         Ok(()) => Ok(server.system),
-        Err(fault) => Err(fault),
+        Err(fault) => {
+            server.system.free();
+            Err(fault)
+        }
     }
 }

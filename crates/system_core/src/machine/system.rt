@@ -340,6 +340,10 @@ impl System {
         }
     }
 
+    /// Frees all that the core holds. A crate that let one go by itself would prove its destructor
+    /// once more.
+    pub fn free(self) {}
+
     /// One step after another. Where there is no memory to note a reply, the events before it were
     /// done, with these replies, and no later one.
     pub fn run(&mut self, events: Vec<Event>) -> Result<Vec<Reply>, (NoMemory, Vec<Reply>)>

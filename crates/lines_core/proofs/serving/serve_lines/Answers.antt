@@ -4,8 +4,8 @@ use Rattle.std.specs.Io.KnownBytes.{Consumes}
 use Rattle.std.proofs.KnownBytes.{Keeps-refl}
 use Rattle.std.proofs.lemmas.List.{length-take-le}
 use Rattle.std.proofs.lemmas.Bool.{cases_lt}
-use Rattle.lines_core.specs.Serving.{AnswersInput, HasServed}
-use Rattle.lines_core.proofs.ServeLemmas.{Serving-none, Serving-more, Run-whole, Run-last, Run-nothing, BrokenRun-last, BrokenRun-piece}
+use Rattle.lines_core.specs.Serving.{AnswersInput, WasOpen, HasServed}
+use Rattle.lines_core.proofs.ServeLemmas.{Serving-none, Serving-more, Run-whole, Run-last, Run-nothing, Open-last, Open-nothing, BrokenRun-last, BrokenRun-piece}
 use Rattle.lines_core.proofs.serving.serve_lines.Goals as goal
 
 pub returns-in_default-clause-ends : goal.returns-in_default-clause-ends
@@ -35,6 +35,14 @@ returns-in-Ok-finish-clause-ends g c =
     let old = c.loop-unread.server in
     let new = c.finish.new.server in
     let read = nothing left1 left2 c.in-Ok.n c.read_up_to.new.buffer c.if-n-eq0.true c.in-Ok.ensures.ok in
+    let over = g.D.LineServer.over in
+    let h = c.loop-unread.invariant.not_over in
+    let was_open : WasOpen R over start new s.bytes =
+    ⊎_elim
+    (λ some. Open-last R law over line start old new c.loop-unread.unread left0 left1 taken0 taken1 taken2 s h some (c.in-Ok-finish.ensures.ok some))
+    (λ few. let none : length line ≡ 0 = omega arith in
+    Open-nothing R law over line start old new c.loop-unread.unread left0 left1 taken0 taken1 s h none (c.in-Ok-finish.ensures.empty none).0.0)
+    (cases_lt 0 (length line)) in
     let run : AnswersInput R lines start new left0 left2 taken0 taken2 s.bytes =
     ⊎_elim
     (λ some. Run-last R law line start old new c.loop-unread.unread left0 left1 left2 taken0 taken1 taken2 s read some (c.in-Ok-finish.ensures.ok some))
@@ -42,7 +50,7 @@ returns-in-Ok-finish-clause-ends g c =
     let kept = c.in-Ok-finish.ensures.empty none in
     Run-nothing R law line start old new c.loop-unread.unread left0 left1 left2 taken0 taken1 taken2 s read none kept.0.0 kept.0.1)
     (cases_lt 0 (length line)) in
-    (s.bytes, inl (run, c.in-Ok.ensures.end c.if-n-eq0.true))
+    (s.bytes, inl (run, c.in-Ok.ensures.end c.if-n-eq0.true, was_open))
 
 pub returns-in-Err-clause-ends : goal.returns-in-Err-clause-ends
 returns-in-Err-clause-ends g c =
@@ -83,6 +91,7 @@ loop-unread-preserved g c =
       sink = c.in-Ok-feed.ensures.failed;
       flushed = λ h. c.in-Ok-feed.ensures.flushed (c.loop-unread.invariant.flushed h);
       room = omega arith;
+      not_over = λ _. sym c.is_over.ensures ∙ c.if-is_over.false;
       serving = subst (λ k. HasServed g.D.LineServer.answers c.feed.new.line c.args.server.now c.feed.new.server (c.loop-unread.unread - k) left0 left2 taken0 taken2) size
           (Serving-more g.D.LineServer.answers g.met.D.LineServer.too_long c.loop-unread.line c.feed.new.line c.args.server.now c.loop-unread.server c.feed.new.server piece c.loop-unread.unread
           left0 (g.S.Source.left c.loop-unread.reader) left2 taken0 (g.W.Sink.taken c.loop-unread.writer) taken2
@@ -100,6 +109,7 @@ loop-unread-init g c =
       sink = c.requires.sink;
       flushed = λ h. h;
       room = c.requires.start.1;
+      not_over = λ h. h;
       serving = subst (λ k. HasServed R k start start (2 ^ 32) left left taken taken) (sym c.requires.start.0) (Serving-none R g.met.D.LineServer.too_long start left taken);
     }
 

@@ -8,6 +8,7 @@ invariant-loop-unread g l = record {
   sink : g.W.Sink.failed l.writer ≡ false;
   flushed : g.W.Sink.flushed l.initial.writer ≡ true → g.W.Sink.flushed l.writer ≡ true;
   room : 0 < length l.buffer;
+  not_over : g.D.LineServer.over l.initial.server ≡ false → g.D.LineServer.over l.server ≡ false;
   serving : HasServed g.D.LineServer.answers l.line l.initial.server l.server l.unread (g.S.Source.left l.initial.reader) (g.S.Source.left l.reader) (g.W.Sink.taken l.initial.writer) (g.W.Sink.taken l.writer);
 }
 

@@ -1,12 +1,14 @@
-use Rattle.session_core.proofs.Growing.{step_watches, abandon_watches, Watches-trans}
+use Rattle.std.proofs.Common.{subst, sym, ap, ◌∙◌}
+use Rattle.base_core.specs.declared.lack.Lack.{Lack}
+use Rattle.system_core.specs.declared.machine.event.Reply.{Reply}
+use Rattle.system_core.specs.declared.machine.event.Reply.TheVariants as replies
+use Rattle.desk_core.specs.declared.object.Ask.TheVariants as asks
+use Rattle.desk_core.specs.Turns.{Answered}
+use Rattle.session_core.specs.Checking.{gave_up}
 use Rattle.session_core.proofs.checkpointing.step.Goals as goal
 
-pub returns-in-Refused-default-NoMemory : goal.returns-in-Refused-default-NoMemory
-returns-in-Refused-default-NoMemory g c =
-    Watches-trans _ _ _ (step_watches _ _ _ _ c.checkpoint_turn.ensures.same c.checkpoint_turn.ensures.answered) (abandon_watches _ _ _ _ c.abandon_turn.ensures.same c.abandon_turn.ensures.answered)
-
-pub returns-in_default : goal.returns-in_default
-returns-in_default g c = step_watches _ _ _ _ c.checkpoint_turn.ensures.same c.checkpoint_turn.ensures.answered
-
-pub returns-in_default-2 : goal.returns-in_default-2
-returns-in_default-2 g c = step_watches _ _ _ _ c.checkpoint_turn.ensures.same c.checkpoint_turn.ensures.answered
+pub returns-in-NoMemory : goal.returns-in-NoMemory
+returns-in-NoMemory g c =
+    let told = c.in-Refused.is ∙ ap (λ (lack : Lack). replies.Refused c.in-Refused.at lack) c.in-NoMemory.is in
+    let answered = subst (λ (reply : Reply). Answered c.args.desk.now asks.Step reply c.args.pass.now c.checkpoint_turn.new.pass) told c.checkpoint_turn.ensures.answered in
+    gave_up c.in-Refused.at c.checkpoint_turn.new.pass c.checkpoint_turn.ensures.same answered c.abandon_turn.ensures.same c.abandon_turn.ensures.answered

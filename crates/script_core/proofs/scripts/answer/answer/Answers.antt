@@ -4,7 +4,7 @@ use Rattle.std.proofs.lemmas.Result.{on_ok_weaker, on_err_weaker}
 use Rattle.reader_core.specs.Language.{IsReadFault}
 use Rattle.reply_core.proofs.WritingLemmas.{Writes-map, WritesFrontOf-map}
 use Rattle.system_core.specs.World.{entry}
-use Rattle.script_core.specs.Saying.{ComesTo, TellsAsked, TellsThen}
+use Rattle.script_core.specs.Replying.{ComesTo, TellsAsked, TellsThen}
 use Rattle.script_core.specs.Script.{Answers, Asks, address, statement, addressed}
 use Rattle.script_core.specs.declared.scripts.answer.Said.TheVariants as says
 use Rattle.script_core.proofs.Answering.{asked-answers, then-answers}

@@ -1,6 +1,6 @@
 use Rattle.std.proofs.lemmas.Result.{on_ok_weaker, on_err_weaker}
 use Rattle.reply_core.proofs.WritingLemmas.{Writes-map, WritesFrontOf-map}
-use Rattle.script_core.specs.Saying.{TellsAsked, TellsThen}
+use Rattle.script_core.specs.Replying.{TellsAsked, TellsThen}
 use Rattle.script_core.specs.declared.scripts.answer.Said.TheVariants as says
 use Rattle.script_core.proofs.Answering.{asked-then}
 use Rattle.script_core.proofs.scripts.answer.ask_any.Goals as goal

@@ -8,7 +8,7 @@ use Rattle.reply_core.proofs.WritingLemmas.{Writes-map, WritesFrontOf-map}
 use Rattle.system_core.specs.World.{moment_of}
 use Rattle.system_core.specs.Step.{change_reply, CarriesOut}
 use Rattle.system_core.specs.declared.machine.event.Reply.TheVariants as replies
-use Rattle.script_core.specs.Saying.{TellsAsked, TellsThen}
+use Rattle.script_core.specs.Replying.{TellsAsked, TellsThen}
 use Rattle.script_core.specs.declared.scripts.answer.Said.TheVariants as says
 use Rattle.script_core.proofs.Answering.{changed-idle, changed-then}
 use Rattle.script_core.proofs.scripts.answer.ask_change.Goals as goal

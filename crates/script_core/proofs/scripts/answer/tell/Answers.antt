@@ -2,7 +2,7 @@ use Rattle.std.proofs.Common.{sym, ◌∙◌}
 use Rattle.std.proofs.lemmas.Result.{on_ok_weaker, on_err_weaker}
 use Rattle.reply_core.specs.Telling.{TellsReply}
 use Rattle.reply_core.proofs.WritingLemmas.{OnErr-from, Both, Writes-map, WritesFrontOf-map, both-written, both-broken, first-broken}
-use Rattle.script_core.specs.Saying.{TellsSaid, TellsThen}
+use Rattle.script_core.specs.Replying.{TellsSaid, TellsThen}
 use Rattle.script_core.proofs.Answering.{said-then, tells-some}
 use Rattle.script_core.proofs.scripts.answer.tell.Goals as goal
 

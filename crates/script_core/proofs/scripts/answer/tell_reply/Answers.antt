@@ -2,7 +2,7 @@ use Rattle.std.proofs.Common.{sym, ◌∙◌}
 use Rattle.std.proofs.lemmas.Result.{on_ok_weaker, on_err_weaker}
 use Rattle.reply_core.proofs.WritingLemmas.{Writes-map, WritesFrontOf-map}
 use Rattle.reply_core.specs.Telling.{TellsReply}
-use Rattle.script_core.specs.Saying.{TellsThen}
+use Rattle.script_core.specs.Replying.{TellsThen}
 use Rattle.script_core.specs.declared.scripts.answer.Said.TheVariants as says
 use Rattle.script_core.proofs.Answering.{said-idle}
 use Rattle.script_core.proofs.scripts.answer.tell_reply.Goals as goal

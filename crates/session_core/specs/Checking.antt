@@ -1,0 +1,37 @@
+-- What the checkpointer does through its pass.
+use Rattle.std.specs.Prelude.{◌≡◌, ℕ, Bool, true, false}
+use Rattle.base_core.specs.declared.value.Moment.{Moment}
+use Rattle.base_core.specs.declared.lack.Lack.TheVariants as lacks
+use Rattle.turnstile.specs.Passes.{Lock, Held, IsSamePass}
+use Rattle.system_core.specs.declared.machine.event.Entry.{Entry}
+use Rattle.system_core.specs.declared.machine.event.Reply.{Reply}
+use Rattle.system_core.specs.declared.machine.event.Reply.TheVariants as replies
+use Rattle.desk_core.specs.declared.object.Ask.TheVariants as asks
+use Rattle.desk_core.specs.Turns.{Answered}
+
+-- the reply says that memory was refused
+abbrev pub is_memory_refused : Reply → Bool
+is_memory_refused (replies.Refused at lacks.NoMemory) = true
+is_memory_refused _ = false
+
+-- One look of the checkpointer: a step of the active checkpoint. Where the step was refused memory,
+-- and only there, the checkpoint is given up in the next turn.
+pub data Looks (desk : Lock ℕ) (reply : Reply) (old new : Held Entry ℕ) : Type 0 where
+  stepped : is_memory_refused reply ≡ false
+      → IsSamePass old new
+      → Answered desk asks.Step reply old new
+      → Looks desk reply old new
+  gave_up : (at : Moment) (between : Held Entry ℕ)
+      → IsSamePass old between
+      → Answered desk asks.Step (replies.Refused at lacks.NoMemory) old between
+      → IsSamePass between new
+      → Answered desk asks.Abandon reply between new
+      → Looks desk reply old new
+
+-- looks, one after another, from what the pass knew to what it knows
+pub data Checks (desk : Lock ℕ) (old : Held Entry ℕ) : Held Entry ℕ → Type 0 where
+  unchecked : Checks desk old old
+  checked : (reply : Reply) (between new : Held Entry ℕ)
+      → Checks desk old between
+      → Looks desk reply between new
+      → Checks desk old new

@@ -1,0 +1,17 @@
+-- The numbers of a command line.
+use Rattle.std.specs.Prelude.{ℕ, ◌<◌, ◌≤◌}
+use Rattle.sysr.specs.declared.command_line.CommandLine.{CommandLine}
+use Rattle.sysr.specs.declared.command_line.CommandLine.TheVariants as asked
+
+-- as many records as a step of the checkpointer may take
+abbrev pub IsChunk : ℕ → Type 0
+IsChunk chunk = (0 < chunk) × (chunk ≤ 64)
+
+-- each number that is asked for is in its range
+abbrev pub IsInRange : CommandLine → Type 0
+IsInRange (asked.Run chunk audit) = IsChunk chunk
+IsInRange (asked.Serve s) =
+    ((0 < s.port) × (s.port ≤ 65535))
+    × ((0 < s.workers) × (s.workers ≤ 16))
+    × ((0 < s.sessions) × (s.sessions ≤ 10000))
+    × IsChunk s.chunk
