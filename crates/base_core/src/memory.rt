@@ -1,4 +1,4 @@
-//! Want of memory, and copies that may meet it.
+//! Out of memory, and copies for which there may be none.
 ghost use Rattle.std.specs.Prelude.{◌≡◌, IfOk};
 
 use std::alloc::{AllocError, AllocFailed};

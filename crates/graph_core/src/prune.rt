@@ -17,8 +17,8 @@ fn is_supported(owners: &Owners, edges: &Edges, edge: &Grant) -> bool
     owners.owns(&edge.grantor, &edge.atom) || edges.any_supports(edge)
 }
 
-// The first edge of the atom that the user made, where it has lost its support. Where it has not, none
-// that he made later has.
+// The user's first grant of this privilege, if nothing supports it any more. If it is still supported,
+// so are his later ones, and the answer is None.
 fn first_lost(owners: &Owners, edges: &Edges, user: &User, atom: &Atom) -> Option<Grant>
     requires { IsInOrder edges.now.edges }
     ensures found { IfSome result (λ g. HasEdge g edges.now.edges) }

@@ -114,7 +114,7 @@ fault_text code offset =
     joined (codes "error " ∷ decimal (code_number code) ∷ codes " at " ∷ decimal offset ∷ codes ": "
     ∷ code_text code ∷ codes "\n" ∷ [])
 
--- what is written of a line that was not read for want of memory
+-- what is written of a line that could not be read: out of memory
 abbrev pub unread_text : List ℕ
 unread_text = codes "refused: no memory\n"
 

@@ -3,9 +3,9 @@
 //! [`reply_text`] is the text of a reply of the core, byte for byte (`specs/Texts.antt`), in new memory:
 //! one line, or of rows and of a list of checkpoints a line with their number and a record for each.
 //! [`write_reply`] is the one contract. It gives a writer that text, and behind the text of an export its
-//! records; or, for want of memory, one line in place of what could not be made, and nothing else
+//! records. Out of memory, it gives one line in place of what could not be made, and nothing else
 //! (`specs/Telling.antt`). [`write_fault`] writes the text of a fault, and [`write_unread`] the one of a
-//! line that was not read for want of memory. On an error a front was written, and the writer has failed.
+//! line that could not be read: out of memory. On an error a front was written, and the writer has failed.
 //!
 //! ```text
 //! let mut buffer = ReplyBuffer::new(alloc)?;

@@ -167,8 +167,8 @@ pub fn write_fault<W: Sink>(
     write_all(writer, buffer.as_slice())
 }
 
-/// Writes what is said of a line that was not read for want of memory, `refused: no memory`. It takes no
-/// memory itself. `Broken` exactly where the writer has failed, and then a front was written.
+/// Writes `refused: no memory`, for a line that could not be read: out of memory. It takes no memory
+/// itself. `Broken` exactly where the writer has failed, and then a front was written.
 pub fn write_unread<W: Sink>(writer: &mut W) -> Result<(), Broken>
     requires { W.failed writer.old ≡ false }
     ensures failed { MatchResult result (λ _. W.failed writer.new ≡ false)

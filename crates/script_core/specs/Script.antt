@@ -70,8 +70,8 @@ pub data IsFaulty (line : List ℕ) : Code → ℕ → Type 0 where
       → IsReadFault (drop start line) code offset
       → IsFaulty line code (start + offset)
 
--- From old, this text may be written for the line itself, and new is the next world. The last is for
--- want of memory, where the line says who speaks, so that what he asks had to be read.
+-- From old, this text may be written for the line itself, and new is the next world. The last is out
+-- of memory, where the line says who speaks, so that what he asks had to be read.
 pub data AnswersLine (old : World) (line : List ℕ) : List ℕ → World → Type 0 where
   faulty : {code : Code} {offset : ℕ}
       → IsFaulty line code offset

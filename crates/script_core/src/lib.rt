@@ -15,7 +15,7 @@
 //! What is written of a reply is said in [`reply_core`]. Its texts are made in one buffer, which a script
 //! makes when it starts, and the tokens of each line stand in one vector.
 //!
-//! Without want of memory the output is one (a law of [`laws`]).
+//! As long as memory suffices the output is one (a law of [`laws`]).
 //!
 //! A line costs its bytes once, what its statement costs in the core, and the bytes of its answer.
 #![tactic(auto)]

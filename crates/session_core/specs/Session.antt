@@ -18,7 +18,7 @@ use Rattle.session_core.specs.Greeting.{greeting}
 use Rattle.session_core.specs.Gains.{Gains}
 
 -- A line of a user at a desk: this text may be written for it, and the pass knows this afterwards.
--- The last is for want of memory, where the line is not too long, so that it had to be read.
+-- The last is out of memory, where the line is not too long, so that it had to be read.
 pub data AnswersUser (desk : Lock ℕ) (user : User) (line : List ℕ) (old : Held Entry ℕ)
     : List ℕ → Held Entry ℕ → Type 0 where
   faulty : {code : Code} {offset : ℕ}

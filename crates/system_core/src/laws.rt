@@ -22,7 +22,7 @@ ghost use Rattle.system_core.specs.declared.machine.event.Event.{Event};
 ghost use Rattle.system_core.specs.declared.machine.event.Reply.{Reply};
 
 /// A statement whose verdict is a lack is answered by that lack at the moment judged, and the world
-/// stays. The lack is never want of memory, so want of memory is never answered in its place.
+/// stays. The lack is never out of memory, so `no memory` is never answered in its place.
 pub fn lacks_are_answered()
     ensures answered { (old new : World) (pass : ℕ) (user : User) (asked : Statement) (lack : Lack)
         (reply : Reply)

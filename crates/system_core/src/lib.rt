@@ -11,10 +11,11 @@
 //! from 1, made moment m. Every entry was allowed at the journal before it.
 //!
 //! [`System::step`] is the one contract: it is a step of the machine from the world that the system
-//! stands for to the one after. [`System::change`] is the same step of an allowed change, without a reply. A user's statement is judged at the journal, by the monitor's
-//! [`judge`](monitor_core::judge), and then by the checkpoints. What is allowed is carried out, and a change
+//! stands for to the one after. [`System::change`] is the same step of an allowed change, without a reply.
+//! A user's statement is judged at the journal, by the monitor's [`judge`](monitor_core::judge), and then
+//! by the checkpoints. What is allowed is carried out, and a change
 //! is entered; else the first lack is the answer, as a denial or a refusal, and the world stays. A lack
-//! bears the moment, or, of what was missing at a checkpoint, its point. Want of memory is a refusal too,
+//! bears the moment, or, of what was missing at a checkpoint, its point. Out of memory is a refusal too,
 //! and changes nothing; it never stands in place of a lack (a law of [`laws`]).
 //!
 //! GRANT and REVOKE name lists, which are carried out whole or not at all: the lack is that of the first
@@ -36,7 +37,7 @@
 //!
 //! A `Ledger` has the journal, the tables and the rights; the system has it beside the active capture and
 //! the catalogue of the images that are kept. A change first makes room for its entry in the journal, then
-//! changes the tables or the rights, which on want of memory are as before, and then enters it. So at no
+//! changes the tables or the rights, which are as before if memory runs out, and then enters it. So at no
 //! point is a change half done. CREATE TABLE sets the owner before it makes the table. Where the table then
 //! finds no memory, the owner of a name that is no table is left; no verdict reads it, and the next creation
 //! of that name sets another.

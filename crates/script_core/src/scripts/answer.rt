@@ -21,7 +21,7 @@ use system_core::{Entry, Event, Reply, System};
 pub enum Said {
     /// It has this fault, at this byte.
     Fault { code: Code, offset: usize },
-    /// It was not read for want of memory.
+    /// It could not be read: out of memory.
     Unread,
     /// It was read, and this is the reply.
     Answer(Reply),
@@ -85,7 +85,7 @@ fn tell<W: Sink>(
 }
 
 /// Tells that a line has this fault.
-// What is no change stands out of line, here and below, so that no change pays for its room.
+// Not inlined, here and below: the large stack frame would otherwise be cleared for every INSERT.
 #[inline(never)]
 fn tell_fault<W: Sink>(
     alloc: Global,

@@ -319,7 +319,7 @@ impl System {
     }
 
     /// One event: a step of the machine. What the verdict allows is carried out, and a change is
-    /// entered; else the reply names the first lack, and nothing changes. Want of memory is Refused
+    /// entered; else the reply names the first lack, and nothing changes. Out of memory is Refused
     /// with NoMemory, and changes nothing.
     #[inline(always)]
     pub fn step(&mut self, event: Event) -> Reply
