@@ -1,3 +1,5 @@
 pub mod Rising
 pub mod Numbered
 pub mod Soundness
+pub mod Sifting
+pub mod Running

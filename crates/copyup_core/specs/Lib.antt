@@ -1,4 +1,6 @@
 pub mod Holding
 pub mod Calls
+pub mod Run
 pub mod Slot
+pub mod Window
 pub mod Sound

@@ -1,27 +1,30 @@
-//! Items in number order.
-ghost use Rattle.std.specs.Prelude.{◌≡◌, ◌+◌, ◌<◌, ◌≤◌, ◌↔◌, length, IsSome, is_some, IfOk, IsOk, OnOk, OnErr};
+//! Items in number order, and at most one capture of them.
+ghost use Rattle.std.specs.Prelude.{◌≡◌, ◌+◌, ◌-◌, ◌<◌, ◌≤◌, ◌↔◌, ◌++◌, min, length, take, None, Some, IsSome, IsNone, is_some, IfSome, IfOk, IsOk, OnOk, OnErr};
 ghost use Rattle.std.specs.Option.{option_map, option_copied};
 
 use crate::fault::PushFault;
+use crate::items::Items;
+use crate::sieve::Sieve;
+use crate::slot::Slot;
 use crate::slots;
-use crate::slots::Slot;
-use base_core::NoMemory;
+use crate::window::{Window, is_wanted};
+use base_core::{NoMemory, Twin};
 use std::alloc::Global;
 use std::marker::Model;
-use std::mem;
 
-/// Items with numbers, in number order.
+/// Items with numbers, in number order, and at most one capture of them.
 ///
-/// Contracts see a store as the record of its `contents`, the `next` number, and `spare`, the
-/// pushes that have their room.
+/// Contracts see a store as the record of its `contents`, the `next` number, the `rest` that a
+/// capture still has to give, while one is active, and `spare`, the pushes that have their room.
 #[derive(Drop)]
-pub struct Store<V: Drop> {
+pub struct Store<V: Twin> {
     slots: Vec<Slot<V>>,
     next: u64,
     len: usize,
+    capture: Option<Window>,
 }
 
-impl<V: Drop> Model for Store<V> {
+impl<V: Twin> Model for Store<V> {
     ghost use Rattle.std.specs.Prelude.{◌-◌};
     ghost use Rattle.copyup_core.specs.Holding.{Holding, holding_code};
 
@@ -30,20 +33,21 @@ impl<V: Drop> Model for Store<V> {
     ghost coded = { holding_code V.code };
 
     ghost use Rattle.copyup_core.specs.Slot.{contents_of};
-    ghost use Rattle.copyup_core.specs.Sound.{IsSoundStore};
+    ghost use Rattle.copyup_core.specs.Sound.{IsSoundStore, rest_of};
 
     ghost view = { λ s. record {
       contents = contents_of s.slots.items;
       next = s.next;
+      rest = rest_of s.slots.items s.capture;
       spare = s.slots.cap - s.slots.len;
     } };
 
-    ghost invariant = { λ s. IsSoundStore s.slots.items s.next s.len };
+    ghost invariant = { λ s. IsSoundStore s.slots.items s.next s.len s.capture };
 }
 
-impl<V: Drop> Store<V> {
-    ghost use Rattle.copyup_core.specs.Holding.{Rise, value_at, first_from};
-    ghost use Rattle.copyup_core.specs.Calls.{empty_from, pushed, replaced, removed};
+impl<V: Twin> Store<V> {
+    ghost use Rattle.copyup_core.specs.Holding.{Rise, due, value_at, first_from};
+    ghost use Rattle.copyup_core.specs.Calls.{empty_from, pushed, replaced, removed, retained, begun, stepped, abandoned};
 
     /// A store of nothing, whose first number is 0. It takes no memory.
     pub fn new(alloc: Global) -> Self
@@ -60,6 +64,7 @@ impl<V: Drop> Store<V> {
             slots: Vec::new(alloc),
             next: number,
             len: 0,
+            capture: None,
         }
     }
 
@@ -77,11 +82,12 @@ impl<V: Drop> Store<V> {
     {
         match slots::find(self.slots.as_slice(), number) {
             None => None,
-            Some(place) => self.slots[place].item.as_ref(),
+            Some(place) => self.slots[place].live.as_ref(),
         }
     }
 
-    /// The first item with a number of at least `number`, and its number. None where there is none.
+    /// The first item with a number of at least `number`, and its number. None where there is
+    /// none.
     pub fn next_from(&self, number: u64) -> Option<(u64, &V)>
         ensures { option_map (λ found. (found.0, found.1.now)) result
             ≡ first_from number self.now.contents }
@@ -89,14 +95,21 @@ impl<V: Drop> Store<V> {
         let start = slots::place(self.slots.as_slice(), number);
         let place = slots::next_live(self.slots.as_slice(), start)?;
         let slot = &self.slots[place];
-        match &slot.item {
+        match &slot.live {
             None => None,
             Some(item) => Some((slot.number, item)),
         }
     }
 
-    /// How many pushes have their room already, and so can't be refused memory. A push lowers it by
-    /// at most one, and no other call lowers it.
+    /// All items, in number order.
+    pub fn items(&self) -> Items<'_, V>
+        ensures { result ≡ self.now.contents }
+    {
+        Items::new(self.slots.as_slice())
+    }
+
+    /// How many pushes have their room already, and so can't be refused memory. A push lowers it
+    /// by at most one, and no other call lowers it.
     pub fn spare(&self) -> u64
         ensures { result ≡ self.now.spare }
     {
@@ -114,11 +127,26 @@ impl<V: Drop> Store<V> {
         slots::make_room(&mut self.slots, count as usize)
     }
 
-    /// Adds an item under the next number, and gives that number.
+    /// Makes room for one push: dead slots go first, where that gives the room.
+    fn make_room(&mut self) -> Result<(), NoMemory>
+        ensures ok { OnOk result (0 < self.new.spare) }
+        ensures roomy { 0 < self.old.spare → IsOk result }
+        ensures spare { self.old.spare ≤ self.new.spare }
+        ensures same { self.new ≡ record self.old { spare = self.new.spare } }
+        ensures err { OnErr result (self.new ≡ self.old) }
+    {
+        if self.slots.len() == self.slots.capacity() {
+            self.tidy();
+        }
+        slots::make_room(&mut self.slots, 1)
+    }
+
+    /// Adds an item under the next number, and gives that number. A capture that is active does
+    /// not see it.
     ///
     /// - `Full` exactly where the next number is the greatest `u64`.
     /// - Else `NoMemory` where a request for memory was refused, which comes only where no push is
-    ///   spare.
+    ///  spare.
     ///
     /// Each gives the item back, and the store is as before.
     pub fn push(&mut self, item: V) -> Result<u64, PushFault<V>>
@@ -135,29 +163,28 @@ impl<V: Drop> Store<V> {
         if self.next == u64::MAX {
             return Err(PushFault::Full(item));
         }
-        if slots::make_room(&mut self.slots, 1).is_err() {
+        if self.make_room().is_err() {
             return Err(PushFault::NoMemory(item));
         }
         let number = self.next;
-        self.slots.push_reserved(Slot {
-            number,
-            item: Some(item),
-        });
+        self.slots.push_reserved(Slot::new(number, item));
         self.next += 1;
         self.len += 1;
         Ok(number)
     }
 
-    /// Sets the item numbered `number`, which has to be there, and gives the old value back: there
-    /// always is one. It takes no memory.
+    /// Sets the item numbered `number`, which has to be there, and gives the old value back. None
+    /// where a capture keeps that. It takes no memory.
     pub fn replace(&mut self, number: u64, item: V) -> Option<V>
         requires { IsSome (value_at number self.old.contents) }
         ensures same { self.new ≡ replaced number item self.old }
-        ensures given { result ≡ value_at number self.old.contents }
+        ensures given { IfSome result (λ old. value_at number self.old.contents ≡ Some old) }
+        ensures kept { IsNone result → IsSome (value_at number (due self.old)) }
     {
         let place = slots::find(self.slots.as_slice(), number).unwrap();
+        let keeps = is_wanted(self.capture, place);
         let slot = &mut self.slots[place];
-        mem::replace(&mut slot.item, Some(item))
+        slot.set_live(Some(item), keeps)
     }
 
     /// Takes the item numbered `number` out, and says whether there was one. It takes no memory.
@@ -169,10 +196,95 @@ impl<V: Drop> Store<V> {
         let Some(place) = slots::find(self.slots.as_slice(), number) else {
             return false;
         };
+        let keeps = is_wanted(self.capture, place);
         let slot = &mut self.slots[place];
-        slot.item = None;
+        let _ = slot.set_live(None, keeps);
         self.len -= 1;
-        slots::compact(&mut self.slots, self.len);
+        self.tidy();
         true
+    }
+
+    /// Takes out the items that the sieve does not keep, in one walk. It takes no memory.
+    pub fn retain<S: Sieve<V>>(&mut self, sieve: &S)
+        ensures same { self.new
+            ≡ record (retained (S.keeps sieve.now) self.old) { spare = self.new.spare } }
+        ensures spare { self.old.spare ≤ self.new.spare }
+    {
+        let dropped = slots::sift(self.slots.as_mut_slice(), self.capture, sieve);
+        self.len -= dropped;
+        self.tidy();
+    }
+
+    /// Drops dead slots, unless a capture walks them or few are dead.
+    fn tidy(&mut self)
+        ensures same { self.new ≡ record self.old { spare = self.new.spare } }
+        ensures spare { self.old.spare ≤ self.new.spare }
+    {
+        if self.capture.is_none() {
+            slots::compact(&mut self.slots, self.len);
+        }
+    }
+
+    /// Begins a capture of the items as they are now. None must be active. It is constant, and
+    /// takes no memory.
+    pub fn begin(&mut self)
+        requires { IsNone self.old.rest }
+        ensures { self.new ≡ begun self.old }
+    {
+        self.capture = Some(Window {
+            cursor: 0,
+            end: self.slots.len(),
+            left: self.len,
+        });
+    }
+
+    /// Whether a capture is active.
+    pub fn active(&self) -> bool
+        ensures { result ≡ is_some self.now.rest }
+    {
+        self.capture.is_some()
+    }
+
+    /// How many items the capture has still to give. 0 where none is active.
+    pub fn left(&self) -> usize
+        ensures { result ≡ length (due self.now) }
+    {
+        match self.capture {
+            None => 0,
+            Some(window) => window.left,
+        }
+    }
+
+    /// Appends the next `count` items of the capture to `out`, or all that are left, in number
+    /// order and as they were when it began, and gives how many. With none left the capture ends;
+    /// that of a store with nothing in it ends at its first step. A capture must be active.
+    ///
+    /// `NoMemory` where a request for memory was refused: then the store and the items of `out`
+    /// are as before.
+    pub fn capture_step(&mut self, out: &mut Vec<(u64, V)>, count: usize) -> Result<usize, NoMemory>
+        requires { IsSome self.old.rest }
+        ensures count { IfOk result (λ given. given ≡ min count (length (due self.old))) }
+        ensures items { OnOk result (out.new.items ≡ out.old.items ++ take count (due self.old)) }
+        ensures rest { OnOk result (self.new ≡ stepped count self.old) }
+        ensures err { OnErr result (self.new ≡ self.old) }
+        ensures out_err { OnErr result (out.new.items ≡ out.old.items) }
+    {
+        let window = self.capture.unwrap();
+        let given = count.min(window.left);
+        out.reserve(given)?;
+        let stop = slots::save_next(self.slots.as_mut_slice(), window.cursor, window.end, given)?;
+        slots::hand_out(self.slots.as_mut_slice(), window.cursor, stop, out);
+        self.capture = window.after(stop, given);
+        Ok(given)
+    }
+
+    /// Gives the capture up. Where none is active, nothing changes. It takes no memory.
+    pub fn abandon(&mut self)
+        ensures { self.new ≡ abandoned self.old }
+    {
+        if let Some(window) = self.capture {
+            slots::forget(self.slots.as_mut_slice(), window.cursor, window.end);
+            self.capture = None;
+        }
     }
 }
