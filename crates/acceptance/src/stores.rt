@@ -98,10 +98,10 @@ fn store_capture(rt: HostRuntime) {
     assert!(rt; store.push(Item(52)).expect(&rt, "memory") == 2);
     assert!(rt; store.remove(2));
     assert!(rt; step_of_one(&rt, &mut store, &mut out) == 1);
-    assert!(rt; out.as_slice() == &[(0, Item(50))]);
+    assert!(rt; out.as_slice() == [(0, Item(50))].as_slice());
     assert!(rt; store.left() == 1);
     assert!(rt; step_of_one(&rt, &mut store, &mut out) == 1);
-    assert!(rt; out.as_slice() == &[(0, Item(50)), (1, Item(51))]);
+    assert!(rt; out.as_slice() == [(0, Item(50)), (1, Item(51))].as_slice());
     assert!(rt; !store.active());
     assert!(rt; store.len() == 1);
     assert!(rt; store.next_from(0) == Some((1, &Item(51))));
@@ -120,7 +120,7 @@ fn a_refused_step(rt: HostRuntime) {
     assert!(rt; store.active());
     assert!(rt; store.capture_step(&mut out, 1) == Err(NoMemory));
     assert!(rt; store.left() == 1);
-    assert!(rt; out.as_slice() == &[(0, Item(50))]);
+    assert!(rt; out.as_slice() == [(0, Item(50))].as_slice());
 }
 
 /// An item that counts its copies.
@@ -185,7 +185,7 @@ struct NoThirds;
 impl Sieve<Item> for NoThirds {
     ghost use Rattle.std.specs.Prelude.{◌%◌, ◌==◌, not};
 
-    ghost keeps = { λ _ item. not (item.◌ % 3 == 0) };
+    ghost keeps = { λ _ item. not (item.0 % 3 == 0) };
 
     fn keeps(&self, item: &Item) -> bool {
         item.0 % 3 != 0
