@@ -36,6 +36,13 @@ impl<T> Sequence<T> {
         Sequence { items }
     }
 
+    /// The items, in the memory that they have.
+    pub fn into_vec(self) -> Vec<T>
+        ensures { result.items ≡ self }
+    {
+        self.items
+    }
+
     pub fn as_slice(&self) -> &[T]
         ensures { result.now ≡ self.now }
     {

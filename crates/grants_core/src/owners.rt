@@ -78,8 +78,9 @@ impl Owners {
         }
     }
 
+    /// The table's owner. None where it has none.
     #[tactic(auto, using(crate::proofs::OwnedLemmas::owner_of_entries))]
-    fn owner_of(&self, table: &Name) -> Option<&User>
+    pub fn owner_of(&self, table: &Name) -> Option<&User>
         ensures { option_copied result ≡ owner_of self.now table.now }
     {
         Some(&self.tables.get(table)?.owner)
