@@ -1,48 +1,46 @@
 //! A walk over the items of a store.
-ghost use Rattle.std.specs.Prelude.{◌≡◌, ◌∷◌, [], IfSome, IfNone};
+ghost use Rattle.std.specs.Prelude.{◌≡◌, [], length};
 ghost use Rattle.std.specs.Iterator.{YieldsFirstBy, item_count};
 ghost use Rattle.copyup_core.specs.Slot.{contents_of};
+ghost use Rattle.copyup_core.specs.Parallel.{slots_of};
 
-use crate::slot::Slot;
+use crate::lists;
+use crate::state::State;
 use std::marker::Model;
-
-/// The first item, and the slots behind it. None where there is no item.
-fn first_item<V>(slots: &[Slot<V>]) -> Option<((u64, &V), &[Slot<V>])>
-    ensures some { IfSome result
-        (λ f. contents_of slots.now ≡ (f.0.0, f.0.1.now) ∷ contents_of f.1.now) }
-    ensures none { IfNone result (contents_of slots.now ≡ []) }
-{
-    let mut rest = slots;
-    while let Some((first, others)) = rest.split_first() {
-        if let Some(item) = &first.live {
-            return Some(((first.number, item), others));
-        }
-        rest = others;
-    }
-    None
-}
 
 /// The items of a store that are still to come, in number order, each with its number. Contracts
 /// see the list of them.
 #[derive(Drop)]
 pub struct Items<'a, V> {
-    slots: &'a [Slot<V>],
+    entries: &'a [(u64, V)],
+    states: &'a [State],
+    place: usize,
 }
 
 impl<'a, V> Model for Items<'a, V> {
-    ghost use Rattle.std.specs.Prelude.{ℕ, List};
+    ghost use Rattle.std.specs.Prelude.{◌≡◌, ◌≤◌, ℕ, List, [], length, drop};
     ghost use Rattle.copyup_core.specs.Slot.{contents_of};
+    ghost use Rattle.copyup_core.specs.Parallel.{slots_of};
 
     ghost Value = { List (ℕ × V) };
 
-    ghost view = { λ i. contents_of i.slots.now };
+    ghost view = { λ i. contents_of (drop i.place (slots_of i.entries.now i.states.now [])) };
+
+    ghost invariant = { λ i.
+        (length i.states.now ≡ length i.entries.now) × (i.place ≤ length i.entries.now) };
 }
 
 impl<'a, V> Items<'a, V> {
-    pub(crate) fn new(slots: &'a [Slot<V>]) -> Items<'a, V>
-        ensures { result ≡ contents_of slots.now }
+    #[inline(always)]
+    pub(crate) fn new(entries: &'a [(u64, V)], states: &'a [State]) -> Items<'a, V>
+        requires { length states.now ≡ length entries.now }
+        ensures { result ≡ contents_of (slots_of entries.now states.now []) }
     {
-        Items { slots }
+        Items {
+            entries,
+            states,
+            place: 0,
+        }
     }
 }
 
@@ -53,9 +51,11 @@ impl<'a, V> Iterator for Items<'a, V> {
 
     ghost remaining = { item_count (λ s. s) };
 
+    #[inline]
     fn next(&mut self) -> Option<(u64, &'a V)> {
-        let (item, rest) = first_item(self.slots)?;
-        self.slots = rest;
-        Some(item)
+        let place = lists::next_live(self.states, self.place)?;
+        self.place = place + 1;
+        let entry = &self.entries[place];
+        Some((entry.0, &entry.1))
     }
 }

@@ -30,20 +30,28 @@
 //! to change: Copy-on-Update, of Cao, Vaz Salles, Sowell, Yue, Demers, Gehrke and White, "Fast
 //! checkpoint recovery algorithms for frequently consistent applications", SIGMOD 2011.
 //!
-//! Each item stands in a slot beside its number. An item that is removed leaves a dead slot, so
-//! that nothing is moved for it. `begin` only notes that a walk over the slots that there are has
-//! to be made. The first change to a slot that the walk has not come to puts its item by, and
-//! moves it in place of copying it. The steps copy the other items, k at a time.
+//! Each item stands in a slot. The slots are parallel arrays:
+//!
+//! - `entries`, a number and a value for each slot.
+//! - `states`, a byte for each slot: `Live`, `Dead` or `Gone`. A removal only writes this byte, so
+//!   nothing is moved. A slot is `Gone` if a capture still wants the item that was removed.
+//! - `kept`, the replaced values that a capture still wants, each at the place of its slot. It ends
+//!   behind the last of these slots, and is empty as long as nothing was replaced.
+//!
+//! `begin` only notes that a walk over the slots has to be made. The first change to a slot that the
+//! walk has not come to puts its item by, and copies nothing: a replaced value moves to `kept`, and
+//! a removed one stays where it is. The steps copy the items, k at a time, and let go of what was
+//! put by.
 //!
 //! ```text
 //! begin                   a step of 1 gives (0, a)   replace(2, x), remove(3), push(e)
 //!
-//! number  0  1  2  3      0  1  2  3                 0  1  2  3  4
-//! live    a  b  c  d      a  b  c  d                 a  b  x  -  e
-//! kept    -  -  -  -      -  -  -  -                 -  -  c  d  -
-//! walk    |--------|         |-----|                    |-----|
+//! entries 0a 1b 2c 3d     0a 1b 2c 3d                0a   1b   2x   3d   4e
+//! states  Live, each      Live, each                 Live Live Live Gone Live
+//! kept    empty           empty                      -    -    c
+//! walk    |---------|        |------|                     |----------|
 //!
-//! a step of 3 gives (1, b), (2, c) and (3, d): what is kept, or else what is live
+//! a step of 3 gives (1, b), (2, c) and (3, d): what is kept, or else the value of what is not dead
 //! ```
 //!
 //! So nothing that is called between `begin` and the end changes what is captured. The clauses of
@@ -57,7 +65,10 @@
 //! - `get` and `replace` look first where the number stands if no slot was dropped between the
 //!   first one and it, which is constant. Elsewhere they search, with the logarithm of n.
 //! - `next_from` does the same, and then passes over the dead slots up to the item that it finds.
-//! - `items` and `retain` go over all slots once.
+//! - A `replace` whose old value a capture wants also fills `kept` up to its slot. Each place is
+//!   filled once, until dead slots are dropped.
+//! - `items` and `retain` go over all slots once. They read the states, and the entries of those
+//!   that are live.
 //! - `push` is constant and `remove` a look-up, but for moves of slots now and then, which come to
 //!   a constant for each call: to remove all items, one by one, grows with how many there are.
 //! - `capture_step` of k copies k items at most, and passes over the dead slots between them. The
@@ -69,7 +80,13 @@
 //! Dead slots are dropped once more than half are dead: by `remove`, by `retain`, and by a push
 //! that finds no room. So n is at most twice the items and one more. While a capture is active no
 //! slot is moved, so there n grows with the pushes, and the dead slots that are left behind it
-//! wait for the next of these calls.
+//! wait for the next of these calls. A dead slot holds its value until it is dropped.
+//!
+//! A slot takes its entry and one byte: 17 bytes, where a number and a value are 16. Room for
+//! `kept` is asked for with the room of a slot, so no later call has to ask for it, but it is not
+//! written before something is replaced. A system that gives out a page when it is first written
+//! gives none for it. After a capture in which values were replaced, an empty `Option` for each
+//! slot up to the last of them stays there, until dead slots are dropped.
 //!
 //! `push`, `reserve` and `capture_step` take memory, and no other call does. `specs/Holding.antt`
 //! and `specs/Calls.antt` have the definitions.
@@ -78,10 +95,12 @@
 mod fault;
 mod items;
 mod laws;
+mod lists;
 mod sieve;
-mod slot;
 mod slots;
+mod state;
 mod store;
+mod walk;
 mod window;
 
 pub use fault::PushFault;

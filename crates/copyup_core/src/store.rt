@@ -5,8 +5,8 @@ ghost use Rattle.std.specs.Option.{option_map, option_copied};
 use crate::fault::PushFault;
 use crate::items::Items;
 use crate::sieve::Sieve;
-use crate::slot::Slot;
-use crate::slots;
+use crate::slots::Slots;
+use crate::walk;
 use crate::window::{Window, is_wanted};
 use base_core::{NoMemory, Twin};
 use std::alloc::Global;
@@ -18,7 +18,7 @@ use std::marker::Model;
 /// capture still has to give, while one is active, and `spare`, the pushes that have their room.
 #[derive(Drop)]
 pub struct Store<V: Twin> {
-    slots: Vec<Slot<V>>,
+    slots: Slots<V>,
     next: u64,
     len: usize,
     capture: Option<Window>,
@@ -39,7 +39,7 @@ impl<V: Twin> Model for Store<V> {
       contents = contents_of s.slots.items;
       next = s.next;
       rest = rest_of s.slots.items s.capture;
-      spare = s.slots.cap - s.slots.len;
+      spare = s.slots.spare;
     } };
 
     ghost invariant = { λ s. IsSoundStore s.slots.items s.next s.len s.capture };
@@ -61,7 +61,7 @@ impl<V: Twin> Store<V> {
         ensures { result ≡ empty_from number }
     {
         Store {
-            slots: Vec::new(alloc),
+            slots: Slots::new(alloc),
             next: number,
             len: 0,
             capture: None,
@@ -80,10 +80,8 @@ impl<V: Twin> Store<V> {
     pub fn get(&self, number: u64) -> Option<&V>
         ensures { option_copied result ≡ value_at number self.now.contents }
     {
-        match slots::find(self.slots.as_slice(), number) {
-            None => None,
-            Some(place) => self.slots[place].live.as_ref(),
-        }
+        let place = self.slots.find(number)?;
+        Some(self.slots.item(place))
     }
 
     /// The first item with a number of at least `number`, and its number. None where there is
@@ -92,20 +90,16 @@ impl<V: Twin> Store<V> {
         ensures { option_map (λ found. (found.0, found.1.now)) result
             ≡ first_from number self.now.contents }
     {
-        let start = slots::place(self.slots.as_slice(), number);
-        let place = slots::next_live(self.slots.as_slice(), start)?;
-        let slot = &self.slots[place];
-        match &slot.live {
-            None => None,
-            Some(item) => Some((slot.number, item)),
-        }
+        let start = self.slots.place(number);
+        let place = self.slots.next_live(start)?;
+        Some((self.slots.number(place), self.slots.item(place)))
     }
 
     /// All items, in number order.
     pub fn items(&self) -> Items<'_, V>
         ensures { result ≡ self.now.contents }
     {
-        Items::new(self.slots.as_slice())
+        self.slots.items()
     }
 
     /// How many pushes have their room already, and so can't be refused memory. A push lowers it
@@ -113,7 +107,7 @@ impl<V: Twin> Store<V> {
     pub fn spare(&self) -> u64
         ensures { result ≡ self.now.spare }
     {
-        (self.slots.capacity() - self.slots.len()) as u64
+        self.slots.spare() as u64
     }
 
     /// Makes room for at least `count` pushes. `NoMemory` where a request for memory was refused:
@@ -124,7 +118,7 @@ impl<V: Twin> Store<V> {
         ensures same { self.new ≡ record self.old { spare = self.new.spare } }
         ensures err { OnErr result (self.new ≡ self.old) }
     {
-        slots::make_room(&mut self.slots, count as usize)
+        self.slots.make_room(count as usize)
     }
 
     /// Makes room for one push: dead slots go first, where that gives the room.
@@ -135,10 +129,10 @@ impl<V: Twin> Store<V> {
         ensures same { self.new ≡ record self.old { spare = self.new.spare } }
         ensures err { OnErr result (self.new ≡ self.old) }
     {
-        if self.slots.len() == self.slots.capacity() {
+        if self.slots.spare() == 0 {
             self.tidy();
         }
-        slots::make_room(&mut self.slots, 1)
+        self.slots.make_room(1)
     }
 
     /// Adds an item under the next number, and gives that number. A capture that is active does
@@ -167,7 +161,7 @@ impl<V: Twin> Store<V> {
             return Err(PushFault::NoMemory(item));
         }
         let number = self.next;
-        self.slots.push_reserved(Slot::new(number, item));
+        self.slots.push(number, item);
         self.next += 1;
         self.len += 1;
         Ok(number)
@@ -181,10 +175,9 @@ impl<V: Twin> Store<V> {
         ensures given { IfSome result (λ old. value_at number self.old.contents ≡ Some old) }
         ensures kept { IsNone result → IsSome (value_at number (due self.old)) }
     {
-        let place = slots::find(self.slots.as_slice(), number).unwrap();
-        let keeps = is_wanted(self.capture, place);
-        let slot = &mut self.slots[place];
-        slot.set_live(Some(item), keeps)
+        let place = self.slots.find(number).unwrap();
+        let wanted = is_wanted(self.capture, place);
+        self.slots.replace(place, item, wanted)
     }
 
     /// Takes the item numbered `number` out, and says whether there was one. It takes no memory.
@@ -193,12 +186,11 @@ impl<V: Twin> Store<V> {
         ensures same { self.new ≡ record (removed number self.old) { spare = self.new.spare } }
         ensures spare { self.old.spare ≤ self.new.spare }
     {
-        let Some(place) = slots::find(self.slots.as_slice(), number) else {
+        let Some(place) = self.slots.find(number) else {
             return false;
         };
-        let keeps = is_wanted(self.capture, place);
-        let slot = &mut self.slots[place];
-        let _ = slot.set_live(None, keeps);
+        let wanted = is_wanted(self.capture, place);
+        self.slots.remove(place, wanted);
         self.len -= 1;
         self.tidy();
         true
@@ -210,7 +202,7 @@ impl<V: Twin> Store<V> {
             ≡ record (retained (S.keeps sieve.now) self.old) { spare = self.new.spare } }
         ensures spare { self.old.spare ≤ self.new.spare }
     {
-        let dropped = slots::sift(self.slots.as_mut_slice(), self.capture, sieve);
+        let dropped = self.slots.sift(self.capture, sieve);
         self.len -= dropped;
         self.tidy();
     }
@@ -221,7 +213,7 @@ impl<V: Twin> Store<V> {
         ensures spare { self.old.spare ≤ self.new.spare }
     {
         if self.capture.is_none() {
-            slots::compact(&mut self.slots, self.len);
+            self.slots.compact(self.len);
         }
     }
 
@@ -272,8 +264,8 @@ impl<V: Twin> Store<V> {
         let window = self.capture.unwrap();
         let given = count.min(window.left);
         out.reserve(given)?;
-        let stop = slots::save_next(self.slots.as_mut_slice(), window.cursor, window.end, given)?;
-        slots::hand_out(self.slots.as_mut_slice(), window.cursor, stop, out);
+        let stop = walk::copy_next(&self.slots, window.cursor, window.end, given, out)?;
+        walk::forget(&mut self.slots, window.cursor, stop);
         self.capture = window.after(stop, given);
         Ok(given)
     }
@@ -283,7 +275,7 @@ impl<V: Twin> Store<V> {
         ensures { self.new ≡ abandoned self.old }
     {
         if let Some(window) = self.capture {
-            slots::forget(self.slots.as_mut_slice(), window.cursor, window.end);
+            walk::forget(&mut self.slots, window.cursor, window.end);
             self.capture = None;
         }
     }
