@@ -1,4 +1,12 @@
+pub mod IndexLemmas
+pub mod ExtendLemmas
+pub mod OverLemmas
+pub mod LinkLemmas
+pub mod PlaceLemmas
+pub mod SplitLemmas
+pub mod NumberLemmas
+pub mod PruningLemmas
+pub mod FallLemmas
+pub mod NamedLemmas
 pub mod MarkedLemmas
 pub mod SoundLemmas
-pub mod PruningLemmas
-pub mod NamedLemmas

@@ -14,7 +14,7 @@ use Rattle.grants_core.specs.declared.grant.Ownership.{Ownership}
 use Rattle.grants_core.proofs.OwnersLemmas.{alike-with_granted, AllByRecursion-append, singles-all}
 use Rattle.grants_core.proofs.ValidLemmas.{AreSupported-more, AreSupported-append, supported-append}
 use Rattle.grants_core.proofs.GrantLemmas.{All-implied, All-filtered, All-valid, singles-supported}
-use Rattle.graph_core.specs.Pruning.{IsSound}
+use Rattle.graph_core.specs.Revocation.{IsSound}
 use Rattle.graph_core.proofs.MarkedLemmas.{AreMarked, AreSupported-owners, alike-with_owner, AreMarked-with_owner, AreMarked-with_granted, singles-marked}
 
 pub same_content : (os ps : List Ownership) (gs hs : List Grant) (n m : ℕ) → os ≡ ps → gs ≡ hs → n ≡ m → ◌≡◌ {A = Content} (record { owners = os; in_force = gs; made = n }) (record { owners = ps; in_force = hs; made = m })

@@ -1,42 +1,49 @@
--- Which edges have lost their support, and what pruning leaves.
-use Rattle.std.specs.Prelude.{◌≡◌, Bool, true, false, not, ◌&&◌, ◌||◌, List, filter}
+-- Which links have lost their support, and what pruning leaves.
+use Rattle.std.specs.Prelude.{◌≡◌, ◌≤◌, ℕ, Bool, true, false, not, ◌&&◌, ◌||◌, ◌==◌, nat_lt, List, [], ◌∷◌, Option}
 use Rattle.std.specs.List.{AllByRecursion, list_any}
-use Rattle.base_core.specs.Users.{same_user}
-use Rattle.base_core.specs.declared.name.User.{User}
-use Rattle.base_core.specs.declared.privilege.Atom.{Atom}
-use Rattle.grants_core.specs.Owners.{was_granted}
-use Rattle.grants_core.specs.Valid.{is_supported, IsInOrder, AreSupported}
-use Rattle.grants_core.specs.Content.{gives}
-use Rattle.grants_core.specs.declared.grant.Grant.{Grant}
-use Rattle.grants_core.specs.declared.grant.Ownership.{Ownership}
-use Rattle.edges_core.specs.Edges.{made_by}
+use Rattle.links_core.specs.Links.{goes_to, comes_from}
+use Rattle.links_core.specs.Lists.{TakesOut}
+use Rattle.links_core.specs.declared.link.Link.{Link}
+use Rattle.graph_core.specs.Indices.{is_index}
 
--- each edge has support among the edges, but for those that are excused
-abbrev pub SupportedBut : List Ownership → List Grant → (Grant → Bool) → Type 0
-SupportedBut owners edges excused =
-    AllByRecursion (λ g. (is_supported owners edges g || excused g) ≡ true) edges
+-- whether the first link lets the grantor of the other make that: it gives him the same privilege
+-- with the option, at an earlier moment
+abbrev pub link_supports : Link → Link → Bool
+link_supports h l = h.option && nat_lt h.moment.0 l.moment.0 && goes_to l.grantor l.atom h
 
--- none that the user made of the atom lacks support
-abbrev pub IsSettled : List Ownership → List Grant → User → Atom → Type 0
-IsSettled owners edges user atom =
-    AllByRecursion (λ g. (made_by user atom g && not (is_supported owners edges g)) ≡ false) edges
+-- whether the owner made the link, or one of the links supports it
+abbrev pub is_link_supported : Option ℕ → List Link → Link → Bool
+is_link_supported owner links l =
+    is_index owner l.grantor || list_any (λ h. link_supports h l) links
 
--- whether the one user made the edge to the other, of the atom
-abbrev pub is_between : User → User → Atom → Grant → Bool
-is_between by user atom g = same_user g.grantor by && gives user atom g
+-- each link has support among the links, but for those that are excused
+abbrev pub SupportedBut : Option ℕ → List Link → (Link → Bool) → Type 0
+SupportedBut owner links excused =
+    AllByRecursion (λ l. (is_link_supported owner links l || excused l) ≡ true) links
 
--- the edges but those of the atom from the one user to one of the others
-abbrev pub without_between : User → List User → Atom → List Grant → List Grant
-without_between by whom atom edges =
-    filter (λ g. not (list_any (λ user. is_between by user atom g) whom)) edges
+-- whether the link is of another privilege
+abbrev pub is_of_another : ℕ → Link → Bool
+is_of_another atom l = not (l.atom == atom)
 
--- whether one of the users made the edge, of one of the atoms
-abbrev pub is_pending : List Atom → List User → Grant → Bool
-is_pending atoms whom g = list_any (λ atom. list_any (λ user. made_by user atom g) whom) atoms
+-- none that the user made of the privilege lacks support
+abbrev pub IsSettled : Option ℕ → List Link → ℕ → ℕ → Type 0
+IsSettled owner links user atom =
+    AllByRecursion
+    (λ l. (comes_from user atom l && not (is_link_supported owner links l)) ≡ false)
+    links
 
--- Griffiths and Wade 1976: edges in order of time, each with support among them of an earlier
--- moment, or made by the owner; and each of a table that is marked
-pub record IsSound (owners : List Ownership) (edges : List Grant) : Type 0 where
-  pub in_order : IsInOrder edges
-  pub supported : AreSupported owners edges edges
-  pub marked : AllByRecursion (λ g. was_granted owners g.atom.table ≡ true) edges
+-- whether the one user made the link to the other, if he was found, of the privilege
+abbrev pub is_between : ℕ → Option ℕ → ℕ → Link → Bool
+is_between by user atom l = l.grantor == by && (l.atom == atom && is_index user l.grantee)
+
+-- links of the privilege were taken out, one after the other, none of which had support any more
+pub data Falls (owner : Option ℕ) (atom : ℕ) : List Link → List Link → Type 0 where
+  none : {links : List Link} → Falls owner atom links links
+  one : {link : Link} {links rest left : List Link} → TakesOut link links rest
+      → link.atom ≡ atom → is_link_supported owner links link ≡ false
+      → Falls owner atom rest left → Falls owner atom links left
+
+-- no link is followed by one of an earlier moment
+abbrev pub AreInOrder : List Link → Type 0
+AreInOrder [] = Unit {0}
+AreInOrder (l ∷ ls) = AllByRecursion (λ m. l.moment.0 ≤ m.moment.0) ls × AreInOrder ls

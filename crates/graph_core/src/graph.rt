@@ -1,9 +1,8 @@
 //! The graph.
 ghost use Rattle.std.specs.Prelude.{◌≡◌, []};
 
-use crate::revocation::revoke;
+use crate::edges::Edges;
 use base_core::{Atom, Moment, Name, NoMemory, User};
-use edges_core::Edges;
 use grants_core::{Authority, Grant, Owners};
 use std::alloc::Global;
 use std::marker::Model;
@@ -18,7 +17,7 @@ pub struct Graph {
 
 impl Model for Graph {
     ghost use Rattle.grants_core.specs.Content.{Content};
-    ghost use Rattle.graph_core.specs.Pruning.{IsSound};
+    ghost use Rattle.graph_core.specs.Revocation.{IsSound};
 
     ghost Value = { Content };
 
@@ -65,7 +64,7 @@ impl Authority for Graph {
     }
 
     fn revoke(&mut self, by: User, atoms: &[Atom], whom: &[User]) {
-        revoke(&self.owners, &mut self.edges, &by, atoms, whom);
+        self.edges.revoke(&self.owners, &by, atoms, whom);
     }
 
     #[inline(always)]
@@ -78,7 +77,7 @@ impl Authority for Graph {
     }
 
     fn has_made(&self, by: User, user: User, atom: &Atom) -> bool {
-        self.edges.first_between(&by, &user, atom).is_some()
+        self.edges.any_between(&by, &user, atom)
     }
 
     fn room(&self, atom: &Atom, more: u64, limit: u64) -> bool {

@@ -37,20 +37,43 @@
 //! That each edge stands by an earlier one, or by the owner, is in the type. It ends all cycles:
 //! users who grant to one another in a circle hold nothing once the edge falls that came first.
 //!
+//! No edge has a name in it. Two sets have the names of users and the privileges that were ever
+//! granted, each once, and where one stands in its set is its index. The edges are
+//! [`Links`](links_core::Links) between indices:
+//!
+//! ```text
+//!   o --0--> a --1--> b        users: o 0, a 1, b 2, c 3        0 --0--> 1 --1--> 2
+//!            c --2--> b        privileges: SELECT on t 0                 3 --2--> 2
+//! ```
+//!
+//! A call looks up the index of each user and privilege that it is handed; where one has none, no
+//! edge is his. From there on a revocation goes over links alone. It takes one user after the other:
+//! the links to him go, and he is pruned, before the next has his turn.
+//!
 //! # Cost
 //!
 //! With n the edges of one privilege (of the system at most 1,024):
 //!
 //! - `holds`, `may_grant`, `has_made` and `room` look the privilege and the user up by hash, and then
 //!   his edges with the logarithm of n. Edges of other tables and grants that fell cost nothing.
-//! - `grant` makes its room first, and then adds each edge: a move of n ends of 16 bytes at most.
-//! - `revoke` costs that for each edge that falls, and one look-up for each user who is pruned and
-//!   for each pair of atom and user that is named. It needs no memory and never fails; it calls
-//!   itself at most as deep as there are edges of one privilege.
-//! - `in_force` goes over all edges.
+//! - `grant` makes its room first, and then looks each edge's users and privilege up, and adds it: a
+//!   move of n ends of 16 bytes at most.
+//! - `revoke` looks the privilege, its owner and the grantor up once for each privilege that is named,
+//!   and each user once for each. An edge that falls costs no look-up by hash, but some searches with
+//!   the logarithm of n. If it is the first of its row, as in a chain, no other end moves; else n at
+//!   most do. It needs no memory and never fails; it calls itself at most as deep as there are edges
+//!   of one privilege.
+//! - `in_force` goes over all edges, and makes each anew.
+//!
+//! An edge takes 64 bytes and two ends. No index is given back: names and privileges that were once
+//! granted keep theirs, whatever falls.
 #![tactic(auto)]
 
+mod edges;
 mod graph;
+mod indices;
+mod key;
+mod linking;
 mod prune;
 mod revocation;
 

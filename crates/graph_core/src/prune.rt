@@ -1,70 +1,52 @@
 //! Pruning by recursion, from grantee to grantee.
-ghost use Rattle.std.specs.Prelude.{◌≡◌, ◌≤◌, Bool, ◌||◌, length, true, false, find, IfSome, IfNone};
-ghost use Rattle.std.specs.List.{list_any};
-ghost use Rattle.grants_core.specs.declared.grant.Grant.{Grant as grants};
-ghost use Rattle.grants_core.specs.Valid.{valid, supports, is_supported, IsInOrder};
-ghost use Rattle.edges_core.specs.Edges.{made_by, HasEdge};
-ghost use Rattle.graph_core.specs.Pruning.{SupportedBut, IsSettled};
+ghost use Rattle.std.specs.Prelude.{◌≡◌, ◌≤◌, Bool, ◌||◌, length, true, false, IfSome, IfNone};
+ghost use Rattle.links_core.specs.Links.{comes_from};
+ghost use Rattle.links_core.specs.Lists.{HasItem};
+ghost use Rattle.links_core.specs.declared.link.Link.{Link as link};
+ghost use Rattle.graph_core.specs.Pruning.{is_link_supported, SupportedBut, IsSettled, Falls, AreInOrder};
 
-use base_core::{Atom, User};
-use edges_core::Edges;
-use grants_core::{Grant, Owners};
+use links_core::{Link, Links};
 
-// Whether the edge's grantor owns the table, or an edge supports it.
-fn is_supported(owners: &Owners, edges: &Edges, edge: &Grant) -> bool
-    ensures { result ≡ is_supported owners.now edges.now.edges edge.now }
+// Whether the owner made the link, or a link supports it.
+fn is_supported(links: &Links, owner: Option<usize>, link: &Link) -> bool
+    ensures { result ≡ is_link_supported owner links.now.links link.now }
 {
-    owners.owns(&edge.grantor, &edge.atom) || edges.any_supports(edge)
+    owner == Some(link.grantor) || links.any_earlier_option_to(link.grantor, link.atom, link.moment)
 }
 
-// The user's first grant of this privilege, if nothing supports it any more. If it is still supported,
+// The user's first link of the privilege, if nothing supports it any more. If it is still supported,
 // so are his later ones, and the answer is None.
-fn first_lost(owners: &Owners, edges: &Edges, user: &User, atom: &Atom) -> Option<Grant>
-    requires { IsInOrder edges.now.edges }
-    ensures found { IfSome result (λ g. HasEdge g edges.now.edges) }
-    ensures made { IfSome result (λ g. made_by user.now atom.now g ≡ true) }
-    ensures lost { IfSome result (λ g. is_supported owners.now edges.now.edges g ≡ false) }
-    ensures none { IfNone result (IsSettled owners.now edges.now.edges user.now atom.now) }
+fn first_lost(links: &Links, owner: Option<usize>, user: usize, atom: usize) -> Option<Link>
+    requires { AreInOrder links.now.links }
+    ensures found { IfSome result (λ l. HasItem l links.now.links) }
+    ensures made { IfSome result (λ l. comes_from user atom l ≡ true) }
+    ensures lost { IfSome result (λ l. is_link_supported owner links.now.links l ≡ false) }
+    ensures none { IfNone result (IsSettled owner links.now.links user atom) }
 {
-    let Some(first) = edges.first_made(user, atom) else {
+    let Some(first) = links.first_from(user, atom) else {
         return None;
     };
-    if is_supported(owners, edges, &first) {
+    if is_supported(links, owner, &first) {
         return None;
     }
     Some(first)
 }
 
-/// Takes out the edges of the atom that the user made and that have lost their support, and what
-/// falls with them. It calls itself at most as deep as there are edges.
-pub fn prune(owners: &Owners, edges: &mut Edges, user: User, atom: &Atom)
-    requires { IsInOrder edges.old.edges }
-    ensures in_order { IsInOrder edges.new.edges }
-    ensures next { edges.new.next ≡ edges.old.next }
-    ensures fewer { length edges.new.edges ≤ length edges.old.edges }
-    ensures same_valid { valid owners.now edges.new.edges ≡ valid owners.now edges.old.edges }
-    ensures settles { (excused : grants → Bool)
-        → SupportedBut owners.now edges.old.edges (λ g. excused g || made_by user atom.now g)
-        → SupportedBut owners.now edges.new.edges excused }
+/// Takes out the links of the privilege that the user made and that have lost their support, and
+/// what falls with them. The owner is that of the privilege's table, if he has an index. It calls
+/// itself at most as deep as there are links.
+pub fn prune(links: &mut Links, owner: Option<usize>, user: usize, atom: usize)
+    requires { AreInOrder links.old.links }
+    ensures in_order { AreInOrder links.new.links }
+    ensures next { links.new.next ≡ links.old.next }
+    ensures fewer { length links.new.links ≤ length links.old.links }
+    ensures falls { Falls owner atom links.old.links links.new.links }
+    ensures settles { (excused : link → Bool)
+        → SupportedBut owner links.old.links (λ l. excused l || comes_from user atom l)
+        → SupportedBut owner links.new.links excused }
 {
-    while let Some(lost) = first_lost(owners, edges, &user, atom) {
-        edges.take_out(&lost);
-        prune(owners, edges, lost.grantee, atom);
-    }
-}
-
-/// Prunes from each of the users in turn.
-pub fn prune_each(owners: &Owners, edges: &mut Edges, users: &[User], atom: &Atom)
-    requires { IsInOrder edges.old.edges }
-    ensures in_order { IsInOrder edges.new.edges }
-    ensures next { edges.new.next ≡ edges.old.next }
-    ensures same_valid { valid owners.now edges.new.edges ≡ valid owners.now edges.old.edges }
-    ensures settles { (excused : grants → Bool)
-        → SupportedBut owners.now edges.old.edges
-        (λ g. excused g || list_any (λ user. made_by user atom.now g) users.now)
-        → SupportedBut owners.now edges.new.edges excused }
-{
-    for user in users {
-        prune(owners, edges, *user, atom);
+    while let Some(lost) = first_lost(links, owner, user, atom) {
+        links.take_out(&lost);
+        prune(links, owner, lost.grantee, atom);
     }
 }

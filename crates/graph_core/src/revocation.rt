@@ -1,57 +1,109 @@
 //! What a revocation names, and what falls with it.
-ghost use Rattle.std.specs.Prelude.{◌≡◌, not, filter};
+ghost use Rattle.std.specs.Prelude.{◌≡◌, ℕ, ◌<◌, ◌∷◌, [], not, filter, length, Some};
 ghost use Rattle.grants_core.specs.Content.{without};
-ghost use Rattle.grants_core.specs.Valid.{valid, IsInOrder, AreSupported};
-ghost use Rattle.graph_core.specs.Pruning.{is_between, without_between};
+ghost use Rattle.grants_core.specs.Owners.{owns};
+ghost use Rattle.grants_core.specs.Valid.{valid};
+ghost use Rattle.graph_core.specs.Indices.{user_at, is_index};
+ghost use Rattle.graph_core.specs.Pruning.{SupportedBut, Falls, AreInOrder, is_between, is_of_another};
+ghost use Rattle.graph_core.specs.Revocation.{grants_of, AreUpheld};
 
-use crate::prune::prune_each;
+use crate::indices::Indices;
+use crate::prune::prune;
 use base_core::{Atom, User};
-use edges_core::Edges;
 use grants_core::Owners;
+use links_core::Links;
 
-// Takes out the edges of the atom from the one user to the other.
-fn remove_between(edges: &mut Edges, by: &User, user: &User, atom: &Atom)
-    ensures edges { edges.new.edges
-        ≡ filter (λ g. not (is_between by.now user.now atom.now g)) edges.old.edges }
-    ensures next { edges.new.next ≡ edges.old.next }
+// Takes out the links of the privilege from the one user to the other.
+fn remove_between(links: &mut Links, by: usize, user: usize, atom: usize)
+    ensures links { links.new.links
+        ≡ filter (λ l. not (is_between by (Some user) atom l)) links.old.links }
+    ensures next { links.new.next ≡ links.old.next }
 {
-    while let Some(edge) = edges.first_between(by, user, atom) {
-        edges.take_out(&edge);
+    while let Some(link) = links.first_between(by, user, atom) {
+        links.take_out(&link);
     }
 }
 
-// Takes out the edges of the atom from the one user to the others.
-fn remove_of_atom(edges: &mut Edges, by: &User, atom: &Atom, whom: &[User])
-    ensures edges { edges.new.edges ≡ without_between by.now whom.now atom.now edges.old.edges }
-    ensures next { edges.new.next ≡ edges.old.next }
+// Takes out the links of the privilege from the one user to the other, if he has an index, and
+// those that fall with them.
+fn revoke_between(
+    links: &mut Links,
+    owner: Option<usize>,
+    by: usize,
+    user: Option<usize>,
+    atom: usize,
+)
+    requires in_order { AreInOrder links.old.links }
+    requires supported { SupportedBut owner links.old.links (is_of_another atom) }
+    ensures in_order { AreInOrder links.new.links }
+    ensures supported { SupportedBut owner links.new.links (is_of_another atom) }
+    ensures falls { Falls owner atom
+        (filter (λ l. not (is_between by user atom l)) links.old.links) links.new.links }
+    ensures next { links.new.next ≡ links.old.next }
 {
+    if let Some(user) = user {
+        remove_between(links, by, user, atom);
+        prune(links, owner, user, atom);
+    }
+}
+
+// The index of the user who owns the privilege's table. None where it has no owner, or he has none.
+fn owner_index(owners: &Owners, indices: &Indices, atom: &Atom) -> Option<usize>
+    ensures { (i : ℕ) → i < length indices.now.users
+        → owns owners.now (user_at indices.now i) atom.now ≡ is_index result i }
+{
+    match owners.owner_of(&atom.table) {
+        Some(owner) => indices.user(owner),
+        None => None,
+    }
+}
+
+// Takes out the links of the privilege that a revocation names, and those that fall with them.
+fn revoke_of_atom(
+    owners: &Owners,
+    indices: &Indices,
+    links: &mut Links,
+    by: &User,
+    atom: &Atom,
+    whom: &[User],
+)
+    requires { AreUpheld indices.now owners.now links.old.links }
+    ensures upheld { AreUpheld indices.now owners.now links.new.links }
+    ensures valid { grants_of indices.now links.new.links
+        ≡ valid owners.now
+        (without by.now (atom.now ∷ []) whom.now (grants_of indices.now links.old.links)) }
+    ensures next { links.new.next ≡ links.old.next }
+{
+    let Some(by) = indices.user(by) else {
+        return;
+    };
+    let Some(at) = indices.atom(atom) else {
+        return;
+    };
+    let owner = owner_index(owners, indices, atom);
     for user in whom {
-        remove_between(edges, by, user, atom);
+        revoke_between(links, owner, by, indices.user(user), at);
     }
 }
 
-// Takes out the edges that a revocation names.
-fn remove_named(edges: &mut Edges, by: &User, atoms: &[Atom], whom: &[User])
-    ensures edges { edges.new.edges ≡ without by.now atoms.now whom.now edges.old.edges }
-    ensures next { edges.new.next ≡ edges.old.next }
+/// Takes out the links that a revocation names, and those that fall with them. It looks each of the
+/// names up once for a privilege, and none for a link that falls.
+pub fn revoke(
+    owners: &Owners,
+    indices: &Indices,
+    links: &mut Links,
+    by: &User,
+    atoms: &[Atom],
+    whom: &[User],
+)
+    requires { AreUpheld indices.now owners.now links.old.links }
+    ensures upheld { AreUpheld indices.now owners.now links.new.links }
+    ensures valid { grants_of indices.now links.new.links
+        ≡ valid owners.now
+        (without by.now atoms.now whom.now (grants_of indices.now links.old.links)) }
+    ensures next { links.new.next ≡ links.old.next }
 {
     for atom in atoms {
-        remove_of_atom(edges, by, atom, whom);
-    }
-}
-
-/// Takes out the edges that a revocation names, and those that fall with them.
-pub fn revoke(owners: &Owners, edges: &mut Edges, by: &User, atoms: &[Atom], whom: &[User])
-    requires in_order { IsInOrder edges.old.edges }
-    requires supported { AreSupported owners.now edges.old.edges edges.old.edges }
-    ensures in_order { IsInOrder edges.new.edges }
-    ensures supported { AreSupported owners.now edges.new.edges edges.new.edges }
-    ensures valid { edges.new.edges
-        ≡ valid owners.now (without by.now atoms.now whom.now edges.old.edges) }
-    ensures next { edges.new.next ≡ edges.old.next }
-{
-    remove_named(edges, by, atoms, whom);
-    for atom in atoms {
-        prune_each(owners, edges, whom, atom);
+        revoke_of_atom(owners, indices, links, by, atom, whom);
     }
 }

@@ -5,7 +5,7 @@ ghost use Rattle.links_core.specs.Lists.{HasItem, TakesOut};
 ghost use Rattle.links_core.specs.Links.{goes_to, comes_from, count_at, AreNumbered, Rises, AreBelow};
 
 use crate::held::{any_earlier_option, any_option, first_made_by};
-use crate::index::{Index, count_of, ends_at, take_end};
+use crate::index::{Index, count_of, ends_at, first_at, take_end};
 use crate::link::Link;
 use crate::rooms::{make_rooms, put};
 use crate::walk::all_of;
@@ -68,7 +68,7 @@ impl Links {
     pub fn any_to(&self, user: usize, atom: usize) -> bool
         ensures { result ≡ list_any (goes_to user atom) self.now.links }
     {
-        !ends_at(&self.received, atom, user).is_empty()
+        first_at(&self.received, atom, user).is_some()
     }
 
     /// Whether a link gives the user the privilege with the option.
@@ -91,10 +91,8 @@ impl Links {
     pub fn first_from(&self, user: usize, atom: usize) -> Option<Link>
         ensures { result ≡ find (comes_from user atom) self.now.links }
     {
-        match ends_at(&self.given, atom, user).first() {
-            Some(end) => self.store.get(end.number).copied(),
-            None => None,
-        }
+        let number = first_at(&self.given, atom, user)?;
+        self.store.get(number).copied()
     }
 
     /// The first link of the privilege by the one user to the other.

@@ -1,19 +1,25 @@
-use Rattle.std.proofs.Common.{◌||◌, arith, ◌∙◌}
-use Rattle.edges_core.specs.Edges.{made_by}
-use Rattle.graph_core.proofs.PruningLemmas.{taken_out, SupportedBut-settled}
+use Rattle.std.proofs.Common.{◌||◌, arith, ◌∙◌, refl}
+use Rattle.links_core.specs.Links.{comes_from}
+use Rattle.graph_core.specs.Pruning.{Falls}
+use Rattle.graph_core.proofs.PruningLemmas.{taken_out, falls_then, SupportedBut-settled}
 use Rattle.graph_core.proofs.prune.+prune.Goals as goal
 
 pub prune-requires : goal.prune-requires
 prune-requires t c =
-    let out = taken_out c.args.owners.now c.loop-lost.edges.edges c.take_out.new.self.edges c.args.user c.args.atom.now c.in-Some.lost c.take_out.ensures.taken c.in-Some.ensures.made c.in-Some.ensures.lost c.loop-lost.invariant.in_order in
+    let out = taken_out c.args.owner c.loop-lost.links.links c.take_out.new.self.links c.args.user c.args.atom c.in-Some.lost c.take_out.ensures.taken c.in-Some.ensures.made c.in-Some.ensures.lost c.loop-lost.invariant.in_order in
     let less = out.fewer in
     let fewer = c.loop-lost.invariant.fewer in
     (omega (arith, less, fewer), out.in_order)
 
+pub loop-lost-init : goal.loop-lost-init
+loop-lost-init t c = record { in_order = c.requires; next = refl; fewer = omega arith; falls = Falls.none; settles = λ excused h. h }
+
 pub loop-lost-preserved : goal.loop-lost-preserved
 loop-lost-preserved t c =
-    let excusing = made_by c.args.user c.args.atom.now in
-    let out = taken_out c.args.owners.now c.loop-lost.edges.edges c.take_out.new.self.edges c.args.user c.args.atom.now c.in-Some.lost c.take_out.ensures.taken c.in-Some.ensures.made c.in-Some.ensures.lost c.loop-lost.invariant.in_order in
+    let owner = c.args.owner in
+    let atom = c.args.atom in
+    let excusing = comes_from c.args.user atom in
+    let out = taken_out owner c.loop-lost.links.links c.take_out.new.self.links c.args.user atom c.in-Some.lost c.take_out.ensures.taken c.in-Some.ensures.made c.in-Some.ensures.lost c.loop-lost.invariant.in_order in
     let less = out.fewer in
     let fewer = c.loop-lost.invariant.fewer in
     let then = c.prune.ensures.fewer in
@@ -21,11 +27,12 @@ loop-lost-preserved t c =
       in_order = c.prune.ensures.in_order;
       next = c.prune.ensures.next ∙ c.take_out.ensures.next ∙ c.loop-lost.invariant.next;
       fewer = omega (arith, less, fewer, then);
-      same_valid = c.prune.ensures.same_valid ∙ out.same_valid ∙ c.loop-lost.invariant.same_valid;
-      settles = λ excused h. c.prune.ensures.settles (λ g. excused g || excusing g) (out.settles (λ g. excused g || excusing g) (c.loop-lost.invariant.settles excused h));
+      falls = falls_then owner atom c.args.links.now.links c.loop-lost.links.links c.prune.new.links.links c.loop-lost.invariant.falls
+          (falls_then owner atom c.loop-lost.links.links c.take_out.new.self.links c.prune.new.links.links out.falls c.prune.ensures.falls);
+      settles = λ excused h. c.prune.ensures.settles (λ l. excused l || excusing l) (out.settles (λ l. excused l || excusing l) (c.loop-lost.invariant.settles excused h));
     }
 
 pub returns-clause-settles : goal.returns-clause-settles
 returns-clause-settles t c =
     λ excused h.
-    SupportedBut-settled c.args.owners.now c.loop-lost.edges.edges c.args.user c.args.atom.now excused c.in_default.ensures.none (c.loop-lost.invariant.settles excused h)
+    SupportedBut-settled c.args.owner c.loop-lost.links.links c.args.user c.args.atom excused c.in_default.ensures.none (c.loop-lost.invariant.settles excused h)

@@ -1,13 +1,13 @@
-use Rattle.std.proofs.Common.{◌≡◌, not, length, filter}
+use Rattle.std.proofs.Common.{◌≡◌, not, length, filter, Some}
 use Rattle.graph_core.specs.Pruning.{is_between}
 use Rattle.graph_core.proofs.revocation.remove_between.Given as goal
 
--- so far only named edges were taken out
-abbrev pub invariant-loop-edge : goal.invariant-loop-edge
-invariant-loop-edge l = record {
-  edges : filter (λ g. not (is_between l.by l.user l.atom g)) l.edges.edges ≡ filter (λ g. not (is_between l.by l.user l.atom g)) l.fn.edges.edges;
-  next : l.edges.next ≡ l.fn.edges.next;
+-- so far only named links were taken out
+abbrev pub invariant-loop-link : goal.invariant-loop-link
+invariant-loop-link l = record {
+  links : filter (λ k. not (is_between l.by (Some l.user) l.atom k)) l.links.links ≡ filter (λ k. not (is_between l.by (Some l.user) l.atom k)) l.fn.links.links;
+  next : l.links.next ≡ l.fn.links.next;
 }
 
-abbrev pub decreases-loop-edge : goal.decreases-loop-edge
-decreases-loop-edge l = length l.edges.edges
+abbrev pub decreases-loop-link : goal.decreases-loop-link
+decreases-loop-link l = length l.links.links

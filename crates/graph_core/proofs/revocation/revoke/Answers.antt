@@ -1,36 +1,32 @@
-use Rattle.std.proofs.Common.{ap, sym, ◌∙◌, false}
-use Rattle.std.specs.List.{list_any}
+use Rattle.std.proofs.Common.{◌≡◌, ◌∙◌, ◌∷◌, [], ◌+◌, ap, sym, drop}
+use Rattle.std.proofs.lemmas.List.{drop_more, drop_all}
 use Rattle.grants_core.specs.Valid.{valid}
-use Rattle.grants_core.proofs.ValidLemmas.{valid-of_supported}
-use Rattle.edges_core.specs.Edges.{made_by}
-use Rattle.graph_core.proofs.NamedLemmas.{IsInOrder-filter, SupportedBut-named, SupportedBut-implied, AreSupported-none_pending, next_item_is, past_the_end}
+use Rattle.grants_core.specs.Content.{without}
+use Rattle.graph_core.specs.Revocation.{grants_of}
+use Rattle.graph_core.proofs.NamedLemmas.{revoked-atom, without-nothing, upheld_valid}
 use Rattle.graph_core.proofs.revocation.revoke.Goals as goal
 
-pub loop-atom-init : goal.loop-atom-init
-loop-atom-init c = record {
-  in_order = rw c.remove_named.ensures.edges (IsInOrder-filter _ _ c.requires.in_order);
-  next = c.remove_named.ensures.next;
-  same_valid = ap (valid c.args.owners.now) c.remove_named.ensures.edges;
-  settled = rw c.remove_named.ensures.edges (SupportedBut-named c.args.owners.now c.args.by.now c.args.atoms.now c.args.whom.now c.args.edges.now.edges c.requires.supported);
-}
-
 pub loop-atom-preserved : goal.loop-atom-preserved
-loop-atom-preserved c = record {
-  in_order = c.prune_each.ensures.in_order;
-  next = c.prune_each.ensures.next ∙ c.loop-atom.invariant.next;
-  same_valid = c.prune_each.ensures.same_valid ∙ c.loop-atom.invariant.same_valid;
-  settled = c.prune_each.ensures.settles _ (SupportedBut-implied _ _ _ _
-      (λ g k. next_item_is false (λ atom. list_any (λ user. made_by user atom g) c.args.whom.now) c.args.atoms.now c.loop-atom.atom-index c.atom-item.result c.loop-atom-test.true c.atom-item.is k)
-      c.loop-atom.invariant.settled);
-}
-
-pub returns-clause-supported : goal.returns-clause-supported
-returns-clause-supported c =
-    AreSupported-none_pending c.args.owners.now c.loop-atom.edges.edges
-    (SupportedBut-implied _ _ _ _ (λ g k. past_the_end false (λ atom. list_any (λ user. made_by user atom g) c.args.whom.now) c.args.atoms.now c.loop-atom.atom-index c.loop-atom-test.false k) c.loop-atom.invariant.settled)
+loop-atom-preserved c =
+    let owners = c.args.owners.now in
+    let whom = c.args.whom.now in
+    let by = c.args.by.now in
+    let now = grants_of c.args.indices.now c.loop-atom.links.links in
+    let rest = drop (c.loop-atom.atom-index + 1) c.args.atoms.now in
+    let here : drop c.loop-atom.atom-index c.args.atoms.now ≡ c.atom-item.result ∷ rest =
+    drop_more c.args.atoms.now c.loop-atom.atom-index c.atom-item.result c.loop-atom-test.true ∙ ap (λ a. a ∷ rest) (sym c.atom-item.is) in
+    record {
+      upheld = c.revoke_of_atom.ensures.upheld;
+      valid_is = revoked-atom owners by c.atom-item.result rest whom now (grants_of c.args.indices.now c.revoke_of_atom.new.links.links) c.revoke_of_atom.ensures.valid
+          ∙ ap (λ atoms. valid owners (without by atoms whom now)) (sym here) ∙ c.loop-atom.invariant.valid_is;
+      next = c.revoke_of_atom.ensures.next ∙ c.loop-atom.invariant.next;
+    }
 
 pub returns-clause-valid : goal.returns-clause-valid
 returns-clause-valid c =
-    let supported = AreSupported-none_pending c.args.owners.now c.loop-atom.edges.edges
-    (SupportedBut-implied _ _ _ _ (λ g k. past_the_end false (λ atom. list_any (λ user. made_by user atom g) c.args.whom.now) c.args.atoms.now c.loop-atom.atom-index c.loop-atom-test.false k) c.loop-atom.invariant.settled) in
-    sym (valid-of_supported c.args.owners.now c.loop-atom.edges.edges c.loop-atom.invariant.in_order supported) ∙ c.loop-atom.invariant.same_valid
+    let owners = c.args.owners.now in
+    let now = grants_of c.args.indices.now c.loop-atom.links.links in
+    let none : drop c.loop-atom.atom-index c.args.atoms.now ≡ [] = drop_all c.loop-atom.atom-index c.args.atoms.now c.loop-atom-test.false in
+    sym (upheld_valid c.args.indices.now owners c.loop-atom.links.links c.loop-atom.invariant.upheld)
+    ∙ ap (valid owners) (sym (without-nothing c.args.by.now c.args.whom.now now))
+    ∙ ap (λ atoms. valid owners (without c.args.by.now atoms c.args.whom.now now)) (sym none) ∙ c.loop-atom.invariant.valid_is

@@ -1,8 +1,0 @@
-use Rattle.edges_core.specs.Keys.{same_key}
-use Rattle.edges_core.specs.KeyLaws.{same_key-equivalence}
-use Rattle.edges_core.proofs.IndexLemmas.{index_found}
-use Rattle.edges_core.proofs.indices.Indices.atom.Goals as goal
-
-pub returns : goal.returns
-returns c =
-    rw (← c.self.view_is) (index_found same_key same_key-equivalence c.self.inside.atoms.keys (record { 0 = c.args.atom.now }) _ c.get_index_of.result c.self.invariant.1 c.get_index_of.ensures.index)

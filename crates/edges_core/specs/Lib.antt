@@ -1,4 +1,0 @@
-pub mod Edges
-pub mod Keys
-pub mod KeyLaws
-pub mod Indices

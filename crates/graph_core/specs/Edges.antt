@@ -1,0 +1,8 @@
+-- What callers see of the edges.
+use Rattle.std.specs.Prelude.{ℕ, List}
+use Rattle.grants_core.specs.declared.grant.Grant.{Grant}
+
+-- the edges in number order, and the number of the next
+pub record Kept : Type 0 where
+  pub edges : List Grant
+  pub next : ℕ
