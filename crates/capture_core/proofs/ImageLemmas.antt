@@ -31,7 +31,7 @@ item_within (x ∷ xs) (suc i) none within = item_within xs i none (omega arith)
 
 -- a table that is looked at
 abbrev pub shown : TableView → Name × Contents
-shown v = (v.name, record { owner = v.owner; columns = v.columns.now; inserted = v.inserted; rows = v.rows.now })
+shown v = (v.name, record { owner = v.owner; columns = v.columns.now; inserted = v.inserted; rows = v.rows.now.contents })
 
 -- an image has the names of the tables
 pub has-table_image : (tables : List (Name × Contents)) (name : Name)

@@ -4,15 +4,16 @@ ghost use Rattle.capture_core.specs.Image.{table_image, image, records, row_tota
 
 use crate::image::{Image, TableImage};
 use base_core::{Moment, NoMemory, Row, Sequence, Twin};
+use copyup_core::Store;
 use grants_core::Authority;
 use std::alloc::Global;
-use tables_core::{NumberedRow, TableView, Tables};
+use tables_core::{TableView, Tables};
 
-fn rows_of(alloc: Global, numbered: &[NumberedRow]) -> Result<Vec<Row>, NoMemory>
-    ensures { IfOk result (λ rows. rows.items ≡ map (λ n. n.1) numbered.now) }
+fn rows_of(alloc: Global, numbered: &Store<Row>) -> Result<Vec<Row>, NoMemory>
+    ensures { IfOk result (λ rows. rows.items ≡ map (λ n. n.1) numbered.now.contents) }
 {
     let mut rows = Vec::with_capacity(alloc, numbered.len())?;
-    for (_, row) in numbered {
+    for (_, row) in numbered.items() {
         rows.push(row.try_twin()?)?;
     }
     Ok(rows)
@@ -27,7 +28,7 @@ fn table_image(alloc: Global, table: &TableView<'_>) -> Result<TableImage, NoMem
             owner = table.now.owner;
             columns = table.now.columns.now;
             inserted = table.now.inserted;
-            rows = table.now.rows.now;
+            rows = table.now.rows.now.contents;
           },
         )) }
 {

@@ -1,5 +1,5 @@
 -- What a change to one table makes of all of them, and what look-ups find after it.
-use Rattle.std.proofs.Common.{◌≡◌, List, Bool, true, false, cond, Option, Some, None, IsSome, length, option_map, sym, ap, ◌∙◌, refl}
+use Rattle.std.proofs.Common.{◌≡◌, ℕ, List, Bool, true, false, cond, Option, Some, None, IsSome, length, option_map, sym, ap, ◌∙◌, refl}
 use Rattle.std.specs.Map.{set_value, keys_of}
 use Rattle.std.specs.Option.{option_map_or}
 use Rattle.std.proofs.lemmas.Cmp.{nat_list_eq_equiv}
@@ -8,12 +8,13 @@ use Rattle.std.proofs.lemmas.List.Edits.{insert_end}
 use Rattle.std.proofs.lemmas.Slice.Eq.{bytes_eq-Decides}
 use Rattle.base_core.specs.Words.{same_name}
 use Rattle.base_core.specs.declared.name.Name.{Name}
+use Rattle.base_core.specs.declared.value.Row.{Row}
 use Rattle.tables_core.specs.Contents.{Contents, Database, table_of, with_change}
 use Rattle.tables_core.specs.Laws.{LookUpAfterChange, LookUpAfterNew, NamesAfterChange}
 
--- equal lists of tables are equal databases
-pub same_database : {tables others : List (Name × Contents)} → tables ≡ others → ◌≡◌ {A = Database} (record { tables = tables }) (record { tables = others })
-same_database e = ap (λ ts. record { tables = ts }) e
+-- equal tables, with as much left to give, are equal databases
+pub same_database : {tables others : List (Name × Contents)} {rest left : List (Name × (ℕ × Row))} → tables ≡ others → rest ≡ left → ◌≡◌ {A = Database} (record { tables = tables; rest = rest }) (record { tables = others; rest = left })
+same_database e r = rw (e, r)
 
 module _ (name : Name) (change : Contents → Contents) (tables : List (Name × Contents)) where
   -- where the table is there

@@ -1,6 +1,6 @@
 -- What tables hold, and what each change makes of it.
-use Rattle.std.specs.Prelude.{ℕ, ◌+◌, Bool, not, List, [], ◌∷◌, ◌++◌, Option, slice_get, map, filter, option_and_then, if◌then◌else◌}
-use Rattle.std.specs.List.{filter_map, fold}
+use Rattle.std.specs.Prelude.{◌≡◌, ℕ, ◌+◌, Bool, not, List, [], ◌∷◌, ◌++◌, Option, slice_get, map, filter, option_and_then, if◌then◌else◌}
+use Rattle.std.specs.List.{filter_map, flat_map, fold}
 use Rattle.std.specs.Map.{lookup, set_value}
 use Rattle.std.specs.Option.{option_map_or}
 use Rattle.base_core.specs.Words.{same_name}
@@ -21,9 +21,15 @@ pub record Contents : Type 0 where
   pub inserted : ℕ
   pub rows : List (ℕ × Row)
 
--- what there is: the tables in the order of their creation, each under its name
+-- what there is: the tables in the order of their creation, each under its name; and the rows that
+-- a capture has still to give, each with its number and the name of its table
 pub record Database : Type 0 where
   pub tables : List (Name × Contents)
+  pub rest : List (Name × (ℕ × Row))
+
+-- the rows of all tables, each with its number and the name of its table, one table after another
+abbrev pub all_rows : List (Name × Contents) → List (Name × (ℕ × Row))
+all_rows tables = flat_map (λ t. map (λ numbered. (t.0, numbered)) t.1.rows) tables
 
 -- whether a numbered row satisfies the filter
 abbrev pub satisfies : List Column → List Condition → ℕ × Row → Bool
@@ -88,3 +94,9 @@ abbrev pub with_change : Name → (Contents → Contents)
     → List (Name × Contents) → List (Name × Contents)
 with_change name change tables =
     option_map_or (λ t. set_value (same_name name) tables (change t)) (table_of tables name) tables
+
+-- a first part of what was left went to the end of a vector
+pub record Moves {A : Type 0} (left rest before after : List A) : Type 0 where
+  pub moved : List A
+  pub taken : left ≡ moved ++ rest
+  pub given : after ≡ before ++ moved

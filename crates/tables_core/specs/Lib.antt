@@ -1,3 +1,4 @@
+pub mod Capture
 pub mod Contents
 pub mod Fitting
 pub mod Laws

@@ -1,11 +1,10 @@
 //! A filter on the rows of one table.
 ghost use Rattle.std.specs.Prelude.{◌≡◌};
-ghost use Rattle.base_core.specs.Filter.{at_index, cell_meets, compares};
-ghost use Rattle.tables_core.specs.Contents.{satisfies};
+ghost use Rattle.base_core.specs.Filter.{at_index, cell_meets, compares, is_chosen};
 
 use crate::resolved::Resolved;
-use crate::rows::{NumberedRow, value_at};
-use base_core::{Condition, Value};
+use crate::rows::value_at;
+use base_core::{Condition, Row, Value};
 
 /// Whether a value meets a condition. Never where its type is another than the literal's.
 fn meets(value: &Value, condition: &Condition) -> bool
@@ -20,6 +19,7 @@ fn meets(value: &Value, condition: &Condition) -> bool
 }
 
 /// Whether a row meets a condition on the column at this index. Not where there is none.
+#[inline(always)]
 fn is_met(condition: &Condition, index: Option<usize>, values: &[Value]) -> bool
     ensures { result ≡ cell_meets condition.now (at_index values.now index) }
 {
@@ -31,10 +31,11 @@ fn is_met(condition: &Condition, index: Option<usize>, values: &[Value]) -> bool
 
 impl Resolved<'_, Condition> {
     /// Whether the row meets every condition.
-    pub fn choose(&self, numbered: &NumberedRow) -> bool
-        ensures { result ≡ satisfies self.now.columns.now self.now.items.now numbered.now }
+    #[inline(always)]
+    pub fn choose(&self, row: &Row) -> bool
+        ensures { result ≡ is_chosen self.now.columns.now self.now.items.now row.now.values }
     {
-        let values = numbered.1.values.as_slice();
+        let values = row.values.as_slice();
         for (at, condition) in self.items().iter().enumerate() {
             if !is_met(condition, self.index_of(at, condition), values) {
                 return false;

@@ -1,14 +1,15 @@
-//! Typed tables in memory: rows under numbers, filters, and assignments.
+//! Typed tables in memory: rows under numbers, filters, assignments, and a capture of all of them.
 //!
-//! A value of [`Tables`] stands for a `Database`, a record whose field `tables` is the list of its
-//! tables in the order of their creation, each with its name, its owner, its columns, the number of
-//! rows ever inserted, and the rows that it has now. A row's number is how many rows were inserted
-//! into its table before it: it stays when the row is updated, and no later row gets it once the
-//! row is deleted.
+//! A value of [`Tables`] stands for a `Database`, a record of two lists. Its `tables` are in the
+//! order of their creation, each with its name, its owner, its columns, the number of rows ever
+//! inserted, and the rows that it has now. A row's number is how many rows were inserted into its
+//! table before it: it stays when the row is updated, and no later row gets it once the row is
+//! deleted. Its `rest` are the rows that a capture has still to give, each with its number and the
+//! name of its table.
 //!
-//! The one contract: each change makes of that list exactly what its definition in
-//! `specs/Contents.antt` says, each look-up answers by the list, and a call that answers
-//! [`NoMemory`](base_core::NoMemory) leaves the list as it was.
+//! The one contract: each change makes of `tables` exactly what its definition in
+//! `specs/Contents.antt` says and leaves `rest` as it is, each look-up answers by `tables`, and a
+//! call that answers [`NoMemory`](base_core::NoMemory) leaves `tables` as they were.
 //!
 //! No two tables have one name, the columns of each have different names, and its rows fit them, as
 //! many values as columns and each of its column's type (`specs/Fitting.antt`). So columns, rows
@@ -25,9 +26,34 @@
 //! let mut tables = Tables::new(alloc);
 //! tables.create(pay, ann, columns)?;         // pay: wage INTEGER
 //! tables.insert(pay, row)?;                  // row 0 is (5)
+//! tables.begin();                            // a capture of the one row
 //! tables.update(pay, &wage_is_7, &[])?;      // row 0 is (7)
 //! tables.select(pay, &[wage], &[])?          // the one row (7)
+//! tables.capture_step(&mut out, 100)?        // 1: (pay, (0, (5))), as it was
 //! ```
+//!
+//! # How a capture works
+//!
+//! Each table keeps its rows in a [`Store`](copyup_core::Store), which can be captured by itself,
+//! by Copy-on-Update. Were `begin` to begin the capture of each store, it would go over all tables.
+//! So it only gives the new capture a number, and notes how many tables there are. A table bears
+//! the number of the last capture that its own store's was begun for. That is begun for this one
+//! before the first change to the table, or when the steps come to it. Until then nothing of the
+//! table was changed, so that what it has to give is all that it has.
+//!
+//! ```text
+//! begin: capture 4        an INSERT into b           a step goes over a, and ends in b
+//!
+//! table   a  b  c         a  b  c                    a  b  c
+//! bears   3  3  1         3  4  1                    4  4  1
+//! walk    |-----|         |-----|                       |--|
+//! ```
+//!
+//! A table that was created after `begin` bears the capture's number from the start, and has
+//! nothing to give. What a capture that was given up left in a table goes before the next change to
+//! that table.
+//!
+//! # Cost
 //!
 //! A table is found by its name in constant time, by a hash, however many tables there are. So
 //! `len`, `is_empty`, `name_at`, `at`, `owner`, `columns`, `row_count` and `inserted` take constant
@@ -36,18 +62,27 @@
 //! assignment, and `columns_differ` for each column. `select`, `update` and `delete` look up once
 //! the columns of the first 32 items of each list that they are given, and go once over the rows of
 //! the table, with the filter at each row; to that `select` and `update` add a new list of values
-//! for each row that the filter chooses. `create`, `insert`, `select` and `update` take memory, and
-//! no other call does.
+//! for each row that the filter chooses.
+//!
+//! `begin`, `left` and `abandon` are constant, but that once in 2^64 captures `begin` goes over the
+//! tables. `capture_step` of k copies k rows at most, each by sharing its values, and goes over the
+//! tables that it leaves behind, each once in a capture. To a change a capture adds two comparisons
+//! and what the store keeps for it, and no memory.
+//!
+//! `create`, `insert`, `select`, `update` and `capture_step` take memory, and no other call does.
 #![tactic(auto)]
 
+mod capture;
 mod columns;
 mod filter;
 mod laws;
+mod marked;
 mod resolved;
 mod rows;
 mod table;
 mod tables;
 mod update;
+mod walk;
 
 pub use columns::columns_differ;
 pub use laws::{look_ups_after_changes, numbers_rise, rows_fit};

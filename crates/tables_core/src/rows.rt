@@ -1,8 +1,8 @@
 //! Work on the rows of one table.
-ghost use Rattle.std.specs.Prelude.{◌≡◌, ◌↔◌, IfOk, IsTrue, map, filter, not, true};
+ghost use Rattle.std.specs.Prelude.{◌≡◌, ◌+◌, ◌↔◌, IfOk, IsTrue, map, filter, length, not, true};
 ghost use Rattle.std.specs.List.{list_all, zip};
 ghost use Rattle.std.specs.Option.{option_copied};
-ghost use Rattle.base_core.specs.Filter.{at_index};
+ghost use Rattle.base_core.specs.Filter.{at_index, is_chosen};
 ghost use Rattle.base_core.specs.Values.{has_type};
 ghost use Rattle.tables_core.specs.Contents.{satisfies, projected_values};
 ghost use Rattle.tables_core.specs.Fitting.{ValuesFit, assignment_fits};
@@ -12,6 +12,7 @@ use crate::resolved::Resolved;
 use base_core::{
     Assignment, Column, Condition, Name, NoMemory, Row, Twin, Value, ValuesBuilder, column_index,
 };
+use copyup_core::{Sieve, Store};
 use std::alloc::Global;
 
 /// A row, and how many rows were inserted into its table before it.
@@ -113,7 +114,7 @@ pub fn select_chosen(
     alloc: Global,
     names: &Resolved<'_, Name>,
     conditions: &Resolved<'_, Condition>,
-    rows: &[NumberedRow],
+    rows: &Store<Row>,
 ) -> Result<Vec<Row>, NoMemory>
     ensures { IfOk result
         (λ chosen.
@@ -121,23 +122,44 @@ pub fn select_chosen(
         ≡ map
         (λ r.
         record { values = projected_values names.now.columns.now names.now.items.now r.1.values })
-        (filter (satisfies conditions.now.columns.now conditions.now.items.now) rows.now)) }
+        (filter (satisfies conditions.now.columns.now conditions.now.items.now)
+        rows.now.contents)) }
 {
     let in_order = are_in_order(names);
     let mut chosen = Vec::new(alloc);
-    for numbered in rows {
-        if conditions.choose(numbered) {
-            chosen.push(cut_or_shared(alloc, names, in_order, &numbered.1)?)?;
+    for (_, row) in rows.items() {
+        if conditions.choose(row) {
+            chosen.push(cut_or_shared(alloc, names, in_order, row)?)?;
         }
     }
     Ok(chosen)
 }
 
-/// Drops the rows that the filter chooses.
-pub fn drop_chosen(columns: &[Column], rows: &mut Vec<NumberedRow>, conditions: &[Condition])
-    ensures { rows.new.items
-        ≡ filter (λ r. not (satisfies columns.now conditions.now r)) rows.old.items }
+/// Keeps the rows that the filter does not choose.
+#[derive(Drop)]
+struct Unchosen<'a> {
+    filter: Resolved<'a, Condition>,
+}
+
+impl Sieve<Row> for Unchosen<'_> {
+    ghost keeps = { λ s row. not (is_chosen s.filter.columns.now s.filter.items.now row.values) };
+
+    #[inline(always)]
+    fn keeps(&self, row: &Row) -> bool {
+        !self.filter.choose(row)
+    }
+}
+
+/// Drops the rows that the filter chooses, and says how many.
+pub fn drop_chosen(columns: &[Column], rows: &mut Store<Row>, conditions: &[Condition]) -> usize
+    ensures contents { rows.new.contents
+        ≡ filter (λ r. not (satisfies columns.now conditions.now r)) rows.old.contents }
+    ensures count { result + length rows.new.contents ≡ length rows.old.contents }
+    ensures next { rows.new.next ≡ rows.old.next }
+    ensures rest { rows.new.rest ≡ rows.old.rest }
 {
+    let before = rows.len();
     let filter = Resolved::new(columns, conditions);
-    rows.retain(|numbered| !filter.choose(numbered));
+    rows.retain(&Unchosen { filter });
+    before - rows.len()
 }

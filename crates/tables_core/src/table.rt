@@ -1,33 +1,44 @@
 //! One table.
-ghost use Rattle.std.specs.Prelude.{◌≡◌, ◌<◌, ◌^◌, ◌↔◌, IfOk, OnOk, OnErr, IsTrue, length};
+ghost use Rattle.std.specs.Prelude.{◌≡◌, ◌+◌, ◌<◌, ◌^◌, ◌↔◌, ◌++◌, [], IfOk, OnOk, OnErr, IsTrue, min, length, map, take, drop};
+ghost use Rattle.tables_core.specs.Capture.{KeepsDue, due_for};
 ghost use Rattle.tables_core.specs.Contents.{empty_table, with_row, without_chosen_rows, with_updated_rows, selected_rows};
 ghost use Rattle.tables_core.specs.Fitting.{ColumnsDiffer, ValuesFit, AssignmentsFit, IsWellTyped};
 
+use crate::marked::Marked;
 use crate::resolved::Resolved;
 use crate::rows::{self, NumberedRow};
 use crate::update::update_chosen;
+use crate::walk::Walk;
 use base_core::{Assignment, Column, Condition, Name, NoMemory, Row, Sequence, User, Value};
+use copyup_core::Store;
 use std::alloc::Global;
 use std::marker::Model;
 
+/// Its rows are in a store, which begins its numbers with 0: `inserted` is the next one.
 #[derive(Drop)]
 pub struct Table {
     owner: User,
     columns: Sequence<Column>,
     inserted: u64,
-    rows: Vec<NumberedRow>,
+    rows: Marked,
 }
 
 impl Model for Table {
-    ghost use Rattle.tables_core.specs.Contents.{Contents};
+    ghost use Rattle.std.specs.Prelude.{◌≡◌};
+    ghost use Rattle.copyup_core.specs.Holding.{due};
+    ghost use Rattle.tables_core.specs.Capture.{Covered};
 
-    ghost Value = { Contents };
+    ghost Value = { Covered };
 
     ghost view = { λ t. record {
-      owner = t.owner;
-      columns = t.columns;
-      inserted = t.inserted;
-      rows = t.rows.items;
+      contents = record {
+        owner = t.owner;
+        columns = t.columns;
+        inserted = t.inserted;
+        rows = t.rows.store.contents;
+      };
+      mark = t.rows.mark;
+      due = due t.rows.store;
     } };
 
     ghost use Rattle.tables_core.specs.Fitting.{IsWellTyped};
@@ -36,78 +47,86 @@ impl Model for Table {
       owner = t.owner;
       columns = t.columns;
       inserted = t.inserted;
-      rows = t.rows.items;
-    }) };
+      rows = t.rows.store.contents;
+    }) × (t.inserted ≡ t.rows.store.next) };
 }
 
 impl Table {
-    /// A table without rows. It takes no memory.
-    pub fn new(alloc: Global, owner: User, columns: Sequence<Column>) -> Table
+    /// A table without rows, which has nothing to give for the capture of this number. It takes no
+    /// memory.
+    pub fn new(alloc: Global, owner: User, columns: Sequence<Column>, number: u64) -> Table
         requires { ColumnsDiffer columns }
-        ensures { result ≡ empty_table owner columns }
+        ensures contents { result.contents ≡ empty_table owner columns }
+        ensures mark { result.mark ≡ number }
+        ensures due { result.due ≡ [] }
     {
         Table {
             owner,
             columns,
             inserted: 0,
-            rows: Vec::new(alloc),
+            rows: Marked {
+                store: Store::new(alloc),
+                mark: number,
+            },
         }
     }
 
     pub fn owner(&self) -> User
-        ensures { result ≡ self.now.owner }
+        ensures { result ≡ self.now.contents.owner }
     {
         self.owner
     }
 
     pub fn columns(&self) -> &[Column]
-        ensures { result.now ≡ self.now.columns }
+        ensures { result.now ≡ self.now.contents.columns }
     {
         self.columns.as_slice()
     }
 
     pub fn row_count(&self) -> usize
-        ensures { result ≡ length self.now.rows }
+        ensures { result ≡ length self.now.contents.rows }
     {
-        self.rows.len()
+        self.rows.store.len()
     }
 
     pub fn inserted(&self) -> u64
-        ensures { result ≡ self.now.inserted }
+        ensures { result ≡ self.now.contents.inserted }
     {
         self.inserted
     }
 
     /// The rows, in the order of their numbers.
-    pub fn rows(&self) -> &[NumberedRow]
-        ensures rows { result.now ≡ self.now.rows }
-        ensures typed { IsWellTyped self.now }
+    pub fn rows(&self) -> &Store<Row>
+        ensures rows { result.now.contents ≡ self.now.contents.rows }
+        ensures typed { IsWellTyped self.now.contents }
     {
-        &self.rows
+        &self.rows.store
     }
 
     /// Whether the values fit the columns.
     pub fn takes_row(&self, values: &[Value]) -> bool
-        ensures { IsTrue result ↔ ValuesFit self.now.columns values.now }
+        ensures { IsTrue result ↔ ValuesFit self.now.contents.columns values.now }
     {
         rows::fits(self.columns.as_slice(), values)
     }
 
     /// Whether each of the assignments fits the columns.
     pub fn takes_assignments(&self, sets: &[Assignment]) -> bool
-        ensures { IsTrue result ↔ AssignmentsFit self.now.columns sets.now }
+        ensures { IsTrue result ↔ AssignmentsFit self.now.contents.columns sets.now }
     {
         rows::assignments_fit(self.columns.as_slice(), sets)
     }
 
     /// Appends a row under the next number.
-    pub fn insert(&mut self, row: Row) -> Result<(), NoMemory>
-        requires few { self.old.inserted < 2 ^ 63 }
-        requires fits { ValuesFit self.old.columns row.values }
-        ensures ok { OnOk result (self.new ≡ with_row row self.old) }
-        ensures no_memory { OnErr result (self.new ≡ self.old) }
+    #[inline(always)]
+    pub fn insert(&mut self, walk: Walk, row: Row) -> Result<(), NoMemory>
+        requires few { self.old.contents.inserted < 2 ^ 63 }
+        requires fits { ValuesFit self.old.contents.columns row.values }
+        ensures ok { OnOk result (self.new.contents ≡ with_row row self.old.contents) }
+        ensures no_memory { OnErr result (self.new.contents ≡ self.old.contents) }
+        ensures due { KeepsDue walk self.old self.new }
     {
-        self.rows.push((self.inserted, row))?;
+        self.rows.push(walk, row)?;
         self.inserted += 1;
         Ok(())
     }
@@ -119,38 +138,73 @@ impl Table {
         names: &[Name],
         filter: &[Condition],
     ) -> Result<Vec<Row>, NoMemory>
-        ensures { IfOk result (λ rows. rows.items ≡ selected_rows names.now filter.now self.now) }
+        ensures { IfOk result
+            (λ rows. rows.items ≡ selected_rows names.now filter.now self.now.contents) }
     {
         let columns = self.columns.as_slice();
         let names = Resolved::new(columns, names);
         let conditions = Resolved::new(columns, filter);
-        rows::select_chosen(alloc, &names, &conditions, &self.rows)
+        rows::select_chosen(alloc, &names, &conditions, &self.rows.store)
     }
 
     /// Makes the assignments in the chosen rows.
     pub fn update(
         &mut self,
         alloc: Global,
+        walk: Walk,
         sets: &[Assignment],
         filter: &[Condition],
     ) -> Result<(), NoMemory>
-        requires { AssignmentsFit self.old.columns sets.now }
-        ensures ok { OnOk result (self.new ≡ with_updated_rows sets.now filter.now self.old) }
-        ensures no_memory { OnErr result (self.new ≡ self.old) }
+        requires { AssignmentsFit self.old.contents.columns sets.now }
+        ensures ok { OnOk result
+            (self.new.contents ≡ with_updated_rows sets.now filter.now self.old.contents) }
+        ensures no_memory { OnErr result (self.new.contents ≡ self.old.contents) }
+        ensures due { KeepsDue walk self.old self.new }
     {
-        update_chosen(
-            alloc,
-            self.columns.as_slice(),
-            self.rows.as_mut_slice(),
-            sets,
-            filter,
-        )
+        let columns = self.columns.as_slice();
+        update_chosen(alloc, walk, columns, &mut self.rows, sets, filter)
     }
 
-    /// Drops the chosen rows.
-    pub fn delete(&mut self, filter: &[Condition])
-        ensures { self.new ≡ without_chosen_rows filter.now self.old }
+    /// Drops the chosen rows, and says how many.
+    pub fn delete(&mut self, walk: Walk, filter: &[Condition]) -> usize
+        ensures contents { self.new.contents ≡ without_chosen_rows filter.now self.old.contents }
+        ensures count { result + length self.new.contents.rows ≡ length self.old.contents.rows }
+        ensures due { KeepsDue walk self.old self.new }
     {
-        rows::drop_chosen(self.columns.as_slice(), &mut self.rows, filter);
+        self.rows.prepare(walk);
+        rows::drop_chosen(self.columns.as_slice(), &mut self.rows.store, filter)
+    }
+
+    /// Lets the table's own capture bear no number.
+    pub fn unmark(&mut self)
+        ensures contents { self.new.contents ≡ self.old.contents }
+        ensures mark { self.new.mark ≡ 0 }
+    {
+        self.rows.mark = 0;
+    }
+
+    /// Appends to `out` the next `count` rows, or all, that the table has to give for the capture
+    /// of this number, each with this name, and gives how many.
+    pub fn capture_step(
+        &mut self,
+        alloc: Global,
+        number: u64,
+        name: Name,
+        out: &mut Vec<(Name, NumberedRow)>,
+        count: usize,
+    ) -> Result<usize, NoMemory>
+        ensures mark { self.new.mark ≡ number }
+        ensures contents { self.new.contents ≡ self.old.contents }
+        ensures given { IfOk result
+            (λ given. given ≡ min count (length (due_for number self.old))) }
+        ensures items { OnOk result
+            (out.new.items
+            ≡ out.old.items
+            ++ map (λ numbered. (name, numbered)) (take count (due_for number self.old))) }
+        ensures left { OnOk result (self.new.due ≡ drop count (due_for number self.old)) }
+        ensures err { OnErr result (self.new.due ≡ due_for number self.old) }
+        ensures out_err { OnErr result (out.new.items ≡ out.old.items) }
+    {
+        self.rows.capture_step(alloc, number, name, out, count)
     }
 }

@@ -1,17 +1,20 @@
 //! All tables, by name.
-ghost use Rattle.std.specs.Prelude.{IfSome, ◌≡◌, ◌<◌, ◌^◌, ◌↔◌, ◌++◌, ◌∷◌, [], IfOk, OnOk, OnErr, IsTrue, IsSome, IsSomeAnd, Some, None, slice_get, length, option_map};
+ghost use Rattle.std.specs.Prelude.{IfSome, ◌≡◌, ◌+◌, ◌<◌, ◌^◌, ◌↔◌, ◌++◌, ◌∷◌, [], IfOk, OnOk, OnErr, IsTrue, IsSome, IsSomeAnd, Some, None, slice_get, min, length, option_map};
 ghost use Rattle.std.specs.Option.{option_copied, option_map_or};
 ghost use Rattle.std.specs.List.{IsDistinct};
 ghost use Rattle.std.specs.Map.{keys_of};
 ghost use Rattle.base_core.specs.Words.{same_name};
-ghost use Rattle.tables_core.specs.Contents.{empty_table, with_row, without_chosen_rows, with_updated_rows, selected_rows, table_of, column_of, with_change};
+ghost use Rattle.tables_core.specs.Contents.{Moves, all_rows, empty_table, with_row, without_chosen_rows, with_updated_rows, selected_rows, table_of, column_of, with_change};
 ghost use Rattle.tables_core.specs.Fitting.{ColumnsDiffer, ValuesFit, AssignmentsFit, IsWellTyped};
 
+use crate::capture::{next_number, walk_on};
 use crate::rows::NumberedRow;
 use crate::table::Table;
+use crate::walk::Walk;
 use base_core::{
     Assignment, Column, Condition, Name, NoMemory, Row, Sequence, User, Value, column_index,
 };
+use copyup_core::Store;
 use indexmap::IndexMap;
 use std::alloc::Global;
 use std::marker::Model;
@@ -25,34 +28,58 @@ pub struct TableView<'a> {
     /// How many rows were ever inserted: the number of the next one.
     pub inserted: u64,
     /// The rows that the table has, each with its number, in the order of these.
-    pub rows: &'a [NumberedRow],
+    pub rows: &'a Store<Row>,
 }
 
-/// Tables in the order of their creation. Contracts see the list of them, each with its name, as
-/// the `tables` of a record.
+/// Tables in the order of their creation, and at most one capture of them all. Contracts see the
+/// list of the tables, each with its name, as the `tables` of a record, and the rows that the
+/// capture has still to give as its `rest`.
 #[derive(Drop)]
 pub struct Tables {
     alloc: Global,
     tables: IndexMap<Name, Table>,
+    walk: Walk,
+    total: usize,
 }
 
 impl Model for Tables {
     ghost use Rattle.tables_core.specs.Contents.{Database};
+    ghost use Rattle.tables_core.specs.Capture.{shown_tables, rest_in, IsWalk};
 
     ghost Value = { Database };
 
-    ghost view = { λ t. record { tables = t.tables.entries } };
+    ghost view = { λ t. record {
+      tables = shown_tables t.tables.entries;
+      rest = rest_in t.walk.number t.walk.cursor t.walk.end t.tables.entries;
+    } };
+
+    ghost invariant = { λ t. IsWalk t.tables.entries t.walk t.total };
 }
 
 impl Tables {
     /// No tables. It takes no memory.
     pub fn new(alloc: Global) -> Tables
-        ensures { result ≡ record { tables = [] } }
+        ensures { result ≡ record { tables = []; rest = [] } }
     {
         Tables {
             alloc,
             tables: IndexMap::new(alloc),
+            walk: Walk {
+                number: 0,
+                cursor: 0,
+                end: 0,
+                left: 0,
+            },
+            total: 0,
         }
+    }
+
+    /// The table of this name, as it is kept.
+    #[inline(always)]
+    fn find(&self, name: Name) -> Option<&Table>
+        ensures { option_map (λ t. t.now.contents) result ≡ table_of self.now.tables name }
+    {
+        self.tables.get(&name)
     }
 
     /// How many tables there are. No two of them have one name.
@@ -90,7 +117,7 @@ impl Tables {
                 owner = v.owner;
                 columns = v.columns.now;
                 inserted = v.inserted;
-                rows = v.rows.now;
+                rows = v.rows.now.contents;
               },
             ))
             result
@@ -111,7 +138,7 @@ impl Tables {
     pub fn owner(&self, name: Name) -> Option<User>
         ensures { result ≡ option_map (λ t. t.owner) (table_of self.now.tables name) }
     {
-        Some(self.tables.get(&name)?.owner())
+        Some(self.find(name)?.owner())
     }
 
     /// The columns of the table of this name, in order. None where there is no such table.
@@ -119,7 +146,7 @@ impl Tables {
         ensures { option_copied result
             ≡ option_map (λ t. t.columns) (table_of self.now.tables name) }
     {
-        Some(self.tables.get(&name)?.columns())
+        Some(self.find(name)?.columns())
     }
 
     /// The column of this name in the table of that name. None where there is no such table, or no
@@ -127,7 +154,7 @@ impl Tables {
     pub fn column(&self, name: Name, column: Name) -> Option<Column>
         ensures { result ≡ column_of self.now.tables name column }
     {
-        let columns = self.tables.get(&name)?.columns();
+        let columns = self.find(name)?.columns();
         columns.get(column_index(columns, column)?).copied()
     }
 
@@ -135,7 +162,7 @@ impl Tables {
     pub fn row_count(&self, name: Name) -> usize
         ensures { result ≡ option_map_or (λ t. length t.rows) (table_of self.now.tables name) 0 }
     {
-        match self.tables.get(&name) {
+        match self.find(name) {
             Some(table) => table.row_count(),
             None => 0,
         }
@@ -146,7 +173,7 @@ impl Tables {
     pub fn inserted(&self, name: Name) -> u64
         ensures { result ≡ option_map_or (λ t. t.inserted) (table_of self.now.tables name) 0 }
     {
-        match self.tables.get(&name) {
+        match self.find(name) {
             Some(table) => table.inserted(),
             None => 0,
         }
@@ -158,7 +185,7 @@ impl Tables {
         ensures { IsTrue result
             ↔ IsSomeAnd (table_of self.now.tables name) (λ t. ValuesFit t.columns values.now) }
     {
-        match self.tables.get(&name) {
+        match self.find(name) {
             Some(table) => table.takes_row(values),
             None => false,
         }
@@ -170,7 +197,7 @@ impl Tables {
         ensures { IsTrue result
             ↔ IsSomeAnd (table_of self.now.tables name) (λ t. AssignmentsFit t.columns sets.now) }
     {
-        match self.tables.get(&name) {
+        match self.find(name) {
             Some(table) => table.takes_assignments(sets),
             None => false,
         }
@@ -189,9 +216,10 @@ impl Tables {
         requires differ { ColumnsDiffer columns }
         ensures ok { OnOk result
             (self.new.tables ≡ self.old.tables ++ (name, empty_table owner columns) ∷ []) }
+        ensures rest { self.new.rest ≡ self.old.rest }
         ensures no_memory { OnErr result (self.new ≡ self.old) }
     {
-        let table = Table::new(self.alloc, owner, columns);
+        let table = Table::new(self.alloc, owner, columns, self.walk.number);
         self.tables.insert(name, table)?;
         Ok(())
     }
@@ -205,12 +233,16 @@ impl Tables {
             (λ t. ValuesFit t.columns row.values) }
         ensures ok { OnOk result
             (self.new.tables ≡ with_change name (with_row row) self.old.tables) }
+        ensures rest { self.new.rest ≡ self.old.rest }
         ensures no_memory { OnErr result (self.new ≡ self.old) }
     {
+        let walk = self.walk;
         match self.tables.get_mut(&name) {
-            Some(table) => table.insert(row),
+            Some(table) => table.insert(walk, row)?,
             None => unreachable!(),
         }
+        self.total = self.total.wrapping_add(1);
+        Ok(())
     }
 
     /// Copies of the rows that the filter chooses, in the order of their numbers, each cut to the
@@ -228,7 +260,7 @@ impl Tables {
             option_map (selected_rows columns.now filter.now) (table_of self.now.tables name)
             ≡ Some rows.items) }
     {
-        match self.tables.get(&name) {
+        match self.find(name) {
             Some(table) => table.select(self.alloc, columns, filter),
             None => unreachable!(),
         }
@@ -238,7 +270,7 @@ impl Tables {
     /// their places and numbers. The table must be there, and the assignments must fit its columns,
     /// as [`takes_assignments`](Tables::takes_assignments) tells. `NoMemory` where a request for
     /// memory was refused: then no row has changed.
-    // What goes over all rows stands out of line, here and below, so that no INSERT pays for its room.
+    // What goes over all rows stands out of line, here and below: no INSERT pays for its room.
     #[inline(never)]
     pub fn update(
         &mut self,
@@ -251,10 +283,12 @@ impl Tables {
         ensures ok { OnOk result
             (self.new.tables
             ≡ with_change name (with_updated_rows sets.now filter.now) self.old.tables) }
+        ensures rest { self.new.rest ≡ self.old.rest }
         ensures no_memory { OnErr result (self.new ≡ self.old) }
     {
+        let walk = self.walk;
         match self.tables.get_mut(&name) {
-            Some(table) => table.update(self.alloc, sets, filter),
+            Some(table) => table.update(self.alloc, walk, sets, filter),
             None => unreachable!(),
         }
     }
@@ -263,11 +297,72 @@ impl Tables {
     /// is no such table, nothing changes.
     #[inline(never)]
     pub fn delete(&mut self, name: Name, filter: &[Condition])
-        ensures { self.new.tables
+        ensures tables { self.new.tables
             ≡ with_change name (without_chosen_rows filter.now) self.old.tables }
+        ensures rest { self.new.rest ≡ self.old.rest }
     {
+        let walk = self.walk;
         if let Some(table) = self.tables.get_mut(&name) {
-            table.delete(filter);
+            let dropped = table.delete(walk, filter);
+            self.total = self.total.wrapping_sub(dropped);
         }
+    }
+
+    /// Begins a capture of all rows as they are now, and drops an older one. There must be fewer
+    /// than 2^63 rows in all. It is constant but once in 2^64 captures, and takes no memory.
+    pub fn begin(&mut self)
+        requires { length (all_rows self.old.tables) < 2 ^ 63 }
+        ensures { self.new ≡ record self.old { rest = all_rows self.old.tables } }
+    {
+        let number = next_number(&mut self.tables, self.walk.number);
+        let covered = Walk {
+            number,
+            cursor: 0,
+            end: self.tables.len(),
+            left: 0,
+        };
+        self.walk = covered.standing_at(0, self.total);
+    }
+
+    /// How many rows the capture has still to give. 0 where none is active.
+    pub fn left(&self) -> usize
+        ensures { result ≡ length self.now.rest }
+    {
+        self.walk.left
+    }
+
+    /// Gives the capture up. Where none is active, nothing changes. It is constant, and takes no
+    /// memory.
+    pub fn abandon(&mut self)
+        ensures { self.new ≡ record self.old { rest = [] } }
+    {
+        self.walk = self.walk.standing_at(self.walk.end, 0);
+    }
+
+    /// Appends to `out` the next `count` rows of the capture, or all that are left, each as it was
+    /// when the capture began, with its number and the name of its table, and gives how many. The
+    /// rows come table by table, in the order of their numbers. With none left it appends nothing.
+    ///
+    /// `NoMemory` where a request for memory was refused: the rows captured before it are in `out`,
+    /// and are no more left.
+    pub fn capture_step(
+        &mut self,
+        out: &mut Vec<(Name, NumberedRow)>,
+        count: usize,
+    ) -> Result<usize, NoMemory>
+        ensures tables { self.new.tables ≡ self.old.tables }
+        ensures moves { Moves self.old.rest self.new.rest out.old.items out.new.items }
+        ensures count { IfOk result (λ given. given ≡ min count (length self.old.rest)) }
+        ensures left { IfOk result (λ given.
+            given + length self.new.rest ≡ length self.old.rest) }
+    {
+        let stop = walk_on(self.alloc, &mut self.tables, self.walk, out, count);
+        self.walk = self
+            .walk
+            .standing_at(stop.place, self.walk.left - stop.given);
+        if stop.refused {
+            return Err(NoMemory);
+        }
+        Ok(stop.given)
     }
 }

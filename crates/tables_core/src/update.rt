@@ -1,12 +1,18 @@
 //! Assignments in the rows of one table.
-ghost use Rattle.std.specs.Prelude.{◌≡◌, IfOk, OnOk, OnErr, map};
+ghost use Rattle.std.specs.Prelude.{◌≡◌, ◌≤◌, ◌<◌, IfOk, OnOk, OnErr, IsSome, map, filter, ◌++◌, ◌∷◌, []};
+ghost use Rattle.std.specs.List.{AllByRecursion};
 ghost use Rattle.base_core.specs.Filter.{with_value};
-ghost use Rattle.tables_core.specs.Contents.{assigned_values, updated_row};
+ghost use Rattle.copyup_core.specs.Holding.{due, value_at};
+ghost use Rattle.tables_core.specs.Capture.{rows_due_for};
+ghost use Rattle.tables_core.specs.Contents.{assigned_row, assigned_values, satisfies, updated_row};
 ghost use Rattle.tables_core.specs.Updating.{with_new_rows};
 
+use crate::marked::Marked;
 use crate::resolved::Resolved;
 use crate::rows::NumberedRow;
+use crate::walk::Walk;
 use base_core::{Assignment, Column, Condition, NoMemory, Row, Twin, Value, ValuesBuilder};
+use copyup_core::Store;
 use std::alloc::Global;
 
 /// Puts a value in the place of the one at this index, if there is one.
@@ -36,37 +42,57 @@ fn with_assignments(
     Ok(Row { values })
 }
 
-/// For each row that the filter chooses its index, and the row after the assignments.
+/// Appends the row as it is after the assignments, under its number.
+fn push_assigned(
+    alloc: Global,
+    sets: &Resolved<'_, Assignment>,
+    number: u64,
+    row: &Row,
+    new_rows: &mut Vec<NumberedRow>,
+) -> Result<(), NoMemory>
+    ensures { OnOk result
+        (new_rows.new.items
+        ≡ new_rows.old.items
+        ++ assigned_row sets.now.columns.now sets.now.items.now (number, row.now) ∷ []) }
+{
+    let row = with_assignments(alloc, sets, row.values.as_slice())?;
+    new_rows.push((number, row))?;
+    Ok(())
+}
+
+/// Each row that the filter chooses, as it is after the assignments, under its number.
 fn new_rows_of(
     alloc: Global,
-    rows: &[NumberedRow],
+    rows: &Store<Row>,
     sets: &[Assignment],
-    filter: &Resolved<'_, Condition>,
-) -> Result<Vec<(usize, Row)>, NoMemory>
+    conditions: &Resolved<'_, Condition>,
+) -> Result<Vec<NumberedRow>, NoMemory>
     ensures { IfOk result
         (λ new_rows.
-        with_new_rows rows.now new_rows.items
-        ≡ map (updated_row filter.now.columns.now sets.now filter.now.items.now) rows.now) }
+        new_rows.items
+        ≡ map (assigned_row conditions.now.columns.now sets.now)
+        (filter (satisfies conditions.now.columns.now conditions.now.items.now)
+        rows.now.contents)) }
 {
-    let sets = Resolved::new(filter.columns(), sets);
+    let sets = Resolved::new(conditions.columns(), sets);
     let mut new_rows = Vec::new(alloc);
-    for (index, numbered) in rows.iter().enumerate() {
-        if filter.choose(numbered) {
-            let row = with_assignments(alloc, &sets, numbered.1.values.as_slice())?;
-            new_rows.push((index, row))?;
+    for (number, row) in rows.items() {
+        if conditions.choose(row) {
+            push_assigned(alloc, &sets, number, row, &mut new_rows)?;
         }
     }
     Ok(new_rows)
 }
 
-/// Puts the rows at their indexes, under the numbers there.
-fn set_new_rows(rows: &mut [NumberedRow], new_rows: Vec<(usize, Row)>)
-    ensures { rows.new ≡ with_new_rows rows.old new_rows.items }
+/// Puts the rows under their numbers, which have to be there.
+fn set_new_rows(rows: &mut Store<Row>, new_rows: Vec<NumberedRow>)
+    requires { AllByRecursion (λ r. IsSome (value_at r.0 rows.old.contents)) new_rows.items }
+    ensures contents { rows.new.contents ≡ with_new_rows rows.old.contents new_rows.items }
+    ensures next { rows.new.next ≡ rows.old.next }
+    ensures rest { rows.new.rest ≡ rows.old.rest }
 {
-    for (index, row) in new_rows {
-        if index < rows.len() {
-            rows[index].1 = row;
-        }
+    for (number, row) in new_rows {
+        drop(rows.replace(number, row));
     }
 }
 
@@ -74,17 +100,26 @@ fn set_new_rows(rows: &mut [NumberedRow], new_rows: Vec<(usize, Row)>)
 /// nothing has changed where one of them finds no memory.
 pub fn update_chosen(
     alloc: Global,
+    walk: Walk,
     columns: &[Column],
-    rows: &mut [NumberedRow],
+    rows: &mut Marked,
     sets: &[Assignment],
     filter: &[Condition],
 ) -> Result<(), NoMemory>
     ensures ok { OnOk result
-        (rows.new ≡ map (updated_row columns.now sets.now filter.now) rows.old) }
-    ensures no_memory { OnErr result (rows.new ≡ rows.old) }
+        (rows.new.store.contents
+        ≡ map (updated_row columns.now sets.now filter.now) rows.old.store.contents) }
+    ensures no_memory { OnErr result (rows.new.store.contents ≡ rows.old.store.contents) }
+    ensures next { rows.new.store.next ≡ rows.old.store.next }
+    ensures mark { rows.old.mark ≤ walk.number → rows.new.mark ≤ walk.number }
+    ensures due { walk.cursor < walk.end
+        → rows_due_for walk.number rows.new ≡ rows_due_for walk.number rows.old }
 {
+    // No two rows have one number: theirs rise, as `len` tells.
+    let _len = rows.store.len();
     let conditions = Resolved::new(columns, filter);
-    let new_rows = new_rows_of(alloc, rows, sets, &conditions)?;
-    set_new_rows(rows, new_rows);
+    let new_rows = new_rows_of(alloc, &rows.store, sets, &conditions)?;
+    rows.prepare(walk);
+    set_new_rows(&mut rows.store, new_rows);
     Ok(())
 }

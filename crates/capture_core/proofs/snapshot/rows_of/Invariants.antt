@@ -1,5 +1,5 @@
-use Rattle.std.proofs.Common.{◌≡◌, take, map}
+use Rattle.std.proofs.Common.{◌≡◌, ◌++◌, map}
 use Rattle.capture_core.proofs.snapshot.rows_of.Given as goal
 
 abbrev pub invariant-loop-row : goal.invariant-loop-row
-invariant-loop-row l = l.rows.items ≡ map (λ n. n.1) (take l.row-index l.numbered)
+invariant-loop-row l = l.rows.items ++ map (λ n. n.1) l.row-iterator ≡ map (λ n. n.1) l.numbered.contents

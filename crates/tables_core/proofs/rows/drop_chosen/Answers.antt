@@ -1,6 +1,16 @@
-use Rattle.std.proofs.Common.{rules}
-use Rattle.std.proofs.lemmas.Fn.{filter_same}
+use Rattle.std.proofs.Common.{not, length, refl, ap, arith}
+use Rattle.std.proofs.lemmas.List.Filters.{length-filter_both}
+use Rattle.tables_core.specs.Contents.{satisfies}
 use Rattle.tables_core.proofs.rows.drop_chosen.Goals as goal
 
-pub returns : goal.returns
-returns c = filter_same _ _ _ (λ x b f' k. search rules) _ _ c.retain.ensures.filtered
+pub overflow_sub-result : goal.overflow_sub-result
+overflow_sub-result c =
+    let chosen = satisfies c.new-filter.result.columns.now c.new-filter.result.items.now in
+    let both = length-filter_both chosen (λ r. not (chosen r)) (λ r. refl) c.args.rows.now.contents in
+    omega (arith, both, ap (λ h. length h.contents) c.retain.ensures.same)
+
+pub returns-clause-count : goal.returns-clause-count
+returns-clause-count c =
+    let chosen = satisfies c.new-filter.result.columns.now c.new-filter.result.items.now in
+    let both = length-filter_both chosen (λ r. not (chosen r)) (λ r. refl) c.args.rows.now.contents in
+    omega (arith, both, ap (λ h. length h.contents) c.retain.ensures.same)

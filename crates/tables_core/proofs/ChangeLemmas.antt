@@ -1,0 +1,95 @@
+-- What a change to one table, and a new table, make of all of them.
+use Rattle.std.proofs.Common.{◌≡◌, ◌≤◌, ◌+◌, ◌%◌, ◌^◌, ℕ, List, [], ◌∷◌, ◌++◌, Option, Some, None, length, map, drop, refl, sym, ap, subst, ◌∙◌, arith, append-nil, length-append}
+use Rattle.std.specs.List.{flat_map}
+use Rattle.std.specs.Map.{lookup, set_value}
+use Rattle.std.proofs.lemmas.List.{map-append, take-append-le}
+use Rattle.std.proofs.lemmas.Grind.{flat_map-append}
+use Rattle.std.proofs.lemmas.Map.Made.{lookup-map_values}
+use Rattle.std.proofs.lemmas.Map.Steps.{set_value_same}
+use Rattle.std.specs.Option.{option_map}
+use Rattle.base_core.specs.Words.{same_name}
+use Rattle.base_core.specs.declared.name.Name.{Name}
+use Rattle.base_core.specs.declared.name.User.{User}
+use Rattle.base_core.specs.declared.value.Column.{Column}
+use Rattle.base_core.specs.declared.value.Row.{Row}
+use Rattle.tables_core.specs.declared.walk.Walk.{Walk}
+use Rattle.tables_core.specs.Contents.{Contents, all_rows, empty_table, table_of, with_change, with_row}
+use Rattle.tables_core.specs.Capture.{Covered, KeepsDue, IsWalk, MarksUpTo, named_due, rest_in, shown_tables}
+use Rattle.tables_core.proofs.CaptureLemmas.{all_rows-changed, rest-kept, shown-named, walk-kept}
+use Rattle.tables_core.proofs.ContentsLemmas.{with_change-some, with_change-none}
+
+-- a look-up among the tables as callers see them
+pub shown-found : (name : Name) (ts : List (Name × Covered)) → table_of (shown_tables ts) name ≡ option_map (λ (t : Covered). t.contents) (lookup (same_name name) ts)
+shown-found name ts = lookup-map_values (λ (t : Covered). t.contents) (same_name name) ts
+
+module _ (name : Name) (ts after : List (Name × Covered)) (w : Walk) (x y : Covered) (there : lookup (same_name name) ts ≡ Some x) (written : after ≡ set_value (same_name name) ts y) where
+  pub shown-there : table_of (shown_tables ts) name ≡ Some x.contents
+  shown-there = shown-found name ts ∙ ap (option_map (λ (t : Covered). t.contents)) there
+
+  shown-after : shown_tables after ≡ set_value (same_name name) (shown_tables ts) y.contents
+  shown-after = ap shown_tables written ∙ shown-named (same_name name) ts y
+
+  pub shown-changed : (change : Contents → Contents) → y.contents ≡ change x.contents → shown_tables after ≡ with_change name change (shown_tables ts)
+  shown-changed change made = shown-after ∙ ap (set_value (same_name name) (shown_tables ts)) made ∙ sym (with_change-some name change (shown_tables ts) x.contents shown-there)
+
+  pub shown-same : y.contents ≡ x.contents → shown_tables after ≡ shown_tables ts
+  shown-same same = shown-after ∙ set_value_same (same_name name) (shown_tables ts) y.contents (shown-there ∙ ap Some (sym same))
+
+  pub rest-after : KeepsDue w x y → rest_in w.number w.cursor w.end after ≡ rest_in w.number w.cursor w.end ts
+  rest-after kept = ap (rest_in w.number w.cursor w.end) written ∙ rest-kept (same_name name) ts w x y there kept
+
+  pub walk-after : KeepsDue w x y → (total more : ℕ) → IsWalk ts w total → ((before now : ℕ) → total ≡ before % 2 ^ 64 → now + length x.contents.rows ≡ before + length y.contents.rows → more ≡ now % 2 ^ 64) → IsWalk after w more
+  walk-after kept total more s counted =
+      let long = all_rows-changed (same_name name) (shown_tables ts) x.contents y.contents shown-there in
+      let now = ap (λ l. length (all_rows l)) (shown-named (same_name name) ts y) in
+      let count = counted (length (all_rows (shown_tables ts))) (length (all_rows (shown_tables (set_value (same_name name) ts y)))) s.total_is (omega arith) in
+      subst (λ l. IsWalk l w more) (sym written) (walk-kept (same_name name) ts w x y there kept total more s count)
+
+-- a new table, behind the others
+module _ (ts : List (Name × Covered)) (name : Name) (t : Covered) (w : Walk) where
+  pub shown-added : shown_tables (ts ++ (name, t) ∷ []) ≡ shown_tables ts ++ (name, t.contents) ∷ []
+  shown-added = map-append (λ (e : Name × Covered). (e.0, e.1.contents)) ts ((name, t) ∷ [])
+
+  pub rest-added : w.end ≤ length ts → rest_in w.number w.cursor w.end (ts ++ (name, t) ∷ []) ≡ rest_in w.number w.cursor w.end ts
+  rest-added within = ap (λ l. flat_map (named_due w.number) (drop w.cursor l)) (take-append-le w.end ts ((name, t) ∷ []) within)
+
+  marks-added : (n : ℕ) (us : List (Name × Covered)) → t.mark ≤ n → MarksUpTo n us → MarksUpTo n (us ++ (name, t) ∷ [])
+  marks-added n [] le h = (le, tt)
+  marks-added n (u ∷ us) le h = (h.0, marks-added n us le h.1)
+
+  rows-added : t.contents.rows ≡ [] → all_rows (shown_tables (ts ++ (name, t) ∷ [])) ≡ all_rows (shown_tables ts)
+  rows-added empty =
+      let named : Name × Contents → List (Name × (ℕ × Row)) = λ k. map (λ numbered. (k.0, numbered)) k.1.rows in
+      ap all_rows shown-added
+      ∙ flat_map-append named (shown_tables ts) ((name, t.contents) ∷ [])
+      ∙ ap (λ rows. all_rows (shown_tables ts) ++ (map (λ numbered. (name, numbered)) rows ++ [])) empty
+      ∙ append-nil (all_rows (shown_tables ts))
+
+  pub walk-added : (total : ℕ) → t.mark ≡ w.number → t.contents.rows ≡ [] → IsWalk ts w total → IsWalk (ts ++ (name, t) ∷ []) w total
+  walk-added total mark empty s = record {
+    marks = marks-added w.number ts (omega arith) s.marks;
+    ordered = s.ordered;
+    within = let long = length-append ts ((name, t) ∷ []) in let k = s.within in omega arith;
+    left_is = s.left_is ∙ ap length (sym (rest-added s.within));
+    total_is = s.total_is ∙ ap (λ rows. length rows % 2 ^ 64) (sym (rows-added empty));
+  }
+
+-- a new row is one row more at most
+pub all_rows-with_row : (name : Name) (row : Row) (ts : List (Name × Contents)) → length (all_rows (with_change name (with_row row) ts)) ≤ length (all_rows ts) + 1
+all_rows-with_row name row ts = by (table_of ts name) refl
+  where
+    by : (o : Option Contents) → table_of ts name ≡ o → length (all_rows (with_change name (with_row row) ts)) ≤ length (all_rows ts) + 1
+    by (Some t) there =
+        let made = ap (λ l. length (all_rows l)) (with_change-some name (with_row row) ts t there) in
+        let counted = all_rows-changed (same_name name) ts t (with_row row t) there in
+        let more = length-append t.rows ((t.inserted, row) ∷ []) in
+        omega arith
+    by None none =
+        let made = ap (λ l. length (all_rows l)) (with_change-none name (with_row row) ts none) in
+        omega arith
+
+-- a new table has no rows
+pub all_rows-created : (ts : List (Name × Contents)) (name : Name) (owner : User) (columns : List Column) → length (all_rows (ts ++ (name, empty_table owner columns) ∷ [])) ≡ length (all_rows ts)
+all_rows-created ts name owner columns =
+    let named : Name × Contents → List (Name × (ℕ × Row)) = λ k. map (λ numbered. (k.0, numbered)) k.1.rows in
+    ap length (flat_map-append named ts ((name, empty_table owner columns) ∷ []) ∙ append-nil (all_rows ts))
