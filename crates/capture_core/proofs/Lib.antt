@@ -1,1 +1,4 @@
 pub mod ImageLemmas
+pub mod FillingLemmas
+pub mod BeginLemmas
+pub mod TakingLemmas

@@ -1,4 +1,5 @@
 pub mod Image
+pub mod Filling
 pub mod Capturing
 pub mod Laws
 pub use Rattle.tables_core.specs.Contents

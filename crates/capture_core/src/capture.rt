@@ -1,28 +1,18 @@
 //! A checkpoint that is being captured.
-ghost use Rattle.std.specs.Prelude.{◌≡◌, ◌+◌, ◌^◌, ◌<◌, length, Err, None, IsNone, option_map, IfSome, IsOk, IfOk, IfErr, OnOk, OnErr};
-ghost use Rattle.std.specs.Arc.{arc_value};
-ghost use Rattle.base_core.specs.declared.lack.Lack.TheVariants as lacks;
-ghost use Rattle.capture_core.specs.Image.{image, records, row_total};
-ghost use Rattle.capture_core.specs.Capturing.{begin_lack, after_begin, after_step, after_abandon, TellsProgress};
+ghost use Rattle.std.specs.Prelude.{◌≡◌, ◌+◌, ◌^◌, ◌<◌, [], max, length, Err, Some, None, option_map, option_and_then, MatchOption, IsOk, IfOk, OnOk, OnErr};
+ghost use Rattle.capture_core.specs.Image.{row_total};
+ghost use Rattle.capture_core.specs.Capturing.{begin_lack, newly_begun, in_progress, taken_off, CanGoOn, TellsProgress};
 
-use crate::image::Image;
+use crate::active::Active;
 use crate::progress::Progress;
-use crate::snapshot::snapshot;
 use base_core::{Lack, Moment, NoMemory, What};
-use grants_core::Authority;
+use graph_core::Graph;
 use std::alloc::Global;
 use std::marker::Model;
-use std::sync::Arc;
 use tables_core::Tables;
 
-#[derive(Drop)]
-struct Active {
-    left: u64,
-    image: Arc<Image>,
-}
-
-/// How many checkpoints were begun, and the capture that is active, if one is. Contracts see the
-/// number begun and, of an active capture, how many records are left and the image to come.
+/// How many checkpoints were begun, and the capture that is active, if one is. Contracts see both,
+/// and what the capture has taken so far.
 #[derive(Drop)]
 pub struct Capture {
     alloc: Global,
@@ -31,34 +21,20 @@ pub struct Capture {
 }
 
 impl Model for Capture {
-    ghost use Rattle.std.specs.Prelude.{option_map};
-    ghost use Rattle.std.specs.Arc.{arc_value};
     ghost use Rattle.capture_core.specs.Capturing.{Capturing};
 
     ghost Value = { Capturing };
 
-    ghost view = { λ c. record {
-      begun = c.begun;
-      active =
-          option_map (λ a. record { left = a.left; coming = arc_value a.image }) c.active;
-    } };
+    ghost view = { λ c. record { begun = c.begun; active = c.active } };
 }
 
-fn start<A: Authority>(
-    alloc: Global,
-    number: u64,
-    point: Moment,
-    tables: &Tables,
-    rights: &A,
-) -> Result<Active, NoMemory>
-    requires { row_total tables.now.tables + length (A.content rights.now).in_force < 2 ^ 63 }
-    ensures { IfOk result
-        (λ made. (made.left ≡ records tables.now.tables (A.content rights.now))
-        × (arc_value made.image ≡ image number point tables.now.tables (A.content rights.now))) }
+/// How many records there are to take: one at least.
+fn records(tables: &Tables, rights: &Graph) -> u64
+    requires { length tables.now.rest + length rights.now.rest < 2 ^ 63 }
+    ensures { result ≡ max (length tables.now.rest + length rights.now.rest) 1 }
 {
-    let (image, left) = snapshot(alloc, number, point, tables, rights)?;
-    let image = Arc::new(alloc, image)?;
-    Ok(Active { left, image })
+    let records = tables.left() as u64 + rights.left();
+    records.max(1)
 }
 
 impl Capture {
@@ -76,11 +52,10 @@ impl Capture {
     /// The number and the point of the active capture, and how many records are left. None where
     /// none is active. It takes no memory.
     pub fn active(&self) -> Option<(u64, Moment, u64)>
-        ensures { result ≡ option_map
-            (λ a. (a.coming.number, a.coming.point, a.left)) self.now.active }
+        ensures { result ≡ option_map (λ a. (a.number, a.point, a.left)) self.now.active }
     {
         let active = self.active.as_ref()?;
-        Some((active.image.number, active.image.point, active.left))
+        Some((active.number(), active.point(), active.left()))
     }
 
     fn lack(&self, limit: u64) -> Option<Lack>
@@ -99,79 +74,105 @@ impl Capture {
     /// than those begun before. `point` is the number of changes accepted so far, and `limit` how
     /// many checkpoints may be begun. There must be fewer than 2^63 rows and grants in all.
     ///
-    /// The whole state is copied at once: that is Naive-Snapshot (Cao et al. 2011). So the image to
-    /// come is the state at this call, whatever is changed later.
+    /// It is constant and takes no memory: tables and rights keep from now on what changes before
+    /// the steps come to it (Cao et al. 2011, Copy-on-Update). So the image to come is the state at
+    /// this call, whatever is changed later.
     ///
     /// - `Busy` where a capture is active.
     /// - Else `Full`, of checkpoints, where as many were begun as there may be.
-    /// - Else `NoMemory` where a request for memory was refused.
     ///
     /// After each of these nothing has changed, and no number is used up.
-    pub fn begin<A: Authority>(
+    #[tactic(auto, using(crate::proofs::BeginLemmas::length_all_rows))]
+    pub fn begin(
         &mut self,
-        tables: &Tables,
-        rights: &A,
+        tables: &mut Tables,
+        rights: &mut Graph,
         point: Moment,
         limit: u64,
     ) -> Result<u64, Lack>
-        requires { row_total tables.now.tables + length (A.content rights.now).in_force < 2 ^ 63 }
-        ensures lack { IfSome (begin_lack self.old limit) (λ lack. result ≡ Err lack) }
-        ensures ok { IfOk result
-            (λ number. (number ≡ self.old.begun + 1)
-            × (self.new ≡ after_begin point tables.now.tables (A.content rights.now) self.old)) }
+        requires { row_total tables.old.tables + length rights.old.content.in_force < 2 ^ 63 }
+        ensures lack { MatchOption (begin_lack self.old limit)
+            (IsOk result) (λ lack. result ≡ Err lack) }
+        ensures number { IfOk result (λ number. number ≡ self.old.begun + 1) }
+        ensures begun { OnOk result (self.new.begun ≡ self.old.begun + 1) }
+        ensures begins { IfOk result (λ number.
+            in_progress self.new.active tables.new rights.new.rest
+            ≡ Some (newly_begun number point tables.old.tables rights.old.content)) }
+        ensures goes_on { OnOk result (CanGoOn self.new.active tables.new rights.new.rest) }
+        ensures tables { tables.new.tables ≡ tables.old.tables }
+        ensures rights { rights.new.content ≡ rights.old.content }
         ensures unchanged { OnErr result (self.new ≡ self.old) }
-        ensures memory { IsNone (begin_lack self.old limit)
-            → IfErr result (λ lack. lack ≡ lacks.NoMemory) }
+        ensures same_tables { OnErr result (tables.new ≡ tables.old) }
+        ensures same_rights { OnErr result (rights.new ≡ rights.old) }
     {
         if let Some(lack) = self.lack(limit) {
             return Err(lack);
         }
-        match start(self.alloc, self.begun + 1, point, tables, rights) {
-            Ok(active) => {
-                self.begun += 1;
-                self.active = Some(active);
-                Ok(self.begun)
-            }
-            Err(NoMemory) => Err(Lack::NoMemory),
-        }
+        tables.begin();
+        rights.begin();
+        self.begun += 1;
+        let left = records(tables, rights);
+        self.active = Some(Active::new(self.alloc, self.begun, point, left, tables.len()));
+        Ok(self.begun)
     }
 
     /// Takes `k` records off those that are left, or all where they are no more, and tells how many
     /// are left then. With none left the capture has ended, and the image is handed out. `Idle`
-    /// where none is active: then nothing has changed.
+    /// where none is active: then nothing has changed. Tables and rights must be those of `begin`,
+    /// as they and the steps changed them, so that no more is due than is left.
     ///
-    /// Since all is copied when a capture begins, a step counts alone: it looks at neither tables
-    /// nor rights, takes no memory, and never answers `NoMemory`.
-    pub fn step<A: Authority>(
+    /// `NoMemory` where a request for memory was refused: then as many records are left as before,
+    /// and the same image is to come.
+    pub fn step(
         &mut self,
-        _tables: &Tables,
-        _rights: &A,
+        tables: &mut Tables,
+        rights: &mut Graph,
         k: usize,
     ) -> Result<Progress, NoMemory>
-        ensures done { IsOk result }
-        ensures tells { IfOk result (λ progress. TellsProgress k self.old.active progress) }
-        ensures ok { OnOk result (self.new ≡ after_step k self.old) }
+        requires { CanGoOn self.old.active tables.old rights.old.rest }
+        ensures tells { IfOk result (λ progress.
+            TellsProgress k (in_progress self.old.active tables.old rights.old.rest) progress) }
+        ensures ok { OnOk result (in_progress self.new.active tables.new rights.new.rest
+            ≡ option_and_then (taken_off k)
+            (in_progress self.old.active tables.old rights.old.rest)) }
+        ensures err { OnErr result (in_progress self.new.active tables.new rights.new.rest
+            ≡ in_progress self.old.active tables.old rights.old.rest) }
+        ensures goes_on { CanGoOn self.new.active tables.new rights.new.rest }
+        ensures begun { self.new.begun ≡ self.old.begun }
+        ensures tables { tables.new.tables ≡ tables.old.tables }
+        ensures rights { rights.new.content ≡ rights.old.content }
     {
-        let k = k as u64;
-        match self.active.take() {
-            None => Ok(Progress::Idle),
-            Some(active) if k < active.left => {
-                let left = active.left - k;
-                let image = active.image;
-                self.active = Some(Active { left, image });
-                Ok(Progress::Left(left))
+        let Some(mut active) = self.active.take() else {
+            return Ok(Progress::Idle);
+        };
+        let left = active.left().saturating_sub(k as u64);
+        if active.take(tables, rights, left).is_err() {
+            self.active = Some(active);
+            return Err(NoMemory);
+        }
+        if left > 0 {
+            self.active = Some(active.with_left(left));
+            return Ok(Progress::Left(left));
+        }
+        match active.into_image(tables) {
+            Ok(image) => Ok(Progress::Done(image)),
+            Err(active) => {
+                self.active = Some(active);
+                Err(NoMemory)
             }
-            Some(active) => Ok(Progress::Done(active.image)),
         }
     }
 
-    /// Gives the active capture up and answers its number, which no later one gets. None where none
-    /// is active: then nothing has changed. It takes no memory.
-    pub fn abandon<A: Authority>(&mut self, _tables: &Tables, _rights: &A) -> Option<u64>
-        ensures number { result ≡ option_map (λ a. a.coming.number) self.old.active }
-        ensures after { self.new ≡ after_abandon self.old }
+    /// Gives the active capture up, and hands out what it has taken, which the caller lets go of.
+    /// No later one gets its number. None where none is active. It takes no memory.
+    pub fn abandon(&mut self, tables: &mut Tables, rights: &mut Graph) -> Option<Active>
+        ensures active { result ≡ self.old.active }
+        ensures after { self.new ≡ record self.old { active = None } }
+        ensures tables { tables.new ≡ record tables.old { rest = [] } }
+        ensures rights { rights.new ≡ record rights.old { rest = [] } }
     {
-        let active = self.active.take()?;
-        Some(active.image.number)
+        tables.abandon();
+        rights.abandon();
+        self.active.take()
     }
 }

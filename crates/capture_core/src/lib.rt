@@ -2,47 +2,69 @@
 //!
 //! A checkpoint is begun at a point, the number of changes accepted so far. What it is to keep is
 //! the [`Image`] of the tables and rights as they are at that call: each table with its owner, its
-//! columns and its rows, and the grants in force. Steps take its records off, a few at a time,
-//! between the statements of users; a record is a row of a table or a grant in force, and a
-//! checkpoint has at least one. The step that leaves none hands the image out, behind an `Arc`, so
-//! that those who export it share it.
-//!
-//! Here the whole state is copied when a checkpoint is begun: that is Naive-Snapshot, the first of
-//! the algorithms that Cao et al. compare (Fast checkpoint recovery algorithms for frequently
-//! consistent applications, SIGMOD 2011). What is left to a step is to count.
+//! columns and its rows, and the grants in force. Steps take its records, a few at a time, between
+//! the statements of users; a record is a row of a table or a grant in force, and a checkpoint has
+//! at least one. The step that leaves none hands the image out, behind an `Arc`, so that those who
+//! export it share it.
 //!
 //! A [`Capture`] stands for the number of checkpoints begun so far and, while one is active, for
-//! how many of its records are left and the image to come. The one contract: [`Capture::begin`]
-//! fixes the image to come as that of the tables and rights at that call, no later call changes it,
-//! and the step that ends the capture gives it. One capture is active at a time, and a number is
-//! never used again, that of a capture that was given up neither. An image answers what stood at
-//! its point and what a user held there ([`Image::has`], [`Image::holds`]);
-//! [`images_tell_the_same`] says that these are the answers of the tables and the grants
-//! themselves. `specs/Image.antt` and `specs/Capturing.antt` have the definitions.
+//! what was taken of it. With what the tables and the rights have still to give, that is the image
+//! to come. The one contract: [`Capture::begin`] fixes the image to come as that of the tables and
+//! rights at that call, no later change or step changes it, and the step that ends the capture gives
+//! it. One capture is active at a time, and a number is never used again, that of a capture that was
+//! given up neither. An image answers what stood at its point and what a user held there
+//! ([`Image::has`], [`Image::holds`]); [`images_tell_the_same`] says that these are the answers of
+//! the tables and the grants themselves. `specs/Image.antt`, `specs/Filling.antt` and
+//! `specs/Capturing.antt` have the definitions.
 //!
 //! ```text
 //! let mut capture = Capture::new(alloc);
-//! capture.begin(&tables, &rights, Moment(4), 1_000_000)?;  // 1: t has three rows, nothing was granted
-//! capture.active()                                         // Some((1, Moment(4), 3))
-//! capture.step(&tables, &rights, 2)?;                      // Left(1)
+//! capture.begin(&mut tables, &mut rights, Moment(4), 1_000_000)?;  // 1: t has three rows
+//! capture.active()                                // Some((1, Moment(4), 3)): nothing was granted
+//! capture.step(&mut tables, &mut rights, 2)?;     // Left(1)
 //! tables.delete(t, &[]);
-//! capture.step(&tables, &rights, 2)?;                      // Done: the image, with its three rows
+//! capture.step(&mut tables, &mut rights, 2)?;     // Done: the image, with its three rows
 //! ```
+//!
+//! # Mechanism
+//!
+//! Copy-on-Update, of Cao, Vaz Salles, Sowell, Yue, Demers, Gehrke and White, "Fast checkpoint
+//! recovery algorithms for frequently consistent applications", SIGMOD 2011. `begin` copies
+//! nothing. From then on the tables and the rights keep what changes before the steps come to it,
+//! and a step copies the rest.
+//!
+//! The rows come table by table, in the order in which the tables were created, and the grants
+//! behind them. A row is put into the image of its table. Where one of another table comes, the
+//! table before it is whole: its name, owner and columns are copied then, which no change alters.
+//!
+//! ```text
+//!               whole            rows       waiting      still due
+//!          ┌──────────────┐   ┌────────┐   ┌───────┐   ┌──────────────────┐
+//! image =  t with its rows     u: 0, 1      u: 2        u: 3, v: 0, grants
+//! ```
+//!
+//! A row that was taken and found no memory for its place waits, and the next step puts it first.
+//! So a step that was refused memory has lost nothing: as many records are left as before, and the
+//! same image is to come.
 //!
 //! # Cost
 //!
-//! `begin` copies each table, row and grant, so its time and memory grow with the whole state; the
-//! server does nothing else meanwhile. `step`, `active` and `abandon` are constant, but for the
-//! image that `abandon` drops. `has` goes over the image's tables, and `holds` over its tables and
-//! grants. Only `begin` takes memory.
+//! `begin` and `active` are constant. `abandon` goes over the grants that had still to be taken, and
+//! hands what was taken to the caller. A step of k copies k rows and grants at most, and goes on
+//! over the tables that become whole with them; with a table goes a copy of its columns. `has` goes
+//! over the image's tables, and `holds` over its tables and grants. Only `step` takes memory, as
+//! much as the image has at the end: room for the rows of a table, and for the grants, is made at
+//! once, so that no long list is moved as it grows.
 #![tactic(auto)]
 
+mod active;
 mod capture;
+mod filling;
 mod image;
 mod laws;
 mod progress;
-mod snapshot;
 
+pub use active::Active;
 pub use capture::Capture;
 pub use image::{Image, TableImage};
 pub use laws::images_tell_the_same;

@@ -54,13 +54,14 @@ impl Desk {
         Ok((Desk { turnstile }, passes))
     }
 
+    /// A turn of the pass. What the core gives to be freed is freed behind the turn.
     fn turn<R: Wait>(&self, rt: &R, pass: &mut Pass, ask: Ask) -> Reply
         requires { pass.old.lock ≡ Some self.now }
         ensures same { IsSamePass pass.old pass.new }
         ensures answered { Answered self.now ask result pass.old pass.new }
     {
         match self.turnstile.turn(rt, pass, ask) {
-            Ok(reply) => reply,
+            Ok(answer) => answer.into_reply(),
             Err(Worn) => Reply::Refused {
                 at: Moment(0),
                 lack: Lack::Worn,

@@ -8,7 +8,7 @@ use base_core::{NoMemory, User};
 use reader_core::Statement;
 use std::alloc::Global;
 use std::marker::Model;
-use system_core::{Entry, Event, Reply, System};
+use system_core::{Entry, Event, Parting, Reply, System};
 use turnstile::Object;
 
 /// What is asked through a pass.
@@ -35,6 +35,32 @@ impl Ask {
             Ask::Step => Event::Step,
             Ask::Abandon => Event::Abandon,
         }
+    }
+}
+
+/// A reply, and what is freed behind the turn. Contracts see the reply.
+#[derive(Drop)]
+pub struct Answer {
+    reply: Reply,
+    parting: Parting,
+}
+
+impl Model for Answer {
+    ghost use Rattle.system_core.specs.declared.machine.event.Reply.{Reply};
+
+    ghost Value = { Reply };
+
+    ghost view = { λ a. a.reply };
+}
+
+impl Answer {
+    /// The reply. What is to be freed is freed here.
+    pub fn into_reply(self) -> Reply
+        ensures { result ≡ self }
+    {
+        let Answer { reply, parting } = self;
+        parting.free();
+        reply
     }
 }
 
@@ -74,7 +100,7 @@ impl Object for Core {
 
     type Ask = Ask;
 
-    type Reply = Reply;
+    type Reply = Answer;
 
     type Entry = Entry;
 
@@ -91,9 +117,11 @@ impl Object for Core {
 
     ghost acts = { Acts };
 
-    fn act(&mut self, pass: u64, ask: Ask) -> Reply {
+    fn act(&mut self, pass: u64, ask: Ask) -> Answer {
         let _ = self.system.journal();
-        self.system.step(ask.event(pass))
+        let reply = self.system.step(ask.event(pass));
+        let parting = self.system.take_parting();
+        Answer { reply, parting }
     }
 
     fn fixed_part(&self) -> usize {

@@ -2,7 +2,8 @@
 use Rattle.std.specs.Prelude.{ℕ, List}
 use Rattle.grants_core.specs.declared.grant.Grant.{Grant}
 
--- the edges in number order, and the number of the next
+-- the edges in number order, the number of the next, and the edges that a capture has still to give
 pub record Kept : Type 0 where
   pub edges : List Grant
   pub next : ℕ
+  pub rest : List Grant

@@ -16,7 +16,8 @@ abbrev pub is_link_supported : Option ℕ → List Link → Link → Bool
 is_link_supported owner links l =
     is_index owner l.grantor || list_any (λ h. link_supports h l) links
 
--- each link has support among the links, but for those that are excused
+-- each link has support among the links, but for those that are excused. The owner is that of one
+-- privilege's table, so links of others are excused.
 abbrev pub SupportedBut : Option ℕ → List Link → (Link → Bool) → Type 0
 SupportedBut owner links excused =
     AllByRecursion (λ l. (is_link_supported owner links l || excused l) ≡ true) links
@@ -32,7 +33,7 @@ IsSettled owner links user atom =
     (λ l. (comes_from user atom l && not (is_link_supported owner links l)) ≡ false)
     links
 
--- whether the one user made the link to the other, if he was found, of the privilege
+-- whether the one user made the link, of the privilege, to the other, if he was found
 abbrev pub is_between : ℕ → Option ℕ → ℕ → Link → Bool
 is_between by user atom l = l.grantor == by && (l.atom == atom && is_index user l.grantee)
 

@@ -1,12 +1,12 @@
 //! The edges in number order, with an index at each of their sides.
-ghost use Rattle.std.specs.Prelude.{◌≡◌, ◌≤◌, ◌+◌, ◌*◌, ◌^◌, ◌++◌, ◌&&◌, [], length, OnOk, OnErr, IfOk};
+ghost use Rattle.std.specs.Prelude.{◌≡◌, ◌≤◌, ◌+◌, ◌*◌, ◌^◌, ◌++◌, ◌&&◌, [], length, min, take, drop, OnOk, OnErr, IfOk};
 ghost use Rattle.std.specs.List.{list_any};
 ghost use Rattle.grants_core.specs.Content.{singles, gives, count_of, has_made, without};
 ghost use Rattle.grants_core.specs.Numbers.{IsNumbered};
 ghost use Rattle.grants_core.specs.Valid.{valid, IsInOrder, AreSupported};
 
 use crate::indices::Indices;
-use crate::linking::{grants_of, links_of};
+use crate::linking::{grants_of, links_of, put_grants};
 use crate::revocation::revoke;
 use base_core::{Atom, Moment, NoMemory, User};
 use grants_core::{Grant, Owners, single_grants};
@@ -33,15 +33,17 @@ impl Model for Edges {
     ghost view = { λ e. record {
       edges = map (grant_of e.indices) e.links.links;
       next = e.links.next;
+      rest = map (grant_of e.indices) e.links.rest;
     } };
 
-    ghost invariant = { λ e. AllByRecursion (IsWithin e.indices) e.links.links };
+    ghost invariant = { λ e. AllByRecursion (IsWithin e.indices) e.links.links
+        × AllByRecursion (IsWithin e.indices) e.links.rest };
 }
 
 impl Edges {
     /// No edges. It takes no memory.
     pub fn new(alloc: Global) -> Edges
-        ensures { result ≡ record { edges = []; next = 0 } }
+        ensures { result ≡ record { edges = []; next = 0; rest = [] } }
     {
         Edges {
             alloc,
@@ -120,6 +122,7 @@ impl Edges {
             ++ singles self.old.next at by.now atoms.now whom.now option) }
         ensures next { OnOk result
             (self.new.next ≡ self.old.next + length atoms.now * length whom.now) }
+        ensures rest { self.new.rest ≡ self.old.rest }
         ensures err { OnErr result (self.new ≡ self.old) }
     {
         let grants = single_grants(self.alloc, self.links.next(), at, by, atoms, whom, option)?;
@@ -138,6 +141,7 @@ impl Edges {
         ensures valid { self.new.edges
             ≡ valid owners.now (without by.now atoms.now whom.now self.old.edges) }
         ensures next { self.new.next ≡ self.old.next }
+        ensures rest { self.new.rest ≡ self.old.rest }
     {
         revoke(owners, &self.indices, &mut self.links, by, atoms, whom);
     }
@@ -150,5 +154,44 @@ impl Edges {
     {
         let links = self.links.all()?;
         grants_of(self.alloc, &self.indices, &links)
+    }
+
+    /// Begins a capture of the edges as they are now; an older one is given up. It takes no memory.
+    pub fn begin(&mut self)
+        ensures { self.new ≡ record self.old { rest = self.old.edges } }
+    {
+        self.links.begin();
+    }
+
+    /// How many edges the capture has still to give. 0 where none is active.
+    pub fn left(&self) -> usize
+        ensures { result ≡ length self.now.rest }
+    {
+        self.links.left()
+    }
+
+    /// Gives the capture up. It takes no memory.
+    pub fn abandon(&mut self)
+        ensures { self.new ≡ record self.old { rest = [] } }
+    {
+        self.links.abandon();
+    }
+
+    /// Appends the next `count` edges of the capture to `out`, or all that are left, and gives how
+    /// many. On `NoMemory` the edges, and those of `out`, are as before.
+    pub fn capture_step(&mut self, out: &mut Vec<Grant>, count: usize) -> Result<usize, NoMemory>
+        ensures edges { self.new.edges ≡ self.old.edges }
+        ensures next { self.new.next ≡ self.old.next }
+        ensures count { IfOk result (λ given. given ≡ min count (length self.old.rest)) }
+        ensures items { OnOk result (out.new.items ≡ out.old.items ++ take count self.old.rest) }
+        ensures rest { OnOk result (self.new.rest ≡ drop count self.old.rest) }
+        ensures err { OnErr result (self.new ≡ self.old) }
+        ensures out_err { OnErr result (out.new.items ≡ out.old.items) }
+    {
+        let mut links = Vec::new(self.alloc);
+        out.reserve(count.min(self.links.left()))?;
+        let given = self.links.capture_step(&mut links, count)?;
+        put_grants(&self.indices, &links, out);
+        Ok(given)
     }
 }

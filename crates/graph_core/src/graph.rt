@@ -1,5 +1,7 @@
 //! The graph.
-ghost use Rattle.std.specs.Prelude.{◌≡◌, []};
+ghost use Rattle.std.specs.Prelude.{◌≡◌, ◌+◌, ◌*◌, ◌^◌, ◌<◌, ◌≤◌, ◌++◌, [], true, false, length, min, take, drop, All, OnOk, OnErr, IfOk};
+ghost use Rattle.grants_core.specs.Content.{after_create, after_grant, after_revoke, may_grant};
+ghost use Rattle.grants_core.specs.Owners.{was_granted};
 
 use crate::edges::Edges;
 use base_core::{Atom, Moment, Name, NoMemory, User};
@@ -7,8 +9,9 @@ use grants_core::{Authority, Grant, Owners};
 use std::alloc::Global;
 use std::marker::Model;
 
-/// Keeps the grants in force as edges from grantor to grantee; a revocation takes out what it names,
-/// and prunes. Contracts see owners, grants in force, and how many were ever made.
+/// Keeps the grants in force as edges from grantor to grantee; a revocation takes out what it
+/// names, and prunes. Contracts see owners, grants in force, and how many were ever made, and the
+/// grants that a capture has still to give.
 #[derive(Drop)]
 pub struct Graph {
     owners: Owners,
@@ -16,15 +19,14 @@ pub struct Graph {
 }
 
 impl Model for Graph {
-    ghost use Rattle.grants_core.specs.Content.{Content};
+    ghost use Rattle.graph_core.specs.Graph.{GraphState};
     ghost use Rattle.graph_core.specs.Revocation.{IsSound};
 
-    ghost Value = { Content };
+    ghost Value = { GraphState };
 
     ghost view = { λ g. record {
-      owners = g.owners;
-      in_force = g.edges.edges;
-      made = g.edges.next;
+      content = record { owners = g.owners; in_force = g.edges.edges; made = g.edges.next };
+      rest = g.edges.rest;
     } };
 
     ghost invariant = { λ g. IsSound g.owners g.edges.edges };
@@ -33,19 +35,64 @@ impl Model for Graph {
 impl Graph {
     /// No tables and no grants. It takes no memory.
     pub fn new(alloc: Global) -> Graph
-        ensures { result ≡ record { owners = []; in_force = []; made = 0 } }
+        ensures { result
+            ≡ record { content = record { owners = []; in_force = []; made = 0 }; rest = [] } }
     {
         Graph {
             owners: Owners::new(alloc),
             edges: Edges::new(alloc),
         }
     }
+
+    /// Begins a capture of the grants in force as they are now. One that is active is given up
+    /// first; but for that it is constant. It takes no memory.
+    pub fn begin(&mut self)
+        ensures { self.new ≡ record self.old { rest = self.old.content.in_force } }
+    {
+        self.edges.begin();
+    }
+
+    /// How many grants the capture has still to give. 0 where none is active.
+    pub fn left(&self) -> u64
+        ensures { result ≡ length self.now.rest }
+    {
+        self.edges.left() as u64
+    }
+
+    /// Gives the capture up. Where none is active, nothing changes. It takes no memory.
+    pub fn abandon(&mut self)
+        ensures { self.new ≡ record self.old { rest = [] } }
+    {
+        self.edges.abandon();
+    }
+
+    /// Appends the next `count` grants of the capture to `out`, or all that are left, in the order
+    /// of their numbers and as they were when it began, and gives how many. With none left it
+    /// appends none. `NoMemory` where a request for memory was refused: then the graph and the
+    /// grants of `out` are as before.
+    pub fn capture_step(&mut self, out: &mut Vec<Grant>, count: u64) -> Result<u64, NoMemory>
+        ensures content { self.new.content ≡ self.old.content }
+        ensures count { IfOk result (λ given. given ≡ min count (length self.old.rest)) }
+        ensures items { OnOk result (out.new.items ≡ out.old.items ++ take count self.old.rest) }
+        ensures rest { OnOk result (self.new.rest ≡ drop count self.old.rest) }
+        ensures err { OnErr result (self.new ≡ self.old) }
+        ensures out_err { OnErr result (out.new.items ≡ out.old.items) }
+    {
+        let given = self.edges.capture_step(out, count as usize)?;
+        Ok(given as u64)
+    }
 }
 
 impl Authority for Graph {
-    ghost content = { λ g. g };
+    ghost content = { λ g. g.content };
 
-    fn create(&mut self, table: Name, owner: User) -> Result<(), NoMemory> {
+    fn create(&mut self, table: Name, owner: User) -> Result<(), NoMemory>
+        requires { was_granted self.old.content.owners table ≡ false }
+        ensures ok { OnOk result
+            (self.new.content ≡ after_create self.old.content table owner) }
+        ensures err { OnErr result (self.new.content ≡ self.old.content) }
+        ensures rest { self.new.rest ≡ self.old.rest }
+    {
         self.owners.set(table, owner)?;
         Ok(())
     }
@@ -57,13 +104,27 @@ impl Authority for Graph {
         whom: &[User],
         option: bool,
         at: Moment,
-    ) -> Result<(), NoMemory> {
+    ) -> Result<(), NoMemory>
+        requires may { All
+            (λ atom. may_grant self.old.content.owners self.old.content.in_force by atom ≡ true)
+            atoms.now }
+        requires later { All (λ g. g.moment.0 < at.0) self.old.content.in_force }
+        requires room { self.old.content.made + length atoms.now * length whom.now ≤ 2 ^ 63 }
+        ensures ok { OnOk result
+            (self.new.content ≡ after_grant self.old.content by atoms.now whom.now option at) }
+        ensures err { OnErr result (self.new.content ≡ self.old.content) }
+        ensures rest { self.new.rest ≡ self.old.rest }
+    {
         self.edges.add(&by, atoms, whom, option, at)?;
         self.owners.mark_granted(atoms);
         Ok(())
     }
 
-    fn revoke(&mut self, by: User, atoms: &[Atom], whom: &[User]) {
+    fn revoke(&mut self, by: User, atoms: &[Atom], whom: &[User])
+        ensures content { self.new.content
+            ≡ after_revoke self.old.content by atoms.now whom.now }
+        ensures rest { self.new.rest ≡ self.old.rest }
+    {
         self.edges.revoke(&self.owners, &by, atoms, whom);
     }
 

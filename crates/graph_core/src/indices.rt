@@ -48,8 +48,8 @@ impl Indices {
         }
     }
 
-    /// The user's index. None where he has none. No two indices are of the same user, or of the same
-    /// privilege.
+    /// The user's index. None where he has none. No two indices are of the same user, or of the
+    /// same privilege.
     pub fn user(&self, user: &User) -> Option<usize>
         ensures index { IsUserIndex self.now user.now result }
         ensures apart { AreApart self.now }

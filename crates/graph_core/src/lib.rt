@@ -1,9 +1,10 @@
 //! The grants in force as a graph: users, and an edge from grantor to grantee for each grant.
 //!
-//! [`Graph`] is an [`Authority`](grants_core::Authority), and that is its one contract: contracts
-//! see owners, the grants in force, and how many were ever made. After any creations, grants and
-//! revocations its edges are exactly the grants that the replay of all of them would find valid
-//! (Griffiths and Wade 1976, Fagin 1978), though a revocation replays nothing.
+//! [`Graph`] is an [`Authority`](grants_core::Authority), and meets that contract word for word:
+//! contracts see its `content`, the owners, the grants in force, and how many were ever made. After
+//! any creations, grants and revocations its edges are exactly the grants that the replay of all of
+//! them would find valid (Griffiths and Wade 1976, Fagin 1978), though a revocation replays
+//! nothing.
 //!
 //! ```text
 //! let mut rights = Graph::new(alloc);
@@ -12,6 +13,18 @@
 //! rights.grant(a, &[select], &[b], false, Moment(3))?;
 //! rights.revoke(o, &[select], &[a]);
 //! rights.holds(b, &select)                                // false: a could not have granted it
+//! ```
+//!
+//! A capture gives the grants in force as they were when it began, some at a time, while the graph
+//! goes on to change. Contracts see in `rest` those that it has still to give: `begin` makes them
+//! the grants in force, no change of the content touches them, and each `capture_step` gives the
+//! first of them.
+//!
+//! ```text
+//! rights.grant(o, &[select], &[a], true, Moment(5))?;
+//! rights.begin();
+//! rights.revoke(o, &[select], &[a]);
+//! rights.capture_step(&mut taken, 10)?                    // 1: o's grant to a, which fell meanwhile
 //! ```
 //!
 //! # Mechanism
@@ -47,25 +60,29 @@
 //! ```
 //!
 //! A call looks up the index of each user and privilege that it is handed; where one has none, no
-//! edge is his. From there on a revocation goes over links alone. It takes one user after the other:
-//! the links to him go, and he is pruned, before the next has his turn.
+//! edge is his. From there on a revocation goes over links alone. It takes one user after the
+//! other: the links to him go, and he is pruned, before the next has his turn.
 //!
 //! # Cost
 //!
 //! With n the edges of one privilege (of the system at most 1,024):
 //!
-//! - `holds`, `may_grant`, `has_made` and `room` look the privilege and the user up by hash, and then
-//!   his edges with the logarithm of n. Edges of other tables and grants that fell cost nothing.
-//! - `grant` makes its room first, and then looks each edge's users and privilege up, and adds it: a
-//!   move of n ends of 16 bytes at most.
-//! - `revoke` looks the privilege, its owner and the grantor up once for each privilege that is named,
-//!   and each user once for each. An edge that falls costs no look-up by hash, but some searches with
-//!   the logarithm of n. If it is the first of its row, as in a chain, no other end moves; else n at
-//!   most do. It needs no memory and never fails; it calls itself at most as deep as there are edges
-//!   of one privilege.
+//! - `holds`, `may_grant`, `has_made` and `room` look the privilege and the user up by hash, and
+//!   then his edges with the logarithm of n. Edges of other tables and grants that fell cost
+//!   nothing.
+//! - `grant` makes its room first, and then looks each edge's users and privilege up, and adds it:
+//!   a move of n ends of 16 bytes at most.
+//! - `revoke` looks up, for each privilege that is named, that and its owner, the grantor, and each
+//!   of the users. An edge that falls costs no look-up by hash, but some searches with the
+//!   logarithm of n. If it is the first of its row, as in a chain, no other end moves; else n at
+//!   most do. It needs no memory and never fails; it calls itself at most as deep as there are
+//!   edges of one privilege.
 //! - `in_force` goes over all edges, and makes each anew.
+//! - `begin` and `left` are constant, but for an older capture that is given up, and `capture_step`
+//!   makes the grants that it gives. It takes memory for these, and for their links as long as it
+//!   takes; `begin`, `abandon` and `revoke` take none.
 //!
-//! An edge takes 64 bytes and two ends. No index is given back: names and privileges that were once
+//! An edge takes 57 bytes and two ends. No index is given back: names and privileges that were once
 //! granted keep theirs, whatever falls.
 #![tactic(auto)]
 

@@ -1,5 +1,5 @@
 //! The links that stand for grants, and the grants for which links stand.
-ghost use Rattle.std.specs.Prelude.{◌≡◌, IfOk, map};
+ghost use Rattle.std.specs.Prelude.{◌≡◌, ◌+◌, ◌<◌, ◌≤◌, ◌++◌, ◌∷◌, [], length, vec_len, vec_capacity, IfOk, map};
 ghost use Rattle.std.specs.List.{AllByRecursion};
 ghost use Rattle.graph_core.specs.Indices.{grant_of, Extends, IsWithin};
 
@@ -26,6 +26,31 @@ pub fn links_of(
     Ok(links)
 }
 
+// Puts a grant behind the others, where there is room.
+fn put(out: &mut Vec<Grant>, grant: Grant)
+    requires { vec_len out.old < vec_capacity out.old }
+    ensures items { out.new.items ≡ out.old.items ++ grant ∷ [] }
+    ensures len { vec_len out.new ≡ vec_len out.old + 1 }
+    ensures capacity { vec_capacity out.new ≡ vec_capacity out.old }
+{
+    let Grant {
+        number,
+        moment,
+        atom: Atom { table, kind },
+        grantor,
+        grantee,
+        option,
+    } = grant;
+    out.push_reserved(Grant {
+        number,
+        moment,
+        atom: Atom { table, kind },
+        grantor,
+        grantee,
+        option,
+    });
+}
+
 /// The grants for which these links stand.
 pub fn grants_of(alloc: Global, indices: &Indices, links: &[Link]) -> Result<Vec<Grant>, NoMemory>
     requires { AllByRecursion (IsWithin indices.now) links.now }
@@ -33,22 +58,18 @@ pub fn grants_of(alloc: Global, indices: &Indices, links: &[Link]) -> Result<Vec
 {
     let mut grants = Vec::with_capacity(alloc, links.len())?;
     for link in links {
-        let Grant {
-            number,
-            moment,
-            atom: Atom { table, kind },
-            grantor,
-            grantee,
-            option,
-        } = indices.grant(link);
-        grants.push(Grant {
-            number,
-            moment,
-            atom: Atom { table, kind },
-            grantor,
-            grantee,
-            option,
-        })?;
+        put(&mut grants, indices.grant(link));
     }
     Ok(grants)
+}
+
+/// Puts the grants for which these links stand behind the others, where there is room.
+pub fn put_grants(indices: &Indices, links: &[(u64, Link)], out: &mut Vec<Grant>)
+    requires within { AllByRecursion (λ l. IsWithin indices.now l.1) links.now }
+    requires room { vec_len out.old + length links.now ≤ vec_capacity out.old }
+    ensures { out.new.items ≡ out.old.items ++ map (λ l. grant_of indices.now l.1) links.now }
+{
+    for (_, link) in links {
+        put(out, indices.grant(link));
+    }
 }

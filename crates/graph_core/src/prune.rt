@@ -14,8 +14,8 @@ fn is_supported(links: &Links, owner: Option<usize>, link: &Link) -> bool
     owner == Some(link.grantor) || links.any_earlier_option_to(link.grantor, link.atom, link.moment)
 }
 
-// The user's first link of the privilege, if nothing supports it any more. If it is still supported,
-// so are his later ones, and the answer is None.
+// The user's first link of the privilege, if nothing supports it any more. If it is still
+// supported, so are his later ones, and the answer is None.
 fn first_lost(links: &Links, owner: Option<usize>, user: usize, atom: usize) -> Option<Link>
     requires { AreInOrder links.now.links }
     ensures found { IfSome result (λ l. HasItem l links.now.links) }
@@ -39,6 +39,7 @@ pub fn prune(links: &mut Links, owner: Option<usize>, user: usize, atom: usize)
     requires { AreInOrder links.old.links }
     ensures in_order { AreInOrder links.new.links }
     ensures next { links.new.next ≡ links.old.next }
+    ensures rest { links.new.rest ≡ links.old.rest }
     ensures fewer { length links.new.links ≤ length links.old.links }
     ensures falls { Falls owner atom links.old.links links.new.links }
     ensures settles { (excused : link → Bool)

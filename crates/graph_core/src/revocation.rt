@@ -18,6 +18,7 @@ fn remove_between(links: &mut Links, by: usize, user: usize, atom: usize)
     ensures links { links.new.links
         ≡ filter (λ l. not (is_between by (Some user) atom l)) links.old.links }
     ensures next { links.new.next ≡ links.old.next }
+    ensures rest { links.new.rest ≡ links.old.rest }
 {
     while let Some(link) = links.first_between(by, user, atom) {
         links.take_out(&link);
@@ -40,6 +41,7 @@ fn revoke_between(
     ensures falls { Falls owner atom
         (filter (λ l. not (is_between by user atom l)) links.old.links) links.new.links }
     ensures next { links.new.next ≡ links.old.next }
+    ensures rest { links.new.rest ≡ links.old.rest }
 {
     if let Some(user) = user {
         remove_between(links, by, user, atom);
@@ -73,6 +75,7 @@ fn revoke_of_atom(
         ≡ valid owners.now
         (without by.now (atom.now ∷ []) whom.now (grants_of indices.now links.old.links)) }
     ensures next { links.new.next ≡ links.old.next }
+    ensures rest { links.new.rest ≡ links.old.rest }
 {
     let Some(by) = indices.user(by) else {
         return;
@@ -102,6 +105,7 @@ pub fn revoke(
         ≡ valid owners.now
         (without by.now atoms.now whom.now (grants_of indices.now links.old.links)) }
     ensures next { links.new.next ≡ links.old.next }
+    ensures rest { links.new.rest ≡ links.old.rest }
 {
     for atom in atoms {
         revoke_of_atom(owners, indices, links, by, atom, whom);

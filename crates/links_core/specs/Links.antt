@@ -6,10 +6,11 @@ use Rattle.links_core.specs.declared.link.Link.{Link}
 use Rattle.links_core.specs.Ends.{Held}
 use Rattle.links_core.specs.Listed.{numbers, count}
 
--- the links in number order, and the number of the next
+-- the links in number order, the number of the next, and the links that a capture has still to give
 pub record Linked : Type 0 where
   pub links : List Link
   pub next : ℕ
+  pub rest : List Link
 
 -- whether the link gives the user the privilege
 unfoldable pub goes_to : ℕ → ℕ → Link → Bool

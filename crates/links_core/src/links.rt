@@ -1,8 +1,8 @@
 //! The links in number order, with an index at each of their sides.
-ghost use Rattle.std.specs.Prelude.{◌≡◌, ◌<◌, ◌≤◌, ◌+◌, ◌^◌, ◌++◌, ◌&&◌, ◌==◌, nat_lt, [], length, find, OnOk, OnErr, IfOk};
+ghost use Rattle.std.specs.Prelude.{◌≡◌, ◌<◌, ◌≤◌, ◌+◌, ◌^◌, ◌++◌, ◌&&◌, ◌==◌, nat_lt, [], length, min, take, drop, find, OnOk, OnErr, IfOk};
 ghost use Rattle.std.specs.List.{list_any};
 ghost use Rattle.links_core.specs.Lists.{HasItem, TakesOut};
-ghost use Rattle.links_core.specs.Links.{goes_to, comes_from, count_at, AreNumbered, Rises, AreBelow};
+ghost use Rattle.links_core.specs.Links.{goes_to, comes_from, count_at, numbered_as, AreNumbered, Rises, AreBelow};
 
 use crate::held::{any_earlier_option, any_option, first_made_by};
 use crate::index::{Index, count_of, ends_at, first_at, take_end};
@@ -26,20 +26,25 @@ pub struct Links {
 
 impl Model for Links {
     ghost use Rattle.std.specs.Prelude.{◌≡◌};
-    ghost use Rattle.links_core.specs.Links.{Linked, links_in, IsLinked};
+    ghost use Rattle.copyup_core.specs.Holding.{due};
+    ghost use Rattle.links_core.specs.Links.{Linked, links_in, numbered_as, IsLinked};
 
     ghost Value = { Linked };
 
-    ghost view = { λ l. record { links = links_in l.store.contents; next = l.next } };
+    ghost view = { λ l. record {
+      links = links_in l.store.contents;
+      next = l.next;
+      rest = links_in (due l.store);
+    } };
 
     ghost invariant = { λ l. IsLinked l.store.contents l.next l.received.items l.given.items
-        × (l.store.next ≡ l.next) };
+        × (l.store.next ≡ l.next) × (due l.store ≡ numbered_as (links_in (due l.store))) };
 }
 
 impl Links {
     /// No links. It takes no memory.
     pub fn new(alloc: Global) -> Links
-        ensures { result ≡ record { links = []; next = 0 } }
+        ensures { result ≡ record { links = []; next = 0; rest = [] } }
     {
         Links {
             alloc,
@@ -113,6 +118,7 @@ impl Links {
         requires within { self.old.next + length more.now ≤ 2 ^ 63 }
         ensures links { OnOk result (self.new.links ≡ self.old.links ++ more.now) }
         ensures next { OnOk result (self.new.next ≡ self.old.next + length more.now) }
+        ensures rest { self.new.rest ≡ self.old.rest }
         ensures err { OnErr result (self.new ≡ self.old) }
     {
         self.store.reserve(more.len() as u64)?;
@@ -128,6 +134,7 @@ impl Links {
         requires { HasItem link.now self.old.links }
         ensures taken { TakesOut link.now self.old.links self.new.links }
         ensures next { self.new.next ≡ self.old.next }
+        ensures rest { self.new.rest ≡ self.old.rest }
     {
         take_end(&mut self.received, link.atom, link.grantee, link.number);
         take_end(&mut self.given, link.atom, link.grantor, link.number);
@@ -143,5 +150,53 @@ impl Links {
     {
         let _next = self.next;
         all_of(self.alloc, &self.store)
+    }
+
+    /// Begins a capture of the links as they are now; an older one is given up. It is constant, but
+    /// for that, and takes no memory.
+    pub fn begin(&mut self)
+        ensures { self.new ≡ record self.old { rest = self.old.links } }
+    {
+        self.store.abandon();
+        if self.store.len() > 0 {
+            self.store.begin();
+        }
+    }
+
+    /// How many links the capture has still to give. 0 where none is active.
+    pub fn left(&self) -> usize
+        ensures { result ≡ length self.now.rest }
+    {
+        self.store.left()
+    }
+
+    /// Gives the capture up. It takes no memory.
+    pub fn abandon(&mut self)
+        ensures { self.new ≡ record self.old { rest = [] } }
+    {
+        self.store.abandon();
+    }
+
+    /// Appends the next `count` links of the capture to `out`, or all that are left, each under its
+    /// number, and gives how many. With none left it appends none. `NoMemory` where a request for
+    /// memory was refused: then the links and those of `out` are as before.
+    pub fn capture_step(
+        &mut self,
+        out: &mut Vec<(u64, Link)>,
+        count: usize,
+    ) -> Result<usize, NoMemory>
+        ensures links { self.new.links ≡ self.old.links }
+        ensures next { self.new.next ≡ self.old.next }
+        ensures count { IfOk result (λ given. given ≡ min count (length self.old.rest)) }
+        ensures items { OnOk result
+            (out.new.items ≡ out.old.items ++ numbered_as (take count self.old.rest)) }
+        ensures rest { OnOk result (self.new.rest ≡ drop count self.old.rest) }
+        ensures err { OnErr result (self.new ≡ self.old) }
+        ensures out_err { OnErr result (out.new.items ≡ out.old.items) }
+    {
+        if self.store.left() == 0 {
+            return Ok(0);
+        }
+        self.store.capture_step(out, count)
     }
 }

@@ -110,7 +110,7 @@ carried old new e (replies.Begun number at) h w =
     let d = ap (outcome old e) h.0 in let l = h.1 in let a = h.2 in let n = h.3 in cc
 carried old new e (replies.Export ticket) h w = let d = export-outcome old e e.statement ticket h.0 in let n = h.1 in cc
 carried old new e (replies.Refused at lack) h w =
-    let told : tells_want (replies.Refused at lack) ≡ true = ap (λ l. tells_want (replies.Refused at l)) h.0 in cc
+    let told : tells_want (replies.Refused at lack) ≡ true = ap (λ l. tells_want (replies.Refused at l)) h.1 in cc
 carried old new e (replies.Denied at lack) h w = absurd h
 carried old new e replies.Idle h w = absurd h
 carried old new e (replies.Stepped number left) h w = absurd h

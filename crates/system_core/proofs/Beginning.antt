@@ -1,5 +1,5 @@
 -- What comes of CHECKPOINT.
-use Rattle.std.proofs.Common.{◌≡◌, ℕ, ◌+◌, ◌<◌, ◌≤◌, Bool, true, false, not, cond, ltb, leb, List, [], ◌∷◌, Option, Some, None, IsNone, IfSome, IfErr, option_map, Result, Ok, Err, refl, sym, ap, ◌∙◌, subst, ⊎_elim, is_some}
+use Rattle.std.proofs.Common.{◌≡◌, ℕ, ◌+◌, ◌<◌, ◌≤◌, Bool, true, false, not, cond, ltb, leb, List, [], ◌∷◌, Option, Some, None, IsOk, MatchOption, IfErr, option_map, Result, Ok, Err, refl, sym, ap, ◌∙◌, subst, ⊎_elim, is_some}
 use Rattle.std.proofs.lemmas.Bool.{cases_lt, lt-ltb, le-ltb, le-leb, lt-leb, leb-false}
 use Rattle.base_core.specs.declared.name.User.{User}
 use Rattle.base_core.specs.declared.lack.Lack.{Lack}
@@ -7,13 +7,15 @@ use Rattle.base_core.specs.declared.lack.Lack.TheVariants as lacks
 use Rattle.base_core.specs.declared.lack.What.TheVariants as whats
 use Rattle.reader_core.specs.declared.statement.Statement.TheVariants as statements
 use Rattle.monitor_core.specs.Verdict.{Check, require, first_lack}
-use Rattle.capture_core.specs.Capturing.{ActiveCapture as Capture, Capturing, begin_lack}
+use Rattle.tables_core.specs.Contents.{Database}
+use Rattle.grants_core.specs.declared.grant.Grant.{Grant}
+use Rattle.capture_core.specs.Capturing.{ActiveCapture as Capture, Capturing, begin_lack, in_progress}
 use Rattle.capture_core.specs.declared.image.Image.{Image}
 use Rattle.system_core.specs.declared.machine.event.Reply.TheVariants as replies
 use Rattle.system_core.specs.World.{World, entry, moment_of}
 use Rattle.system_core.specs.Judging.{checkpoint_checks}
 use Rattle.system_core.specs.Step.{lack_reply, Responds, with_begun}
-use Rattle.system_core.specs.Standing.{Accepted, as_active, world_of}
+use Rattle.system_core.specs.Standing.{Accepted, checkpointing, database_of, as_active, world_of}
 
 -- a lack, or none, as a check
 abbrev of_lack : Option Lack → Check
@@ -26,55 +28,50 @@ le-not_lt n m = ⊎_elim
     (λ (le : m ≤ n). le-leb m n le ∙ ap not (sym (le-ltb n m le)))
     (cases_lt n m)
 
-by_active : (o : Option Capture) (lt le : Bool) → le ≡ not lt
-    → first_lack (require (not (is_some (option_map as_active o))) lacks.Busy ∷ require lt (lacks.Full whats.Checkpoints) ∷ []) ≡ of_lack (cond (is_some o) (Some lacks.Busy) (cond le (Some (lacks.Full whats.Checkpoints)) None))
-by_active None true true e = cc
-by_active None true false e = refl
-by_active None false true e = refl
-by_active None false false e = cc
-by_active (Some a) lt le e = refl
+by_active : (o : Option Capture) (d : Database) (due : List Grant) (lt le : Bool) → le ≡ not lt
+    → first_lack (require (not (is_some (option_map as_active (in_progress o d due)))) lacks.Busy ∷ require lt (lacks.Full whats.Checkpoints) ∷ []) ≡ of_lack (cond (is_some o) (Some lacks.Busy) (cond le (Some (lacks.Full whats.Checkpoints)) None))
+by_active None d due true true e = cc
+by_active None d due true false e = refl
+by_active None d due false true e = refl
+by_active None d due false false e = cc
+by_active (Some a) d due lt le e = refl
 
 module _ (chunk : ℕ) (accepted : Accepted) (c : Capturing) (images : List Image) where
-  w : World
-  w = world_of chunk accepted c images
+  abbrev w : World
+  w = world_of chunk accepted (checkpointing c accepted) images
 
-  checked : (user : User) → first_lack (checkpoint_checks (world_of chunk accepted c images) user statements.Checkpoint) ≡ of_lack (begin_lack c accepted.limits.checkpoints)
-  checked user = by_active c.active (ltb c.begun accepted.limits.checkpoints) (leb accepted.limits.checkpoints c.begun) (le-not_lt c.begun accepted.limits.checkpoints)
+  checked : (user : User) → first_lack (checkpoint_checks w user statements.Checkpoint) ≡ of_lack (begin_lack c accepted.limits.checkpoints)
+  checked user = by_active c.active (database_of accepted) accepted.grants_due (ltb c.begun accepted.limits.checkpoints) (leb accepted.limits.checkpoints c.begun) (le-not_lt c.begun accepted.limits.checkpoints)
 
   same_lack : (k l : Lack) (r : Result ℕ Lack) → r ≡ Err k → r ≡ Err l → k ≡ l
   same_lack k l r e f = let P : Result ℕ Lack → Type 0 = λ x. IfErr x (λ m. k ≡ m) in subst P f (subst P (sym e) refl)
 
-  -- it was refused, or found no memory
-  pub begin-refused : (result : Result ℕ Lack) (k : Lack) → result ≡ Err k → IfSome (begin_lack c accepted.limits.checkpoints) (λ lack. result ≡ Err lack)
-      → (IsNone (begin_lack c accepted.limits.checkpoints) → IfErr result (λ lack. lack ≡ lacks.NoMemory))
-      → (pass : ℕ) (user : User) → Responds (world_of chunk accepted c images) (entry pass user statements.Checkpoint) (first_lack (checkpoint_checks (world_of chunk accepted c images) user statements.Checkpoint)) (lack_reply (moment_of (world_of chunk accepted c images)) k) (world_of chunk accepted c images)
-  begin-refused result k is lack memory pass user =
-      let A : Check → Type 0 = λ check. Responds (world_of chunk accepted c images) (entry pass user statements.Checkpoint) check (lack_reply (moment_of (world_of chunk accepted c images)) k) (world_of chunk accepted c images) in
-      subst A (sym (checked user)) (by (begin_lack c accepted.limits.checkpoints) lack memory)
+  -- it was refused
+  pub begin-refused : (result : Result ℕ Lack) (k : Lack) → result ≡ Err k → MatchOption (begin_lack c accepted.limits.checkpoints) (IsOk result) (λ lack. result ≡ Err lack)
+      → (pass : ℕ) (user : User) → Responds w (entry pass user statements.Checkpoint) (first_lack (checkpoint_checks w user statements.Checkpoint)) (lack_reply (moment_of w) k) w
+  begin-refused result k is lack pass user =
+      let A : Check → Type 0 = λ check. Responds w (entry pass user statements.Checkpoint) check (lack_reply (moment_of w) k) w in
+      subst A (sym (checked user)) (by (begin_lack c accepted.limits.checkpoints) lack)
     where
-      by : (o : Option Lack) → IfSome o (λ l. result ≡ Err l) → (IsNone o → IfErr result (λ l. l ≡ lacks.NoMemory)) → Responds (world_of chunk accepted c images) (entry pass user statements.Checkpoint) (of_lack o) (lack_reply (moment_of (world_of chunk accepted c images)) k) (world_of chunk accepted c images)
-      by (Some l) said m = (ap (lack_reply (moment_of (world_of chunk accepted c images))) (same_lack k l result is said), refl)
-      by None said m =
-          let none : k ≡ lacks.NoMemory = subst (λ (r : Result ℕ Lack). IfErr r (λ l. l ≡ lacks.NoMemory)) is (m refl) in
-          let P : Lack → Type 0 = λ l. Responds (world_of chunk accepted c images) (entry pass user statements.Checkpoint) (Ok tt) (lack_reply (moment_of (world_of chunk accepted c images)) l) (world_of chunk accepted c images) in
-          subst P (sym none) (refl, refl, refl)
+      by : (o : Option Lack) → MatchOption o (IsOk result) (λ l. result ≡ Err l) → Responds w (entry pass user statements.Checkpoint) (of_lack o) (lack_reply (moment_of w) k) w
+      by (Some l) said = (ap (lack_reply (moment_of w)) (same_lack k l result is said), refl)
+      by None said =
+          let no : IsOk {T = ℕ} (Err k) = subst (λ (r : Result ℕ Lack). IsOk r) is said in
+          cc
 
   -- it was begun: none was active, and there was room
-  pub was_free : (result : Result ℕ Lack) (n : ℕ) → result ≡ Ok n → IfSome (begin_lack c accepted.limits.checkpoints) (λ lack. result ≡ Err lack) → begin_lack c accepted.limits.checkpoints ≡ None
+  pub was_free : (result : Result ℕ Lack) (n : ℕ) → result ≡ Ok n → MatchOption (begin_lack c accepted.limits.checkpoints) (IsOk result) (λ lack. result ≡ Err lack) → begin_lack c accepted.limits.checkpoints ≡ None
   was_free result n is lack = by (begin_lack c accepted.limits.checkpoints) lack
     where
-      by : (o : Option Lack) → IfSome o (λ l. result ≡ Err l) → o ≡ None
+      by : (o : Option Lack) → MatchOption o (IsOk result) (λ l. result ≡ Err l) → o ≡ None
       by None said = refl
       by (Some l) said = cc
 
   pub begin-answered : (number : ℕ) → begin_lack c accepted.limits.checkpoints ≡ None → number ≡ c.begun + 1
-      → (pass : ℕ) (user : User) → Responds (world_of chunk accepted c images) (entry pass user statements.Checkpoint) (first_lack (checkpoint_checks (world_of chunk accepted c images) user statements.Checkpoint)) (replies.Begun number (moment_of (world_of chunk accepted c images))) (with_begun (world_of chunk accepted c images))
+      → (pass : ℕ) (user : User) → Responds w (entry pass user statements.Checkpoint) (first_lack (checkpoint_checks w user statements.Checkpoint)) (replies.Begun number (moment_of w)) (with_begun w)
   begin-answered number free is pass user =
-      let A : Check → Type 0 = λ check. Responds (world_of chunk accepted c images) (entry pass user statements.Checkpoint) check (replies.Begun number (moment_of (world_of chunk accepted c images))) (with_begun (world_of chunk accepted c images)) in
-      subst A (sym (checked user ∙ ap of_lack free)) (passed is)
-    where
-      passed : number ≡ c.begun + 1 → Responds (world_of chunk accepted c images) (entry pass user statements.Checkpoint) (of_lack None) (replies.Begun number (moment_of (world_of chunk accepted c images))) (with_begun (world_of chunk accepted c images))
-      passed e = (refl, e, refl, refl)
+      let A : Check → Type 0 = λ check. Responds w (entry pass user statements.Checkpoint) check (replies.Begun number (moment_of w)) (with_begun w) in
+      subst A (sym (checked user ∙ ap of_lack free)) (refl, is, refl, refl)
 
 -- none is active
 pub free-none : (c : Capturing) (limit : ℕ) → begin_lack c limit ≡ None → c.active ≡ None

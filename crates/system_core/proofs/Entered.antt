@@ -1,5 +1,5 @@
 -- A step enters what was done.
-use Rattle.std.proofs.Common.{◌≡◌, ◌≤◌, ◌+◌, ℕ, List, [], ◌∷◌, ◌++◌, Bool, true, false, Option, Some, None, Ok, Err, refl, sym, ap, ◌∙◌, subst, le_refl, arith, append-nil, if◌then◌else◌, ◌⊎◌, inl, inr}
+use Rattle.std.proofs.Common.{◌≡◌, ◌≤◌, ℕ, List, [], ◌∷◌, ◌++◌, Bool, true, false, Option, Some, None, Ok, Err, refl, sym, ap, ◌∙◌, subst, le_refl, arith, append-nil, if◌then◌else◌, ◌⊎◌, inl, inr}
 use Rattle.base_core.specs.Lacks.{is_denial}
 use Rattle.base_core.specs.declared.name.User.{User}
 use Rattle.base_core.specs.declared.lack.Lack.{Lack}
@@ -13,8 +13,8 @@ use Rattle.system_core.specs.declared.machine.event.Reply.{Reply}
 use Rattle.system_core.specs.declared.machine.event.Reply.TheVariants as replies
 use Rattle.system_core.specs.Entering.{entered, Enters}
 use Rattle.system_core.specs.Judging.{verdict_of}
-use Rattle.system_core.specs.World.{World, ActiveCheckpoint, entry, with_entry}
-use Rattle.system_core.specs.Step.{lack_reply, CarriesOut, Responds, Advances, GivesUp, Step, with_begun, with_left, with_finished, with_none_active}
+use Rattle.system_core.specs.World.{World, ActiveCheckpoint, entry}
+use Rattle.system_core.specs.Step.{CarriesOut, Responds, Advances, GivesUp, Step, with_begun, with_left, with_finished, with_none_active}
 
 still : (old new : World) → new ≡ old → Enters [] old new
 still old new e = subst (λ (w : World). Enters [] old w) (sym e) (record { journal = sym (append-nil old.journal); begun = le_refl old.begun; chunk = refl; limits = refl })
@@ -34,7 +34,7 @@ carried_enters old new pass user asked (replies.Rows at rows) h = still old new 
 carried_enters old new pass user asked (replies.Listed at entries) h = still old new h.3
 carried_enters old new pass user asked (replies.Begun number at) h = checked old (with_begun old) new h.3 refl (omega arith) refl refl
 carried_enters old new pass user asked (replies.Export ticket) h = still old new h.1
-carried_enters old new pass user asked (replies.Refused at lack) h = still old new h.2
+carried_enters old new pass user asked (replies.Refused at lack) h = still old new h.3
 carried_enters old new pass user asked (replies.Denied at lack) h = absurd h
 carried_enters old new pass user asked replies.Idle h = absurd h
 carried_enters old new pass user asked (replies.Stepped number left) h = absurd h

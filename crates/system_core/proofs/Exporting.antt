@@ -9,7 +9,6 @@ use Rattle.base_core.specs.declared.value.Moment.{Moment}
 use Rattle.reader_core.specs.declared.statement.Statement.TheVariants as statements
 use Rattle.monitor_core.specs.Verdict.{Check, require, first_lack, is_table}
 use Rattle.monitor_core.proofs.Passing.{require-Ok, passed}
-use Rattle.capture_core.specs.Capturing.{Capturing}
 use Rattle.capture_core.specs.declared.image.Image.{Image}
 use Rattle.catalogue_core.specs.Kept.{newest}
 use Rattle.export_core.specs.Ticket.{Exporting}
@@ -20,7 +19,7 @@ use Rattle.system_core.specs.Exports.{journal_at, export_of}
 use Rattle.system_core.specs.World.{World, entry, moment_of}
 use Rattle.system_core.specs.Judging.{point_of, is_kept, at_point, export_check, checkpoint_checks, moment_for}
 use Rattle.system_core.specs.Step.{lack_reply, Responds}
-use Rattle.system_core.specs.Standing.{Accepted, world_of}
+use Rattle.system_core.specs.Standing.{Accepted, Checkpointing, world_of}
 use Rattle.system_core.proofs.Judged.{passed-first, failed-first}
 use Rattle.system_core.proofs.Imaging.{point-newest}
 
@@ -31,7 +30,7 @@ only-stands accepted user number (Some other) ok table e =
     let here : is_table (contents accepted.journal) other ≡ true = require-Ok _ _ (passed (require (is_table (contents accepted.journal) other) (lacks.NoTable other) ∷ []) ok).0 in
     subst (λ (o : Option Name). option_map_or (λ n. is_table (contents accepted.journal) n) o true ≡ true) e here
 
-module _ (chunk : ℕ) (accepted : Accepted) (c : Capturing) (images : List Image) (user : User) (number : ℕ) (only : Option Name) where
+module _ (chunk : ℕ) (accepted : Accepted) (c : Checkpointing) (images : List Image) (user : User) (number : ℕ) (only : Option Name) where
   abbrev now : World
   now = world_of chunk accepted c images
 
@@ -77,4 +76,4 @@ module _ (chunk : ℕ) (accepted : Accepted) (c : Capturing) (images : List Imag
       allowed i pass (replies.Export ticket) found ok (subst E (sym (point-is (Some i) found)) made, refl)
 
   pub export-no_memory : (i : Image) → newest images number ≡ Some i → check_at i.point ≡ Ok tt → (pass : ℕ) → Comes pass (replies.Refused (moment_of now) lacks.NoMemory)
-  export-no_memory i found ok pass = allowed i pass (replies.Refused (moment_of now) lacks.NoMemory) found ok (refl, refl, refl)
+  export-no_memory i found ok pass = allowed i pass (replies.Refused (moment_of now) lacks.NoMemory) found ok (tt, refl, refl, refl)

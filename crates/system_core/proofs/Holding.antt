@@ -1,16 +1,14 @@
 -- A system's checkpoints stay as they have to be, whatever becomes of them, and the world goes on by a step.
-use Rattle.std.proofs.Common.{◌≡◌, ◌≤◌, ◌<◌, ℕ, zero, suc, ◌+◌, ◌-◌, ltb, List, [], ◌∷◌, ◌++◌, length, drop, map, max, Option, Some, None, option_map, Result, Ok, Err, OnOk, OnErr, refl, sym, ap, ◌∙◌, subst, arith}
+use Rattle.std.proofs.Common.{◌≡◌, ◌≤◌, ◌<◌, ℕ, zero, suc, ◌+◌, ◌-◌, ltb, List, [], ◌∷◌, ◌++◌, length, drop, map, Option, Some, None, option_map, Result, Ok, Err, OnOk, OnErr, refl, sym, ap, ◌∙◌, subst, arith}
 use Rattle.std.specs.List.{AllByRecursion}
 use Rattle.std.specs.Option.{option_and_then}
 use Rattle.std.proofs.lemmas.Bool.{cond-true, cond-false, lt-ltb, le-ltb}
 use Rattle.std.proofs.lemmas.List.{take_all, length-append, length-drop, length-map, map-append}
 use Rattle.base_core.specs.declared.value.Moment.{Moment}
 use Rattle.base_core.specs.declared.limits.Limits.{Limits}
-use Rattle.grants_core.specs.declared.grant.Grant.{Grant}
-use Rattle.grants_core.specs.Content.{Content}
-use Rattle.capture_core.specs.Image.{image, table_image, records, row_total}
+use Rattle.capture_core.specs.Image.{image, records}
 use Rattle.capture_core.specs.declared.progress.Progress.TheVariants.{Left}
-use Rattle.capture_core.specs.Capturing.{ActiveCapture as Capture, Capturing, TellsProgress, after_begin, taken_off, after_step, after_abandon}
+use Rattle.capture_core.specs.Capturing.{InProgress, TellsProgress, taken_off}
 use Rattle.capture_core.specs.declared.image.Image.{Image}
 use Rattle.catalogue_core.specs.Kept.{last_eight, number_and_point}
 use Rattle.system_core.specs.declared.machine.event.Entry.{Entry}
@@ -18,12 +16,12 @@ use Rattle.system_core.specs.Journal.{contents, rights_at}
 use Rattle.system_core.specs.Exports.{journal_at}
 use Rattle.system_core.specs.World.{records_at, with_active, IsRising, IsSoundActive}
 use Rattle.system_core.specs.Step.{with_begun, with_left, with_finished}
-use Rattle.system_core.specs.Standing.{AgreeOn, Accepted, as_active, world_of, image_at, IsImageOf, IsComing, KeepsCheckpoints}
+use Rattle.system_core.specs.Standing.{Accepted, Checkpointing, after_begin, after_step, as_active, world_of, image_at, IsImageOf, IsComing, KeepsCheckpoints}
 use Rattle.system_core.proofs.Rising.{each-drop, each-front, each-weaker, each-end, rising-drop, rising-front, rising-end}
 use Rattle.system_core.proofs.Imaging.{journal_at-more, image_at-more}
 
 -- ---- nothing yet
-pub holds-opening : (chunk : ℕ) (limits : Limits) → 0 < chunk → chunk ≤ 64 → KeepsCheckpoints chunk (record { journal = []; limits = limits }) (record { begun = 0; active = None }) []
+pub holds-opening : (chunk : ℕ) (limits : Limits) → 0 < chunk → chunk ≤ 64 → KeepsCheckpoints chunk (record { journal = []; limits = limits; rows_due = []; grants_due = [] }) (record { begun = 0; active = None }) []
 holds-opening chunk limits some small = record {
   some = some;
   small = small;
@@ -39,17 +37,17 @@ image-more journal e i h = record {
   is = h.is ∙ sym (image_at-more journal e i.number i.point h.past);
 }
 
-coming-more : (journal : List Entry) (e : Entry) (o : Option Capture) → IsComing journal o → IsComing (journal ++ e ∷ []) o
+coming-more : (journal : List Entry) (e : Entry) (o : Option InProgress) → IsComing journal o → IsComing (journal ++ e ∷ []) o
 coming-more journal e None h = tt
 coming-more journal e (Some a) h = image-more journal e a.coming h
 
-active-more : (journal : List Entry) (e : Entry) (begun : ℕ) (o : Option Capture) → IsComing journal o → IsSoundActive journal begun (option_map as_active o) → IsSoundActive (journal ++ e ∷ []) begun (option_map as_active o)
+active-more : (journal : List Entry) (e : Entry) (begun : ℕ) (o : Option InProgress) → IsComing journal o → IsSoundActive journal begun (option_map as_active o) → IsSoundActive (journal ++ e ∷ []) begun (option_map as_active o)
 active-more journal e begun None h s = tt
 active-more journal e begun (Some a) h s =
     let same : records_at (journal ++ e ∷ []) a.coming.point ≡ records_at journal a.coming.point = ap (λ j. records (contents j) (rights_at j)) (journal_at-more journal e a.coming.point h.past) in
     (s.0, s.1, omega (arith, s.2, same))
 
-pub holds-entered : (chunk : ℕ) (accepted : Accepted) (c : Capturing) (images : List Image) (e : Entry) → KeepsCheckpoints chunk accepted c images → KeepsCheckpoints chunk (record accepted { journal = accepted.journal ++ e ∷ [] }) c images
+pub holds-entered : (chunk : ℕ) (accepted : Accepted) (c : Checkpointing) (images : List Image) (e : Entry) → KeepsCheckpoints chunk accepted c images → KeepsCheckpoints chunk (record accepted { journal = accepted.journal ++ e ∷ [] }) c images
 holds-entered chunk accepted c images e h =
     let long : length (accepted.journal ++ e ∷ []) ≡ length accepted.journal + 1 = length-append accepted.journal (e ∷ []) in
     record {
@@ -68,34 +66,30 @@ holds-entered chunk accepted c images e h =
     }
 
 -- ---- one more checkpoint
-module _ (accepted : Accepted) (rights : Content) (agree : AgreeOn (contents accepted.journal) rights (rights_at accepted.journal)) where
+module _ (accepted : Accepted) where
   abbrev pub now : Moment
   now = record { 0 = length accepted.journal }
 
   all_now : journal_at accepted.journal now ≡ accepted.journal
   all_now = take_all (length accepted.journal) accepted.journal (omega arith)
 
-  records-now : records (contents accepted.journal) rights ≡ records_at accepted.journal now
-  records-now =
-      ap (λ (gs : List Grant). max (row_total (contents accepted.journal) + length gs) 1) agree.in_force
-      ∙ ap (λ j. records (contents j) (rights_at j)) (sym all_now)
+  records-now : records (contents accepted.journal) (rights_at accepted.journal) ≡ records_at accepted.journal now
+  records-now = ap (λ j. records (contents j) (rights_at j)) (sym all_now)
 
-  image-now : (number : ℕ) → image number now (contents accepted.journal) rights ≡ image_at accepted.journal number now
-  image-now number =
-      ap (λ (gs : List Grant). record { number = number; point = now; tables = map table_image (contents accepted.journal); grants = gs }) agree.in_force
-      ∙ ap (λ j. image number now (contents j) (rights_at j)) (sym all_now)
+  image-now : (number : ℕ) → image number now (contents accepted.journal) (rights_at accepted.journal) ≡ image_at accepted.journal number now
+  image-now number = ap (λ j. image number now (contents j) (rights_at j)) (sym all_now)
 
-  some_left : 0 < records (contents accepted.journal) rights
+  some_left : 0 < records (contents accepted.journal) (rights_at accepted.journal)
   some_left = omega arith
 
   -- the world with one more begun
-  pub begun-world : (chunk : ℕ) (c : Capturing) (images : List Image) → world_of chunk accepted (after_begin now (contents accepted.journal) rights c) images ≡ with_begun (world_of chunk accepted c images)
+  pub begun-world : (chunk : ℕ) (c : Checkpointing) (images : List Image) → world_of chunk accepted (after_begin accepted.journal c) images ≡ with_begun (world_of chunk accepted c images)
   begun-world chunk c images = ap (λ n. record (world_of chunk accepted c images) { begun = c.begun + 1; active = Some (record { number = c.begun + 1; point = now; left = n }) }) records-now
 
-  pub holds-begun : (chunk : ℕ) (c : Capturing) (images : List Image) → c.active ≡ None → c.begun < accepted.limits.checkpoints → KeepsCheckpoints chunk accepted c images → KeepsCheckpoints chunk accepted (after_begin now (contents accepted.journal) rights c) images
+  pub holds-begun : (chunk : ℕ) (c : Checkpointing) (images : List Image) → c.active ≡ None → c.begun < accepted.limits.checkpoints → KeepsCheckpoints chunk accepted c images → KeepsCheckpoints chunk accepted (after_begin accepted.journal c) images
   holds-begun chunk c images none room h =
-      let rising = subst (λ (o : Option Capture). IsRising 0 0 (with_active (map number_and_point images) (option_map as_active o))) none h.sound.rising in
-      let past = subst (λ (o : Option Capture). AllByRecursion (λ k. k.1.0 ≤ length accepted.journal) (with_active (map number_and_point images) (option_map as_active o))) none h.sound.past in
+      let rising = subst (λ (o : Option InProgress). IsRising 0 0 (with_active (map number_and_point images) (option_map as_active o))) none h.sound.rising in
+      let past = subst (λ (o : Option InProgress). AllByRecursion (λ k. k.1.0 ≤ length accepted.journal) (with_active (map number_and_point images) (option_map as_active o))) none h.sound.past in
       record {
         some = h.some;
         small = h.small;
@@ -113,20 +107,24 @@ module _ (accepted : Accepted) (rights : Content) (agree : AgreeOn (contents acc
       }
 
 -- ---- what becomes of the active one
+-- the number stays used up
+abbrev pub after_abandon : Checkpointing → Checkpointing
+after_abandon c = record c { active = None }
+
 map-drop : {X Y : Type 0} (f : X → Y) (n : ℕ) (xs : List X) → map f (drop n xs) ≡ drop n (map f xs)
 map-drop f zero xs = refl
 map-drop f (suc n) [] = refl
 map-drop f (suc n) (x ∷ xs) = map-drop f n xs
 
-module _ (chunk : ℕ) (accepted : Accepted) (c : Capturing) (images : List Image) (a : Capture) (is : c.active ≡ Some a) (h : KeepsCheckpoints chunk accepted c images) where
+module _ (chunk : ℕ) (accepted : Accepted) (c : Checkpointing) (images : List Image) (a : InProgress) (is : c.active ≡ Some a) (h : KeepsCheckpoints chunk accepted c images) where
   rising : IsRising 0 0 (map number_and_point images ++ (a.coming.number, a.coming.point) ∷ [])
-  rising = subst (λ (o : Option Capture). IsRising 0 0 (with_active (map number_and_point images) (option_map as_active o))) is h.sound.rising
+  rising = subst (λ (o : Option InProgress). IsRising 0 0 (with_active (map number_and_point images) (option_map as_active o))) is h.sound.rising
 
   past : AllByRecursion (λ k. k.1.0 ≤ length accepted.journal) (map number_and_point images ++ (a.coming.number, a.coming.point) ∷ [])
-  past = subst (λ (o : Option Capture). AllByRecursion (λ k. k.1.0 ≤ length accepted.journal) (with_active (map number_and_point images) (option_map as_active o))) is h.sound.past
+  past = subst (λ (o : Option InProgress). AllByRecursion (λ k. k.1.0 ≤ length accepted.journal) (with_active (map number_and_point images) (option_map as_active o))) is h.sound.past
 
   sound : IsSoundActive accepted.journal c.begun (Some (as_active a))
-  sound = subst (λ (o : Option Capture). IsSoundActive accepted.journal c.begun (option_map as_active o)) is h.sound.active
+  sound = subst (λ (o : Option InProgress). IsSoundActive accepted.journal c.begun (option_map as_active o)) is h.sound.active
 
   coming : IsImageOf accepted.journal a.coming
   coming = subst (IsComing accepted.journal) is h.coming_of
@@ -136,10 +134,10 @@ module _ (chunk : ℕ) (accepted : Accepted) (c : Capturing) (images : List Imag
   fewer k lt = ap (option_and_then (taken_off k)) is ∙ cond-true (ltb k a.left) _ _ (lt-ltb k a.left lt)
 
   pub left-world : (k : ℕ) → k < a.left → world_of chunk accepted (after_step k c) images ≡ with_left (world_of chunk accepted c images) (as_active a) (a.left - k)
-  left-world k lt = ap (λ (o : Option Capture). record (world_of chunk accepted c images) { active = option_map as_active o }) (fewer k lt)
+  left-world k lt = ap (λ (o : Option InProgress). record (world_of chunk accepted c images) { active = option_map as_active o }) (fewer k lt)
 
   pub holds-left : (k : ℕ) → k < a.left → KeepsCheckpoints chunk accepted (after_step k c) images
-  holds-left k lt = subst (λ (o : Option Capture). KeepsCheckpoints chunk accepted (record c { active = o }) images) (sym (fewer k lt)) (record {
+  holds-left k lt = subst (λ (o : Option InProgress). KeepsCheckpoints chunk accepted (record c { active = o }) images) (sym (fewer k lt)) (record {
     some = h.some;
     small = h.small;
     images_of = h.images_of;
@@ -166,14 +164,14 @@ module _ (chunk : ℕ) (accepted : Accepted) (c : Capturing) (images : List Imag
 
   pub finished-world : (k : ℕ) → a.left ≤ k → world_of chunk accepted (after_step k c) (last_eight (images ++ a.coming ∷ [])) ≡ with_finished (world_of chunk accepted c images) (as_active a)
   finished-world k le =
-      ap (λ (o : Option Capture). record (world_of chunk accepted c (last_eight (images ++ a.coming ∷ []))) { active = option_map as_active o }) (ended k le)
+      ap (λ (o : Option InProgress). record (world_of chunk accepted c (last_eight (images ++ a.coming ∷ []))) { active = option_map as_active o }) (ended k le)
       ∙ ap (λ cs. record (world_of chunk accepted c images) { finished = cs; active = None }) kept-entries
 
   few : (cs : List (ℕ × Moment)) → length (last_eight cs) ≤ 8
   few cs = omega (arith, length-drop (length cs - 8) cs)
 
   pub holds-finished : (k : ℕ) → a.left ≤ k → KeepsCheckpoints chunk accepted (after_step k c) (last_eight (images ++ a.coming ∷ []))
-  holds-finished k le = subst (λ (o : Option Capture). KeepsCheckpoints chunk accepted (record c { active = o }) (last_eight (images ++ a.coming ∷ []))) (sym (ended k le)) (record {
+  holds-finished k le = subst (λ (o : Option InProgress). KeepsCheckpoints chunk accepted (record c { active = o }) (last_eight (images ++ a.coming ∷ []))) (sym (ended k le)) (record {
     some = h.some;
     small = h.small;
     images_of = each-drop (IsImageOf accepted.journal) (length (images ++ a.coming ∷ []) - 8) (images ++ a.coming ∷ []) (each-end (IsImageOf accepted.journal) images a.coming h.images_of coming);
@@ -208,31 +206,31 @@ module _ (chunk : ℕ) (accepted : Accepted) (c : Capturing) (images : List Imag
   }
 
 -- **after a step of k**
-pub holds-stepped : (chunk k : ℕ) (accepted : Accepted) (c : Capturing) (images : List Image) (n : ℕ) → TellsProgress k c.active (Left n) → KeepsCheckpoints chunk accepted c images → KeepsCheckpoints chunk accepted (after_step k c) images
+pub holds-stepped : (chunk k : ℕ) (accepted : Accepted) (c : Checkpointing) (images : List Image) (n : ℕ) → TellsProgress k c.active (Left n) → KeepsCheckpoints chunk accepted c images → KeepsCheckpoints chunk accepted (after_step k c) images
 holds-stepped chunk k accepted c images n tells h = by c.active refl tells
   where
-    by : (o : Option Capture) → c.active ≡ o → TellsProgress k o (Left n) → KeepsCheckpoints chunk accepted (after_step k c) images
+    by : (o : Option InProgress) → c.active ≡ o → TellsProgress k o (Left n) → KeepsCheckpoints chunk accepted (after_step k c) images
     by None is t = absurd t
     by (Some a) is t = holds-left chunk accepted c images a is h k t.0
 
 -- none is left after a step of k, and this is the image
-abbrev pub IsDone : ℕ → Option Capture → Image → Type 0
+abbrev pub IsDone : ℕ → Option InProgress → Image → Type 0
 IsDone k None i = ⊥
 IsDone k (Some a) i = (a.left ≤ k) × (i ≡ a.coming)
 
-pub holds-done : (chunk k : ℕ) (accepted : Accepted) (c : Capturing) (images : List Image) (i : Image) → IsDone k c.active i → KeepsCheckpoints chunk accepted c images → KeepsCheckpoints chunk accepted (after_step k c) (last_eight (images ++ i ∷ []))
+pub holds-done : (chunk k : ℕ) (accepted : Accepted) (c : Checkpointing) (images : List Image) (i : Image) → IsDone k c.active i → KeepsCheckpoints chunk accepted c images → KeepsCheckpoints chunk accepted (after_step k c) (last_eight (images ++ i ∷ []))
 holds-done chunk k accepted c images i done h = by c.active refl done
   where
-    by : (o : Option Capture) → c.active ≡ o → IsDone k o i → KeepsCheckpoints chunk accepted (after_step k c) (last_eight (images ++ i ∷ []))
+    by : (o : Option InProgress) → c.active ≡ o → IsDone k o i → KeepsCheckpoints chunk accepted (after_step k c) (last_eight (images ++ i ∷ []))
     by None is t = absurd t
     by (Some a) is t = subst (λ (j : Image). KeepsCheckpoints chunk accepted (after_step k c) (last_eight (images ++ j ∷ []))) (sym t.1) (holds-finished chunk accepted c images a is h k t.0)
 
 -- **after it was given up, if one was active**
-pub holds-abandoned : (chunk : ℕ) (accepted : Accepted) (c : Capturing) (images : List Image) → KeepsCheckpoints chunk accepted c images → KeepsCheckpoints chunk accepted (after_abandon c) images
+pub holds-abandoned : (chunk : ℕ) (accepted : Accepted) (c : Checkpointing) (images : List Image) → KeepsCheckpoints chunk accepted c images → KeepsCheckpoints chunk accepted (after_abandon c) images
 holds-abandoned chunk accepted c images h = by c.active refl
   where
-    by : (o : Option Capture) → c.active ≡ o → KeepsCheckpoints chunk accepted (after_abandon c) images
-    by None is = subst (λ (o : Option Capture). KeepsCheckpoints chunk accepted (record c { active = o }) images) is h
+    by : (o : Option InProgress) → c.active ≡ o → KeepsCheckpoints chunk accepted (after_abandon c) images
+    by None is = subst (λ (o : Option InProgress). KeepsCheckpoints chunk accepted (record c { active = o }) images) is h
     by (Some a) is = holds-given_up chunk accepted c images a is h
 
 -- what holds after either result holds

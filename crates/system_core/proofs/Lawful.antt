@@ -1,5 +1,5 @@
 -- A step keeps a world lawful.
-use Rattle.std.proofs.Common.{◌≡◌, ◌≤◌, ◌<◌, ◌+◌, ◌-◌, ℕ, Bool, true, false, not, is_some, ltb, List, [], ◌∷◌, ◌++◌, length, Option, Some, None, Ok, Err, refl, sym, ap, subst, arith}
+use Rattle.std.proofs.Common.{◌≡◌, ◌≤◌, ◌<◌, ◌+◌, ◌-◌, ℕ, true, not, is_some, ltb, List, [], ◌∷◌, ◌++◌, length, Option, Some, None, Ok, Err, refl, sym, ap, subst, arith}
 use Rattle.std.specs.List.{AllByRecursion}
 use Rattle.std.proofs.lemmas.Bool.{ltb-true}
 use Rattle.std.proofs.lemmas.List.{length-append, length-drop}
@@ -7,12 +7,10 @@ use Rattle.base_core.specs.declared.lack.Lack.TheVariants as lacks
 use Rattle.base_core.specs.declared.lack.What.TheVariants as whats
 use Rattle.base_core.specs.declared.name.User.{User}
 use Rattle.base_core.specs.declared.value.Moment.{Moment}
-use Rattle.reader_core.specs.declared.statement.Statement.{Statement}
 use Rattle.reader_core.specs.declared.statement.Statement.TheVariants as statements
 use Rattle.monitor_core.specs.Verdict.{Check, is_change}
 use Rattle.monitor_core.proofs.Passing.{passed, require-Ok, not-some}
 use Rattle.capture_core.specs.Image.{records}
-use Rattle.catalogue_core.specs.Kept.{last_eight}
 use Rattle.system_core.specs.declared.machine.event.Entry.{Entry}
 use Rattle.system_core.specs.declared.machine.event.Event.{Event}
 use Rattle.system_core.specs.declared.machine.event.Event.TheVariants as events
@@ -20,7 +18,7 @@ use Rattle.system_core.specs.declared.machine.event.Reply.{Reply}
 use Rattle.system_core.specs.declared.machine.event.Reply.TheVariants as replies
 use Rattle.system_core.specs.Journal.{contents, rights_at, verdict_at}
 use Rattle.system_core.specs.World.{World, ActiveCheckpoint, entry, moment_of, with_entry, records_at, with_active, IsRising, IsSoundActive, AreSound, IsLawfulWorld}
-use Rattle.system_core.specs.Judging.{none_is_active, room_for_checkpoint, checkpoint_checks, verdict_of}
+use Rattle.system_core.specs.Judging.{checkpoint_checks, verdict_of}
 use Rattle.system_core.specs.Step.{with_begun, with_left, with_finished, with_none_active, CarriesOut, Responds, Advances, GivesUp, Step}
 use Rattle.system_core.proofs.Imaging.{journal_at-more}
 use Rattle.system_core.proofs.Keeping.{lawful-more}
@@ -138,7 +136,7 @@ carried-lawful old new e (replies.Begun number at) allowed h c =
 carried-lawful old new e (replies.Rows at rows) allowed h c = same-lawful old new h c.2
 carried-lawful old new e (replies.Listed at entries) allowed h c = same-lawful old new h c.3
 carried-lawful old new e (replies.Export ticket) allowed h c = same-lawful old new h c.1
-carried-lawful old new e (replies.Refused at lack) allowed h c = same-lawful old new h c.2
+carried-lawful old new e (replies.Refused at lack) allowed h c = same-lawful old new h c.3
 carried-lawful old new e (replies.Denied at lack) allowed h c = absurd c
 carried-lawful old new e replies.Idle allowed h c = absurd c
 carried-lawful old new e (replies.Stepped number left) allowed h c = absurd c

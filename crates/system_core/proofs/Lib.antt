@@ -18,3 +18,4 @@ mod Running
 pub mod Entered
 pub mod Unworn
 pub mod Lawful
+pub mod Captured

@@ -43,7 +43,7 @@ refused-unworn : (at : Moment) (lack : Lack) → lack ≡ lacks.NoMemory → is_
 refused-unworn at lack e = ap (λ l. is_worn (replies.Refused at l)) e
 
 carried-unworn : (old new : World) (e : Entry) (reply : Reply) → CarriesOut old e reply new → is_worn reply ≡ false
-carried-unworn old new e (replies.Refused at lack) h = refused-unworn at lack h.0
+carried-unworn old new e (replies.Refused at lack) h = refused-unworn at lack h.1
 carried-unworn old new e (replies.Done at) h = refl
 carried-unworn old new e (replies.Rows at rows) h = refl
 carried-unworn old new e (replies.Listed at entries) h = refl

@@ -1,20 +1,22 @@
 -- How the tables, the rights and the images stand to the journal.
-use Rattle.std.specs.Prelude.{ℕ, ◌≡◌, ◌≤◌, ◌<◌, ◌*◌, true, false, List, [], ◌∷◌, length, map, Option, Some, None, option_map, Ok}
+use Rattle.std.specs.Prelude.{ℕ, ◌+◌, ◌≡◌, ◌≤◌, ◌<◌, ◌*◌, true, false, List, [], ◌∷◌, length, map, Option, Some, None, option_map, option_and_then, Ok}
 use Rattle.std.specs.List.{AllByRecursion}
 use Rattle.std.specs.Option.{option_map_or}
 use Rattle.base_core.specs.declared.name.Name.{Name}
 use Rattle.base_core.specs.declared.name.User.{User}
 use Rattle.base_core.specs.declared.value.Moment.{Moment}
+use Rattle.base_core.specs.declared.value.Row.{Row}
 use Rattle.base_core.specs.declared.lack.Lack.TheVariants as lacks
 use Rattle.base_core.specs.declared.limits.Limits.{Limits}
-use Rattle.tables_core.specs.Contents.{Contents, table_of}
+use Rattle.tables_core.specs.Contents.{Contents, Database, table_of}
 use Rattle.grants_core.specs.Owners.{owner_of, was_granted}
 use Rattle.grants_core.specs.Content.{Content}
+use Rattle.grants_core.specs.declared.grant.Grant.{Grant}
 use Rattle.grants_core.specs.History.{granted}
 use Rattle.system_core.specs.declared.machine.event.Entry.{Entry}
 use Rattle.monitor_core.specs.Verdict.{Check, require, first_lack, is_table, columns_of}
 use Rattle.capture_core.specs.Image.{image, row_total, has}
-use Rattle.capture_core.specs.Capturing.{ActiveCapture as Capture, Capturing}
+use Rattle.capture_core.specs.Capturing.{Capturing, InProgress, CanGoOn, in_progress, newly_begun, taken_off}
 use Rattle.capture_core.specs.declared.image.Image.{Image}
 use Rattle.export_core.specs.Export.{held_then, holds_now}
 use Rattle.system_core.specs.Journal.{contents, changes, rights_at, IsLawful}
@@ -47,10 +49,13 @@ pub record IsSound (limits : Limits) (journal : List Entry) : Type 0 where
   pub made_few : (rights_at journal).made ≤ most_grants * length journal
   pub rows_few : row_total (contents journal) ≤ length journal
 
--- what a ledger stands for: the accepted changes, and the limits that they are judged by
+-- what a ledger stands for: the accepted changes, the limits that they are judged by, and the rows and
+-- grants that a capture has still to take
 pub record Accepted : Type 0 where
   pub journal : List Entry
   pub limits : Limits
+  pub rows_due : List (Name × (ℕ × Row))
+  pub grants_due : List Grant
 
 -- what a ledger keeps
 pub record KeepsJournal (limits : Limits) (journal : List Entry) (tables : List (Name × Contents))
@@ -60,17 +65,45 @@ pub record KeepsJournal (limits : Limits) (journal : List Entry) (tables : List 
   pub agree : AgreeOn (contents journal) rights (rights_at journal)
 
 -- ---- checkpoints
--- an active capture, as a world has it
-abbrev pub as_active : Capture → ActiveCheckpoint
+-- how many checkpoints were begun, and the one in progress, if one is
+pub record Checkpointing : Type 0 where
+  pub begun : ℕ
+  pub active : Option InProgress
+
+-- the tables of the journal, with the rows that are due
+abbrev pub database_of : Accepted → Database
+database_of accepted = record { tables = contents accepted.journal; rest = accepted.rows_due }
+
+-- the checkpoints of a capture that takes from these tables and rights
+abbrev pub checkpointing : Capturing → Accepted → Checkpointing
+checkpointing c accepted = record {
+  begun = c.begun;
+  active = in_progress c.active (database_of accepted) accepted.grants_due;
+}
+
+-- one more is begun, of the tables and rights of the journal
+abbrev pub after_begin : List Entry → Checkpointing → Checkpointing
+after_begin journal c = record {
+  begun = c.begun + 1;
+  active = Some (newly_begun (c.begun + 1) (record { 0 = length journal })
+      (contents journal) (rights_at journal));
+}
+
+-- a step takes k records off the one in progress
+abbrev pub after_step : ℕ → Checkpointing → Checkpointing
+after_step k c = record c { active = option_and_then (taken_off k) c.active }
+
+-- a checkpoint in progress, as a world has it
+abbrev pub as_active : InProgress → ActiveCheckpoint
 as_active a = record { number = a.coming.number; point = a.coming.point; left = a.left }
 
--- the world of a system with these accepted changes, this capture, and these kept images
-abbrev pub world_of : ℕ → Accepted → Capturing → List Image → World
-world_of chunk accepted capturing images = record {
+-- the world of a system with these accepted changes, these checkpoints, and these kept images
+abbrev pub world_of : ℕ → Accepted → Checkpointing → List Image → World
+world_of chunk accepted checkpoints images = record {
   journal = accepted.journal;
-  begun = capturing.begun;
+  begun = checkpoints.begun;
   finished = map (λ image. (image.number, image.point)) images;
-  active = option_map as_active capturing.active;
+  active = option_map as_active checkpoints.active;
   chunk = chunk;
   limits = accepted.limits;
 }
@@ -85,18 +118,25 @@ pub record IsImageOf (journal : List Entry) (image : Image) : Type 0 where
   pub past : image.point.0 ≤ length journal
   pub is : image ≡ image_at journal image.number image.point
 
-abbrev pub IsComing : List Entry → Option Capture → Type 0
+-- the image to come is what the checkpoint in progress keeps
+abbrev pub IsComing : List Entry → Option InProgress → Type 0
 IsComing journal None = Unit {0}
 IsComing journal (Some a) = IsImageOf journal a.coming
 
--- what a system keeps
-pub record KeepsCheckpoints (chunk : ℕ) (accepted : Accepted) (capturing : Capturing)
+-- what a system keeps of its checkpoints
+pub record KeepsCheckpoints (chunk : ℕ) (accepted : Accepted) (checkpoints : Checkpointing)
     (images : List Image) : Type 0 where
   pub some : 0 < chunk
   pub small : chunk ≤ 64
   pub images_of : AllByRecursion (IsImageOf accepted.journal) images
-  pub coming_of : IsComing accepted.journal capturing.active
-  pub sound : AreSound (world_of chunk accepted capturing images)
+  pub coming_of : IsComing accepted.journal checkpoints.active
+  pub sound : AreSound (world_of chunk accepted checkpoints images)
+
+-- what a system keeps: its checkpoints, and what its capture needs to go on
+pub record Stands (chunk : ℕ) (accepted : Accepted) (capture : Capturing) (images : List Image)
+    : Type 0 where
+  pub keeps : KeepsCheckpoints chunk accepted (checkpointing capture accepted) images
+  pub goes_on : CanGoOn capture.active (database_of accepted) accepted.grants_due
 
 -- ---- exports of images
 -- the first lack of an export of the image, by the rights now

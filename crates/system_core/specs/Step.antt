@@ -93,6 +93,11 @@ abbrev pub with_none_active : World → World
 with_none_active w = record w { active = None }
 
 -- ---- one event
+-- a statement that may be refused memory: each but CHECKPOINT
+abbrev pub TakesMemory : Statement → Type 0
+TakesMemory statements.Checkpoint = ⊥
+TakesMemory _ = Unit {0}
+
 -- what may come of an allowed statement
 abbrev pub CarriesOut : World → Entry → Reply → World → Type 0
 CarriesOut old e (replies.Done at) new =
@@ -111,7 +116,7 @@ CarriesOut old e (replies.Begun number at) new =
     × (new ≡ with_begun old)
 CarriesOut old e (replies.Export ticket) new = IsExport old e.user e.statement ticket × (new ≡ old)
 CarriesOut old e (replies.Refused at lack) new =
-    (lack ≡ lacks.NoMemory) × (at ≡ moment_of old) × (new ≡ old)
+    TakesMemory e.statement × (lack ≡ lacks.NoMemory) × (at ≡ moment_of old) × (new ≡ old)
 CarriesOut old e (replies.Denied at lack) new = ⊥
 CarriesOut old e replies.Idle new = ⊥
 CarriesOut old e (replies.Stepped number left) new = ⊥

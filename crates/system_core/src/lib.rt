@@ -24,7 +24,8 @@
 //! [`System::audit`] replays it and compares.
 //!
 //! CHECKPOINT begins a checkpoint, at most one at a time, and the events [`Step`](Event::Step) and
-//! [`Abandon`](Event::Abandon) carry it on or give it up. The last eight that were finished are kept.
+//! [`Abandon`](Event::Abandon) carry it on or give it up. It takes no memory, so it is never refused any.
+//! The last eight that were finished are kept.
 //! EXPORT answers a ticket, which tells of each table of a kept checkpoint what the user may select, then
 //! and now.
 //!
@@ -42,6 +43,15 @@
 //! finds no memory, the owner of a name that is no table is left; no verdict reads it, and the next creation
 //! of that name sets another.
 //!
+//! CHECKPOINT notes that a capture begins, and copies nothing: tables and rights keep what changes from
+//! then on until the capture's steps have come to it (Copy-on-Update, Cao et al. 2011). What the capture
+//! has taken, and what they have still to give, is at each moment the image of the journal at the
+//! checkpoint's point: that is the invariant of the system.
+//!
+//! The ninth image pushes the oldest out, and a capture may be given up half way. To free such an image
+//! may take as long as to copy it. So the system keeps it until [`System::take_parting`] hands it out, for
+//! whoever asked to let go of behind the turn.
+//!
 //! Judging goes over privileges, columns and users as they are written, without memory. A list of the
 //! atoms that they are is made only to carry them out.
 //!
@@ -50,14 +60,16 @@
 //! Beside the rights, a CREATE TABLE or an INSERT is constant, amortised, and a SELECT, DELETE or UPDATE
 //! goes over the rows of its table once. A question after a right is a look-up of the owner and, of who
 //! is not the owner, of the privilege and then of the user among its grants in force, by halves. A REVOKE
-//! costs what falls, and an audit replays the whole journal. A CHECKPOINT copies all rows and grants in
-//! force, and its steps count; an EXPORT asks two rights of each table and then costs what it writes. The
-//! journal keeps each change, the tables each row, the rights each grant in force, and each checkpoint all
-//! rows and grants of its point.
+//! costs what falls, and an audit replays the whole journal. A CHECKPOINT is constant; a step of the
+//! checkpointer copies a chunk of rows and grants, and the columns of the tables that become whole with
+//! them. An EXPORT asks two rights of each table and then costs what it writes. The journal keeps each
+//! change, the tables each row, the rights each grant in force, and each checkpoint the grants and the
+//! places of the rows of its point; a row is shared until it is changed.
 #![tactic(auto)]
 
 pub mod laws;
 mod machine;
 
 pub use machine::event::{Checkpoint, Entry, Event, Reply};
+pub use machine::parting::Parting;
 pub use machine::system::System;

@@ -9,4 +9,5 @@ pub mod change;
 pub mod checkpoints;
 pub mod event;
 pub mod ledger;
+pub mod parting;
 pub mod system;

@@ -77,9 +77,11 @@ fn tell<W: Sink>(
 {
     let reply = system.step(Event::Step);
     if !is_refused(&reply) {
+        system.let_go();
         return write_said(alloc, buffer, said, writer);
     }
     let given_up = system.step(Event::Abandon);
+    system.let_go();
     write_said(alloc, buffer, said, writer)?;
     write_reply(alloc, buffer, given_up, writer, &NoGate)
 }

@@ -29,14 +29,17 @@ fn create(
     columns: &Distinct<Column, MAX_ITEMS>,
 ) -> Result<(), NoMemory>
     requires new { table_of tables.old.tables table.now ≡ None }
-    requires fresh { was_granted rights.old.owners table.now ≡ false }
+    requires fresh { was_granted rights.old.content.owners table.now ≡ false }
     ensures tables { OnOk result (tables.new.tables
         ≡ tables_after tables.old.tables user.now (statements.CreateTable table.now columns.now)) }
-    ensures rights { OnOk result (rights.new ≡ after_create rights.old table.now user.now) }
+    ensures rights { OnOk result
+        (rights.new.content ≡ after_create rights.old.content table.now user.now) }
     ensures narrow { OnOk result (length columns.now ≤ most_columns) }
     ensures same { OnErr result (tables.new ≡ tables.old) }
-    ensures leaves { OnErr result ((rights.new ≡ rights.old)
-        ⊎ (rights.new ≡ after_create rights.old table.now user.now)) }
+    ensures leaves { OnErr result ((rights.new.content ≡ rights.old.content)
+        ⊎ (rights.new.content ≡ after_create rights.old.content table.now user.now)) }
+    ensures rows_due { tables.new.rest ≡ tables.old.rest }
+    ensures grants_due { rights.new.rest ≡ rights.old.rest }
 {
     let columns = Vec::from_slice(alloc, columns.as_slice())?;
     rights.create(*table, *user)?;
@@ -55,15 +58,16 @@ fn grant(
     users: &Distinct<User, MAX_USERS>,
     option: bool,
 ) -> Result<(), NoMemory>
-    requires can { CanGrant rights.old moment.0 user
+    requires can { CanGrant rights.old.content moment.0 user
         (atoms_at tables.now.tables table privileges.now) }
     requires narrow { length (columns_of tables.now.tables table) ≤ most_columns }
     requires early { moment.0 < 2 ^ 63 }
-    ensures ok { OnOk result (rights.new
-        ≡ after_grant rights.old user (atoms_at tables.now.tables table privileges.now) users.now
-        option (record { 0 = moment.0 + 1 })) }
-    ensures few { OnOk result (rights.new.made ≤ rights.old.made + most_grants) }
-    ensures err { OnErr result (rights.new ≡ rights.old) }
+    ensures ok { OnOk result (rights.new.content
+        ≡ after_grant rights.old.content user (atoms_at tables.now.tables table privileges.now)
+        users.now option (record { 0 = moment.0 + 1 })) }
+    ensures few { OnOk result (rights.new.content.made ≤ rights.old.content.made + most_grants) }
+    ensures err { OnErr result (rights.new.content ≡ rights.old.content) }
+    ensures grants_due { rights.new.rest ≡ rights.old.rest }
 {
     let atoms = atoms_of(alloc, table, columns_of(tables, table), privileges)?;
     let at = Moment(moment.0 + 1);
@@ -81,10 +85,11 @@ fn revoke(
     users: &[User],
 ) -> Result<(), NoMemory>
     requires { length (columns_of tables.now.tables table) ≤ most_columns }
-    ensures ok { OnOk result (rights.new
-        ≡ after_revoke rights.old user (atoms_at tables.now.tables table privileges.now)
+    ensures ok { OnOk result (rights.new.content
+        ≡ after_revoke rights.old.content user (atoms_at tables.now.tables table privileges.now)
         users.now) }
-    ensures err { OnErr result (rights.new ≡ rights.old) }
+    ensures err { OnErr result (rights.new.content ≡ rights.old.content) }
+    ensures grants_due { rights.new.rest ≡ rights.old.rest }
 {
     let atoms = atoms_of(alloc, table, columns_of(tables, table), privileges)?;
     rights.revoke(user, &atoms, users);
@@ -101,17 +106,21 @@ pub fn carry_out(
     user: &User,
     statement: &Statement,
 ) -> Result<(), NoMemory>
-    requires can { CanCarry tables.old.tables rights.old moment.0 user.now statement.now }
+    requires can { CanCarry tables.old.tables rights.old.content moment.0 user.now statement.now }
     requires early { moment.0 < 2 ^ 63 }
     ensures tables { OnOk result
         (tables.new.tables ≡ tables_after tables.old.tables user.now statement.now) }
-    ensures rights { OnOk result (rights.new
-        ≡ rights_after rights.old moment.0 (change_of tables.old.tables user.now statement.now)) }
+    ensures rights { OnOk result (rights.new.content
+        ≡ rights_after rights.old.content moment.0
+        (change_of tables.old.tables user.now statement.now)) }
     ensures narrow { OnOk result (HasFewColumns statement.now) }
-    ensures few { OnOk result (rights.new.made ≤ rights.old.made + most_grants) }
+    ensures few { OnOk result (rights.new.content.made ≤ rights.old.content.made + most_grants) }
     ensures same { OnErr result (tables.new ≡ tables.old) }
     ensures leaves { OnErr result
-        (MayLeave rights.old (change_of tables.old.tables user.now statement.now) rights.new) }
+        (MayLeave rights.old.content (change_of tables.old.tables user.now statement.now)
+        rights.new.content) }
+    ensures rows_due { tables.new.rest ≡ tables.old.rest }
+    ensures grants_due { rights.new.rest ≡ rights.old.rest }
 {
     match statement {
         Statement::CreateTable { table, columns } => {

@@ -61,7 +61,7 @@ pub fn listed(
     ensures { IfOk result (λ entries. entries
         ≡ map (λ image. checkpoints.Kept image.number image.point) catalogue.now
         ++ active_listed (option_map
-        (λ a. record { number = a.coming.number; point = a.coming.point; left = a.left })
+        (λ a. record { number = a.number; point = a.point; left = a.left })
         capture.now.active)) }
 {
     let kept = catalogue.list()?;

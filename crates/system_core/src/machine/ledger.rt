@@ -1,5 +1,5 @@
 //! The journal of accepted changes, with the tables and rights that it makes.
-ghost use Rattle.std.specs.Prelude.{◌≡◌, ◌+◌, ◌<◌, ◌≤◌, ◌^◌, ◌++◌, ◌∷◌, [], true, length, map, Ok, Some, option_map, IsSome, IfOk, OnOk, OnErr};
+ghost use Rattle.std.specs.Prelude.{◌≡◌, ◌+◌, ◌<◌, ◌≤◌, ◌^◌, ◌++◌, ◌∷◌, [], true, length, map, Ok, Err, Some, None, option_map, MatchOption, IsSome, IsOk, IfOk, OnOk, OnErr};
 ghost use Rattle.std.specs.Result.{result_ok};
 ghost use Rattle.tables_core.specs.Contents.{selected_rows, table_of};
 ghost use Rattle.grants_core.specs.History.{in_force_after};
@@ -7,12 +7,14 @@ ghost use Rattle.monitor_core.specs.Verdict.{columns_of, is_change, allowed_by};
 ghost use Rattle.capture_core.specs.Image.{row_total};
 ghost use Rattle.system_core.specs.Journal.{IsLawful, verdict_at, contents, changes, rights_at};
 ghost use Rattle.system_core.specs.Step.{columns_given};
-ghost use Rattle.system_core.specs.Standing.{AgreeOn};
+ghost use Rattle.capture_core.specs.Capturing.{begin_lack, CanGoOn, TellsProgress};
+ghost use Rattle.system_core.specs.Standing.{AgreeOn, database_of, checkpointing, after_begin, after_step};
 
 use crate::machine::carry::carry_out;
 use crate::machine::change::changes_of;
 use crate::machine::event::Entry;
 use base_core::{Column, Condition, Distinct, Lack, Limits, Moment, Name, NoMemory, Row, User};
+use capture_core::{Active, Capture, Progress};
 use grants_core::{Authority, Change, audit};
 use graph_core::Graph;
 use monitor_core::{Allowed, allows, columns_of, judge};
@@ -36,9 +38,15 @@ impl Model for Ledger {
 
     ghost Value = { Accepted };
 
-    ghost view = { λ l. record { journal = l.journal.items; limits = l.limits } };
+    ghost view = { λ l. record {
+      journal = l.journal.items;
+      limits = l.limits;
+      rows_due = l.tables.rest;
+      grants_due = l.rights.rest;
+    } };
 
-    ghost invariant = { λ l. KeepsJournal l.limits l.journal.items l.tables.tables l.rights };
+    ghost invariant = { λ l. KeepsJournal l.limits l.journal.items l.tables.tables
+        l.rights.content };
 }
 
 fn names_of(alloc: Global, columns: &[Column]) -> Result<Vec<Name>, AllocError>
@@ -79,7 +87,8 @@ fn count(journal: &[Entry]) -> u64
 impl Ledger {
     /// Nothing entered. It takes no memory.
     pub fn new(alloc: Global, limits: Limits) -> Ledger
-        ensures { result ≡ record { journal = []; limits = limits } }
+        ensures { result
+            ≡ record { journal = []; limits = limits; rows_due = []; grants_due = [] } }
     {
         Ledger {
             alloc,
@@ -125,7 +134,7 @@ impl Ledger {
 
     /// The rights that the journal makes, but for owners of names that are no tables.
     pub fn rights(&self) -> &Graph
-        ensures rights { AgreeOn (contents self.now.journal) result.now
+        ensures rights { AgreeOn (contents self.now.journal) result.now.content
             (rights_at self.now.journal) }
         ensures lawful { IsLawful self.now.limits self.now.journal }
         ensures few { length (rights_at self.now.journal).in_force < 2 ^ 62 }
@@ -199,6 +208,60 @@ impl Ledger {
         )?;
         self.journal.push_reserved(entry);
         Ok(())
+    }
+
+    /// Begins a capture of the tables and rights of the journal, and answers its number. It takes no
+    /// memory. `Busy` or `Full` where the capture is active or may not be begun: then nothing has
+    /// changed.
+    pub fn begin(&mut self, capture: &mut Capture) -> Result<u64, Lack>
+        ensures lack { MatchOption (begin_lack capture.old self.old.limits.checkpoints)
+            (IsOk result) (λ lack. result ≡ Err lack) }
+        ensures number { IfOk result (λ number. number ≡ capture.old.begun + 1) }
+        ensures begins { OnOk result (checkpointing capture.new self.new
+            ≡ after_begin self.old.journal (checkpointing capture.old self.old)) }
+        ensures goes_on { OnOk result
+            (CanGoOn capture.new.active (database_of self.new) self.new.grants_due) }
+        ensures same { self.new
+            ≡ record self.old { rows_due = self.new.rows_due; grants_due = self.new.grants_due } }
+        ensures err { OnErr result (self.new ≡ self.old) }
+        ensures unchanged { OnErr result (capture.new ≡ capture.old) }
+    {
+        let point = Moment(count(&self.journal));
+        capture.begin(
+            &mut self.tables,
+            &mut self.rights,
+            point,
+            self.limits.checkpoints,
+        )
+    }
+
+    /// A step of the capture, of `k` records. `NoMemory` where a request for memory was refused: then
+    /// as many are left, and the same image is to come.
+    pub fn step(&mut self, capture: &mut Capture, k: usize) -> Result<Progress, NoMemory>
+        requires { CanGoOn capture.old.active (database_of self.old) self.old.grants_due }
+        ensures tells { IfOk result (λ progress.
+            TellsProgress k (checkpointing capture.old self.old).active progress) }
+        ensures ok { OnOk result (checkpointing capture.new self.new
+            ≡ after_step k (checkpointing capture.old self.old)) }
+        ensures err { OnErr result
+            (checkpointing capture.new self.new ≡ checkpointing capture.old self.old) }
+        ensures goes_on { CanGoOn capture.new.active (database_of self.new) self.new.grants_due }
+        ensures same { self.new
+            ≡ record self.old { rows_due = self.new.rows_due; grants_due = self.new.grants_due } }
+    {
+        let _ = &self.limits;
+        capture.step(&mut self.tables, &mut self.rights, k)
+    }
+
+    /// Gives the capture up, and hands out what it has taken.
+    pub fn abandon(&mut self, capture: &mut Capture) -> Option<Active>
+        ensures active { result ≡ capture.old.active }
+        ensures after { capture.new ≡ record capture.old { active = None } }
+        ensures same { self.new
+            ≡ record self.old { rows_due = self.new.rows_due; grants_due = self.new.grants_due } }
+    {
+        let _ = &self.limits;
+        capture.abandon(&mut self.tables, &mut self.rights)
     }
 
     /// The rows that answer a query of a table that stands. `NoMemory` where a request for memory was

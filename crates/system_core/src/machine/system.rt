@@ -13,6 +13,7 @@ ghost use Rattle.system_core.specs.Step.{change_reply, lack_reply, CarriesOut, R
 use crate::machine::checkpoints::{judged_at, listed, may_export};
 use crate::machine::event::{Entry, Event, Reply};
 use crate::machine::ledger::Ledger;
+use crate::machine::parting::Parting;
 use base_core::{Condition, Distinct, Lack, Limits, Moment, Name, NoMemory, Sequence, User};
 use capture_core::{Capture, Progress};
 use catalogue_core::Catalogue;
@@ -22,6 +23,7 @@ use monitor_core::is_change;
 use reader_core::{MAX_ITEMS, Statement};
 use std::alloc::{AllocError, Global};
 use std::marker::Model;
+use std::mem;
 
 /// The core. Contracts see the world that it stands for: the journal of accepted changes, the
 /// checkpoints, the chunk, and the limits.
@@ -32,17 +34,18 @@ pub struct System {
     ledger: Ledger,
     capture: Capture,
     catalogue: Catalogue,
+    parting: Parting,
 }
 
 impl Model for System {
     ghost use Rattle.system_core.specs.World.{World};
-    ghost use Rattle.system_core.specs.Standing.{world_of, KeepsCheckpoints};
+    ghost use Rattle.system_core.specs.Standing.{world_of, checkpointing, Stands};
 
     ghost Value = { World };
 
-    ghost view = { λ s. world_of s.chunk s.ledger s.capture s.catalogue };
+    ghost view = { λ s. world_of s.chunk s.ledger (checkpointing s.capture s.ledger) s.catalogue };
 
-    ghost invariant = { λ s. KeepsCheckpoints s.chunk s.ledger s.capture s.catalogue };
+    ghost invariant = { λ s. Stands s.chunk s.ledger s.capture s.catalogue };
 }
 
 fn lack_reply(at: Moment, lack: Lack) -> Reply
@@ -88,6 +91,7 @@ impl System {
             ledger: Ledger::new(alloc, limits),
             capture: Capture::new(alloc),
             catalogue,
+            parting: Parting::nothing(),
         })
     }
 
@@ -195,9 +199,7 @@ impl System {
             (checkpoint_checks self.old user statements.Checkpoint)) result self.new }
     {
         let at = self.ledger.moment();
-        let limit = self.ledger.limits().checkpoints;
-        let (tables, rights) = (self.ledger.tables(), self.ledger.rights());
-        let number = match self.capture.begin(tables, rights, at, limit) {
+        let number = match self.ledger.begin(&mut self.capture) {
             Ok(number) => number,
             Err(lack) => return lack_reply(at, lack),
         };
@@ -295,11 +297,10 @@ impl System {
         let Some((number, _, _)) = self.capture.active() else {
             return Reply::Idle;
         };
-        let (tables, rights) = (self.ledger.tables(), self.ledger.rights());
-        match self.capture.step(tables, rights, self.chunk) {
+        match self.ledger.step(&mut self.capture, self.chunk) {
             Ok(Progress::Left(left)) => Reply::Stepped { number, left },
             Ok(Progress::Done(image)) => {
-                self.catalogue.add(image);
+                self.parting.image = self.catalogue.add(image);
                 Reply::Finished { number }
             }
             Ok(Progress::Idle) => Reply::Idle,
@@ -311,11 +312,12 @@ impl System {
     fn give_up(&mut self) -> Reply
         ensures { GivesUp self.old self.old.active result self.new }
     {
-        let (tables, rights) = (self.ledger.tables(), self.ledger.rights());
-        match self.capture.abandon(tables, rights) {
-            Some(number) => Reply::Abandoned { number },
-            None => Reply::Idle,
-        }
+        let Some(active) = self.ledger.abandon(&mut self.capture) else {
+            return Reply::Idle;
+        };
+        let number = active.number();
+        self.parting.taken = Some(active);
+        Reply::Abandoned { number }
     }
 
     /// One event: a step of the machine. What the verdict allows is carried out, and a change is
@@ -338,6 +340,21 @@ impl System {
             Event::Step => self.advance(),
             Event::Abandon => self.give_up(),
         }
+    }
+
+    /// What the last steps of the checkpointer left to be freed, which may take as long as a copy of
+    /// all rows: for the caller to let go of while nobody waits for the core.
+    pub fn take_parting(&mut self) -> Parting
+        ensures { self.new ≡ self.old }
+    {
+        mem::replace(&mut self.parting, Parting::nothing())
+    }
+
+    /// Frees at once what [`take_parting`](System::take_parting) would hand out.
+    pub fn let_go(&mut self)
+        ensures { self.new ≡ self.old }
+    {
+        self.take_parting().free();
     }
 
     /// Frees all that the core holds. A crate that let one go by itself would prove its destructor

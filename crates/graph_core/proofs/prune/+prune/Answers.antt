@@ -12,7 +12,7 @@ prune-requires t c =
     (omega (arith, less, fewer), out.in_order)
 
 pub loop-lost-init : goal.loop-lost-init
-loop-lost-init t c = record { in_order = c.requires; next = refl; fewer = omega arith; falls = Falls.none; settles = λ excused h. h }
+loop-lost-init t c = record { in_order = c.requires; next = refl; rest = refl; fewer = omega arith; falls = Falls.none; settles = λ excused h. h }
 
 pub loop-lost-preserved : goal.loop-lost-preserved
 loop-lost-preserved t c =
@@ -26,6 +26,7 @@ loop-lost-preserved t c =
     record {
       in_order = c.prune.ensures.in_order;
       next = c.prune.ensures.next ∙ c.take_out.ensures.next ∙ c.loop-lost.invariant.next;
+      rest = c.prune.ensures.rest ∙ c.take_out.ensures.rest ∙ c.loop-lost.invariant.rest;
       fewer = omega (arith, less, fewer, then);
       falls = falls_then owner atom c.args.links.now.links c.loop-lost.links.links c.prune.new.links.links c.loop-lost.invariant.falls
           (falls_then owner atom c.loop-lost.links.links c.take_out.new.self.links c.prune.new.links.links out.falls c.prune.ensures.falls);

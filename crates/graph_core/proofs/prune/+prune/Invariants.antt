@@ -12,6 +12,7 @@ abbrev pub invariant-loop-lost : goal.invariant-loop-lost
 invariant-loop-lost l = record {
   in_order : AreInOrder l.links.links;
   next : l.links.next ≡ l.fn.links.next;
+  rest : l.links.rest ≡ l.fn.links.rest;
   fewer : length l.links.links ≤ length l.fn.links.links;
   falls : Falls l.owner l.atom l.fn.links.links l.links.links;
   settles : (excused : Link → Bool) → SupportedBut l.owner l.fn.links.links (λ k. excused k || comes_from l.user l.atom k) → SupportedBut l.owner l.links.links (λ k. excused k || comes_from l.user l.atom k);

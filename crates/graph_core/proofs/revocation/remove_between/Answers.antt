@@ -19,6 +19,7 @@ loop-link-preserved c =
     record {
       links = filter-taken_out test c.in-Some.link c.loop-link.links.links c.take_out.new.self.links c.take_out.ensures.taken passes ∙ c.loop-link.invariant.links;
       next = c.take_out.ensures.next ∙ c.loop-link.invariant.next;
+      rest = c.take_out.ensures.rest ∙ c.loop-link.invariant.rest;
     }
 
 pub returns-clause-links : goal.returns-clause-links

@@ -7,6 +7,7 @@ abbrev pub invariant-loop-link : goal.invariant-loop-link
 invariant-loop-link l = record {
   links : filter (λ k. not (is_between l.by (Some l.user) l.atom k)) l.links.links ≡ filter (λ k. not (is_between l.by (Some l.user) l.atom k)) l.fn.links.links;
   next : l.links.next ≡ l.fn.links.next;
+  rest : l.links.rest ≡ l.fn.links.rest;
 }
 
 abbrev pub decreases-loop-link : goal.decreases-loop-link

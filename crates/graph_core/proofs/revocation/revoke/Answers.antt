@@ -20,6 +20,7 @@ loop-atom-preserved c =
       valid_is = revoked-atom owners by c.atom-item.result rest whom now (grants_of c.args.indices.now c.revoke_of_atom.new.links.links) c.revoke_of_atom.ensures.valid
           ∙ ap (λ atoms. valid owners (without by atoms whom now)) (sym here) ∙ c.loop-atom.invariant.valid_is;
       next = c.revoke_of_atom.ensures.next ∙ c.loop-atom.invariant.next;
+      rest = c.revoke_of_atom.ensures.rest ∙ c.loop-atom.invariant.rest;
     }
 
 pub returns-clause-valid : goal.returns-clause-valid

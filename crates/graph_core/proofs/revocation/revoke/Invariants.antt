@@ -10,4 +10,5 @@ invariant-loop-atom l = record {
   upheld : AreUpheld l.indices l.owners l.links.links;
   valid_is : valid l.owners (without l.by (drop l.atom-index l.atoms) l.whom (grants_of l.indices l.links.links)) ≡ valid l.owners (without l.by l.atoms l.whom (grants_of l.indices l.fn.links.links));
   next : l.links.next ≡ l.fn.links.next;
+  rest : l.links.rest ≡ l.fn.links.rest;
 }

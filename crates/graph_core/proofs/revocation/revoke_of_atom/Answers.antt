@@ -42,6 +42,7 @@ loop-user-preserved c =
       valid_is = revoked-user owners by (atom ∷ []) user rest (grants_of indexed now) (grants_of indexed new) revoked.valid_is
           ∙ ap (λ users. valid owners (without by (atom ∷ []) users (grants_of indexed now))) (sym here) ∙ c.loop-user.invariant.valid_is;
       next = c.revoke_between.ensures.next ∙ c.loop-user.invariant.next;
+      rest = c.revoke_between.ensures.rest ∙ c.loop-user.invariant.rest;
     }
 
 pub returns-clause-valid : goal.returns-clause-valid

@@ -10,4 +10,5 @@ invariant-loop-user l = record {
   upheld : AreUpheld l.indices l.owners l.links.links;
   valid_is : valid l.owners (without l.fn.by (l.atom ∷ []) (drop l.user-index l.whom) (grants_of l.indices l.links.links)) ≡ valid l.owners (without l.fn.by (l.atom ∷ []) l.whom (grants_of l.indices l.fn.links.links));
   next : l.links.next ≡ l.fn.links.next;
+  rest : l.links.rest ≡ l.fn.links.rest;
 }

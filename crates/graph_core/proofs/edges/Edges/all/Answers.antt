@@ -7,7 +7,7 @@ use Rattle.graph_core.proofs.edges.Edges.all.Goals as goal
 
 pub grants_of-requires : goal.grants_of-requires
 grants_of-requires c =
-    subst (λ (k : List Link). AllByRecursion (IsWithin c.self.inside.indices) k) (sym (c.deref.ensures.value ∙ c.in_ok-links.ensures.links)) c.self.invariant
+    subst (λ (k : List Link). AllByRecursion (IsWithin c.self.inside.indices) k) (sym (c.deref.ensures.value ∙ c.in_ok-links.ensures.links)) c.self.invariant.0
 
 pub returns-in_err-links-clause-numbered : goal.returns-in_err-links-clause-numbered
 returns-in_err-links-clause-numbered c =

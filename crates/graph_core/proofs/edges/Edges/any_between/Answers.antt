@@ -12,13 +12,13 @@ use Rattle.graph_core.proofs.edges.Edges.any_between.Goals as goal
 pub returns-in_default : goal.returns-in_default
 returns-in_default c =
     let e = c.self.inside in
-    rw (← c.self.view_is) (sym (no_grant e.indices (λ g. same_user g.grantor c.args.by.now && gives c.args.user.now c.args.atom.now g) e.links.links c.self.invariant
+    rw (← c.self.view_is) (sym (no_grant e.indices (λ g. same_user g.grantor c.args.by.now && gives c.args.user.now c.args.atom.now g) e.links.links c.self.invariant.0
     (λ l w. ap (λ b. b && gives c.args.user.now c.args.atom.now (grant_of e.indices l)) (c.user.ensures.index l.grantor w.grantor ∙ ap (λ o. is_index o l.grantor) c.in_default.is))))
 
 pub returns-in-None : goal.returns-in-None
 returns-in-None c =
     let e = c.self.inside in
-    rw (← c.self.view_is) (sym (no_grant e.indices (λ g. same_user g.grantor c.args.by.now && gives c.args.user.now c.args.atom.now g) e.links.links c.self.invariant
+    rw (← c.self.view_is) (sym (no_grant e.indices (λ g. same_user g.grantor c.args.by.now && gives c.args.user.now c.args.atom.now g) e.links.links c.self.invariant.0
     (λ l w. ap (λ b. same_user (grant_of e.indices l).grantor c.args.by.now && b) (c.place.ensures l w ∙ ap (λ o. goes_to_place o l) c.in-None.is) ∙ and_false _)))
 
 pub returns-in-Some-place : goal.returns-in-Some-place
@@ -27,5 +27,5 @@ returns-in-Some-place c =
     let by = c.in-Some.by in
     let place = c.in-Some-place.place in
     rw (← c.self.view_is) (c.is_some.ensures ∙ ap is_some c.first_between.ensures ∙ is_some-find (λ l. (l.grantor == by) && goes_to place.user place.atom l) e.links.links
-    ∙ sym (any_grant e.indices (λ g. same_user g.grantor c.args.by.now && gives c.args.user.now c.args.atom.now g) e.links.links c.self.invariant (λ l. (l.grantor == by) && goes_to place.user place.atom l)
+    ∙ sym (any_grant e.indices (λ g. same_user g.grantor c.args.by.now && gives c.args.user.now c.args.atom.now g) e.links.links c.self.invariant.0 (λ l. (l.grantor == by) && goes_to place.user place.atom l)
     (λ l w. both _ _ _ _ (c.user.ensures.index l.grantor w.grantor ∙ ap (λ o. is_index o l.grantor) c.in-Some.is) (c.place.ensures l w ∙ ap (λ o. goes_to_place o l) c.in-Some-place.is))))

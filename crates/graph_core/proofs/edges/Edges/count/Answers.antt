@@ -8,11 +8,11 @@ pub returns-in-Some : goal.returns-in-Some
 returns-in-Some c =
     let e = c.self.inside in
     let a = c.in-Some.atom in
-    rw (← c.self.view_is) (c.count.ensures ∙ sym (count_grants e.indices (λ g. same_atom g.atom c.args.atom.now) e.links.links c.self.invariant (λ l. l.atom == a)
+    rw (← c.self.view_is) (c.count.ensures ∙ sym (count_grants e.indices (λ g. same_atom g.atom c.args.atom.now) e.links.links c.self.invariant.0 (λ l. l.atom == a)
     (λ l w. c.atom.ensures l.atom w.atom ∙ ap (λ o. is_index o l.atom) c.in-Some.is)))
 
 pub returns-in-None : goal.returns-in-None
 returns-in-None c =
     let e = c.self.inside in
-    rw (← c.self.view_is) (sym (none_counted e.indices (λ g. same_atom g.atom c.args.atom.now) e.links.links c.self.invariant
+    rw (← c.self.view_is) (sym (none_counted e.indices (λ g. same_atom g.atom c.args.atom.now) e.links.links c.self.invariant.0
     (λ l w. c.atom.ensures l.atom w.atom ∙ ap (λ o. is_index o l.atom) c.in-None.is)))

@@ -13,5 +13,5 @@ invariant_of-self c =
       marked = subst Marked (sym c.revoke.ensures.valid) (AreMarked-revoked c.self.inside.owners c.self.inside.edges.edges c.args.by c.args.atoms.now c.args.whom.now c.self.invariant.marked);
     }
 
-pub returns : goal.returns
-returns c = rw (← c.self.view_is) (same_content _ _ _ _ _ _ refl c.revoke.ensures.valid c.revoke.ensures.next)
+pub returns-clause-content : goal.returns-clause-content
+returns-clause-content c = rw (← c.self.view_is) (same_content _ _ _ _ _ _ refl c.revoke.ensures.valid c.revoke.ensures.next)

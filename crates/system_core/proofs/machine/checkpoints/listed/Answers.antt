@@ -7,13 +7,12 @@ use Rattle.system_core.specs.declared.machine.event.Checkpoint.{Checkpoint}
 use Rattle.system_core.specs.declared.machine.event.Checkpoint.TheVariants as checkpoints
 use Rattle.system_core.specs.World.{ActiveCheckpoint}
 use Rattle.system_core.specs.Step.{active_listed}
-use Rattle.system_core.specs.Standing.{as_active}
 use Rattle.system_core.proofs.machine.checkpoints.listed.Goals as goal
 
 told : Option (ℕ × Moment × ℕ) → Option ActiveCheckpoint
 told o = option_map (λ a. record { number = a.0; point = a.1; left = a.2 }) o
 
-twice : (o : Option Capture) → told (option_map (λ a. (a.coming.number, a.coming.point, a.left)) o) ≡ option_map as_active o
+twice : (o : Option Capture) → told (option_map (λ a. (a.number, a.point, a.left)) o) ≡ option_map (λ a. record { number = a.number; point = a.point; left = a.left }) o
 unfolding told
 twice None = refl
 twice (Some a) = refl

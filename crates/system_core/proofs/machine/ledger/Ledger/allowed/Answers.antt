@@ -6,5 +6,5 @@ use Rattle.system_core.proofs.machine.ledger.Ledger.allowed.Goals as goal
 
 pub returns : goal.returns
 returns c =
-    let same = verdict-stands c.self.inside.limits c.self.inside.journal.items c.self.inside.tables.tables c.self.inside.rights c.args.user.now c.args.statement.now c.self.invariant in
+    let same = verdict-stands c.self.inside.limits c.self.inside.journal.items c.self.inside.tables.tables c.self.inside.rights.content c.args.user.now c.args.statement.now c.self.invariant in
     rw (← c.self.view_is) (c.allows.ensures ∙ ap (λ check. result_ok (allowed_by check c.args.statement.now)) (rw (c.count.ensures, c.deref.ensures.value) same))

@@ -6,13 +6,13 @@ use Rattle.system_core.specs.Journal.{verdict_at}
 use Rattle.system_core.specs.World.{World}
 use Rattle.system_core.specs.Judging.{checkpoint_checks, verdict_of, judged_at}
 use Rattle.system_core.specs.Step.{lack_reply, Responds}
-use Rattle.system_core.specs.Standing.{world_of}
+use Rattle.system_core.specs.Standing.{world_of, checkpointing}
 use Rattle.system_core.proofs.Judged.{failed-first, judged-now}
 use Rattle.system_core.proofs.machine.system.System.refuse.Goals as goal
 
 pub returns : goal.returns
 returns c =
-    let w : World = world_of c.self.inside.chunk c.self.inside.ledger c.self.inside.capture c.self.inside.catalogue in
+    let w : World = world_of c.self.inside.chunk c.self.inside.ledger (checkpointing c.self.inside.capture c.self.inside.ledger) c.self.inside.catalogue in
     let lacks : verdict_at w.limits w.journal c.args.entry.now.user c.args.entry.now.statement ≡ Err c.in-Err.lack = lack-allowed _ c.args.entry.now.statement c.in-Err.lack (sym c.judged.ensures ∙ c.in-Err.is) in
     let now : c.moment.result ≡ judged_at w c.args.entry.now.statement c.in-Err.lack = ap (λ (n : ℕ). record { 0 = n }) c.moment.ensures.moment ∙ sym (judged-now w c.args.entry.now.user c.args.entry.now.statement c.in-Err.lack lacks) in
     let failed : verdict_of w c.args.entry.now.user c.args.entry.now.statement ≡ Err c.in-Err.lack = failed-first (verdict_at w.limits w.journal c.args.entry.now.user c.args.entry.now.statement) (checkpoint_checks w c.args.entry.now.user c.args.entry.now.statement) c.in-Err.lack lacks in
@@ -22,6 +22,6 @@ returns c =
 
 pub unreachable-requires : goal.unreachable-requires
 unreachable-requires c =
-    let w : World = world_of c.self.inside.chunk c.self.inside.ledger c.self.inside.capture c.self.inside.catalogue in
+    let w : World = world_of c.self.inside.chunk c.self.inside.ledger (checkpointing c.self.inside.capture c.self.inside.ledger) c.self.inside.catalogue in
     let passes : verdict_at w.limits w.journal c.args.entry.now.user c.args.entry.now.statement ≡ Ok tt = passed-allowed _ c.args.entry.now.statement c.in-Ok.field-0 (sym c.judged.ensures ∙ c.in-Ok.is) in
     absurd (c.requires (subst (λ (v : World). verdict_at v.limits v.journal c.args.entry.now.user c.args.entry.now.statement ≡ Ok tt) c.self.view_is passes))

@@ -1,7 +1,7 @@
 use Rattle.std.proofs.Common.{◌≡◌, true, Ok, sym, ap, subst, ◌∙◌}
 use Rattle.base_core.specs.declared.value.Moment.{Moment}
 use Rattle.monitor_core.specs.Verdict.{Check, is_change}
-use Rattle.monitor_core.proofs.Allowing.{change-some, none-passed, passed-some}
+use Rattle.monitor_core.proofs.Allowing.{change-some, passed-some}
 use Rattle.system_core.specs.Journal.{verdict_at}
 use Rattle.system_core.specs.World.{World, moment_of}
 use Rattle.system_core.specs.declared.machine.event.Reply.{Reply}
