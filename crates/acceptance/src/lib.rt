@@ -7,6 +7,12 @@
 #[cfg(test)]
 mod calls;
 #[cfg(test)]
+mod captures;
+#[cfg(test)]
+mod chance;
+#[cfg(test)]
+mod checkpoints;
+#[cfg(test)]
 mod desk;
 #[cfg(test)]
 mod exports;
@@ -19,6 +25,8 @@ mod locks;
 #[cfg(test)]
 mod nobody;
 #[cfg(test)]
+mod plain;
+#[cfg(test)]
 mod printer;
 #[cfg(test)]
 mod rights;
@@ -28,3 +36,5 @@ mod slow;
 mod stores;
 #[cfg(test)]
 mod streams;
+#[cfg(test)]
+mod tables;

@@ -50,7 +50,7 @@ impl Chance {
 }
 
 /// Grants where the user may, at a moment after all others.
-fn grant<A: Authority>(
+pub fn grant<A: Authority>(
     rt: &impl Abort,
     rights: &mut A,
     by: &User,

@@ -1,5 +1,6 @@
 //! What no clause says: that calls which take memory succeed, how much room a store takes, and how many
 //! items a step copies.
+use crate::chance::Chance;
 use base_core::{NoMemory, Twin};
 use copyup_core::{PushFault, Sieve, Store};
 use std::alloc::Global;
@@ -153,20 +154,6 @@ fn a_step_copies_one_item(rt: HostRuntime) {
     assert!(rt; store.active());
     assert!(rt; store.capture_step(&mut out, 1) == Ok(1));
     assert!(rt; copies.get() == 1);
-}
-
-/// Numbers by chance, the same ones for the same seed.
-#[derive(Drop)]
-struct Chance(u64);
-
-impl Chance {
-    fn below(&mut self, limit: u64) -> u64 {
-        self.0 = self
-            .0
-            .wrapping_mul(6_364_136_223_846_793_005)
-            .wrapping_add(1_442_695_040_888_963_407);
-        (self.0 >> 33).checked_rem(limit).unwrap_or(0)
-    }
 }
 
 /// What a store should hold, in plain vectors: its items, those that a capture has still to give, and those
