@@ -1,12 +1,13 @@
 -- What taking out one link leaves.
-use Rattle.std.proofs.Common.{◌≡◌, ◌⊎◌, inl, inr, ℕ, ◌+◌, ◌<◌, ◌≤◌, Bool, true, false, not, ◌||◌, ◌&&◌, cond, subst, List, [], ◌∷◌, ◌++◌, Option, Some, None, length, refl, sym, ap, ◌∙◌, arith, ⊎_elim, length-append}
+use Rattle.std.proofs.Common.{◌≡◌, ◌⊎◌, inl, inr, ℕ, ◌+◌, ◌<◌, ◌≤◌, Bool, true, false, not, ◌||◌, ◌&&◌, cond, subst, List, [], ◌∷◌, ◌++◌, Option, Some, None, refl, sym, ap, ◌∙◌, arith, ⊎_elim}
 use Rattle.std.specs.List.{AllByRecursion, list_any, filter, find}
 use Rattle.std.specs.Option.{is_some, unwrap_or}
 use Rattle.std.proofs.lemmas.Bool.{and_parts, or_cases, or_left, or_right, and_from, cases_Bool, cond-true, cond-false, false≢true, true≢false, ltb-true, lt-ltb, eq-eqb, eqb-true}
 use Rattle.links_core.specs.declared.link.Link.{Link}
-use Rattle.links_core.specs.Links.{goes_to, comes_from}
+use Rattle.links_core.specs.Links.{goes_to, comes_from, count_at}
 use Rattle.links_core.specs.Lists.{HasItem, TakesOut}
 use Rattle.links_core.proofs.EndsLemmas.{all_implied, all_two}
+use Rattle.links_core.proofs.LinksLemmas.{count-append, count-cons}
 use Rattle.graph_core.specs.Indices.{is_index}
 use Rattle.graph_core.specs.Pruning.{link_supports, is_link_supported, SupportedBut, IsSettled, Falls, AreInOrder, is_of_another, is_between}
 
@@ -149,19 +150,20 @@ SupportedBut-settled o links user atom excused none h =
 pub record TakenOut (o : Option ℕ) (links left : List Link) (atom : ℕ) (e : Link) : Type 0 where
   pub in_order : AreInOrder left
   pub falls : Falls o atom links left
-  pub fewer : length left + 1 ≡ length links
+  pub fewer : count_at atom left + 1 ≡ count_at atom links
   pub settles : (excused : Link → Bool) → SupportedBut o links excused → SupportedBut o left (λ l. excused l || comes_from e.grantee atom l)
 
 pub taken_out : (o : Option ℕ) (links left : List Link) (user atom : ℕ) (e : Link) → TakesOut e links left → comes_from user atom e ≡ true → is_link_supported o links e ≡ false → AreInOrder links → TakenOut o links left atom e
 taken_out o links left user atom e out made lost ordered =
     let Ordered : List Link → Type 0 = λ k. AreInOrder k in
     let same = (comes_from-parts user atom e made).1 in
-    let new : length left ≡ length out.before + length out.after = ap length out.is ∙ length-append out.before out.after in
-    let old : length links ≡ length out.before + length (e ∷ out.after) = ap length out.was ∙ length-append out.before (e ∷ out.after) in
+    let new = ap (count_at atom) out.is ∙ count-append out.before out.after atom in
+    let old = ap (count_at atom) out.was ∙ count-append out.before (e ∷ out.after) atom in
+    let one = count-cons e out.after atom ∙ ap (λ b. cond b 1 0 + count_at atom out.after) (eq-eqb e.atom atom same) in
     record {
       in_order = subst Ordered (sym out.is) (AreInOrder-without out.before e out.after (subst Ordered out.was ordered));
       falls = Falls.one out same lost Falls.none;
-      fewer = omega (arith, new, old);
+      fewer = omega (arith, new, old, one);
       settles = λ excused h.
           let But : List Link → Type 0 = λ k. SupportedBut o k excused in
           let Then : List Link → Type 0 = λ k. SupportedBut o k (λ l. excused l || comes_from e.grantee atom l) in

@@ -1,6 +1,6 @@
 //! Pruning by recursion, from grantee to grantee.
-ghost use Rattle.std.specs.Prelude.{◌≡◌, ◌≤◌, Bool, ◌||◌, length, true, false, IfSome, IfNone};
-ghost use Rattle.links_core.specs.Links.{comes_from};
+ghost use Rattle.std.specs.Prelude.{◌≡◌, ◌≤◌, Bool, ◌||◌, true, false, IfSome, IfNone};
+ghost use Rattle.links_core.specs.Links.{comes_from, count_at};
 ghost use Rattle.links_core.specs.Lists.{HasItem};
 ghost use Rattle.links_core.specs.declared.link.Link.{Link as link};
 ghost use Rattle.graph_core.specs.Pruning.{is_link_supported, SupportedBut, IsSettled, Falls, AreInOrder};
@@ -34,13 +34,13 @@ fn first_lost(links: &Links, owner: Option<usize>, user: usize, atom: usize) -> 
 
 /// Takes out the links of the privilege that the user made and that have lost their support, and
 /// what falls with them. The owner is that of the privilege's table, if he has an index. It calls
-/// itself at most as deep as there are links.
+/// itself at most as deep as there are links of the privilege.
 pub fn prune(links: &mut Links, owner: Option<usize>, user: usize, atom: usize)
     requires { AreInOrder links.old.links }
     ensures in_order { AreInOrder links.new.links }
     ensures next { links.new.next ≡ links.old.next }
     ensures rest { links.new.rest ≡ links.old.rest }
-    ensures fewer { length links.new.links ≤ length links.old.links }
+    ensures fewer { count_at atom links.new.links ≤ count_at atom links.old.links }
     ensures falls { Falls owner atom links.old.links links.new.links }
     ensures settles { (excused : link → Bool)
         → SupportedBut owner links.old.links (λ l. excused l || comes_from user atom l)

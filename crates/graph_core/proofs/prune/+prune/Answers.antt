@@ -37,3 +37,10 @@ pub returns-clause-settles : goal.returns-clause-settles
 returns-clause-settles t c =
     λ excused h.
     SupportedBut-settled c.args.owner c.loop-lost.links.links c.args.user c.args.atom excused c.in_default.ensures.none (c.loop-lost.invariant.settles excused h)
+
+pub loop-lost-smaller : goal.loop-lost-smaller
+loop-lost-smaller t c =
+    let out = taken_out c.args.owner c.loop-lost.links.links c.take_out.new.self.links c.args.user c.args.atom c.in-Some.lost c.take_out.ensures.taken c.in-Some.ensures.made c.in-Some.ensures.lost c.loop-lost.invariant.in_order in
+    let less = out.fewer in
+    let then = c.prune.ensures.fewer in
+    omega (arith, less, then)
