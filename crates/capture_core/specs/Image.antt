@@ -8,6 +8,7 @@ use Rattle.base_core.specs.Users.{same_user}
 use Rattle.base_core.specs.declared.name.Name.{Name}
 use Rattle.base_core.specs.declared.name.User.{User}
 use Rattle.base_core.specs.declared.privilege.Atom.{Atom}
+use Rattle.base_core.specs.declared.privilege.Kind.TheVariants.{Select}
 use Rattle.base_core.specs.declared.value.Moment.{Moment}
 use Rattle.tables_core.specs.Contents.{Contents}
 use Rattle.grants_core.specs.Content.{Content, gives}
@@ -43,6 +44,10 @@ row_total tables = sum_by (λ t. length t.1.rows) tables
 -- none
 abbrev pub records : List (Name × Contents) → Content → ℕ
 records tables rights = max (row_total tables + length rights.in_force) 1
+
+-- SELECT of a table
+abbrev pub to_select : Name → Atom
+to_select table = record { table = table; kind = Select }
 
 -- whether a table of this name stands in the image
 abbrev pub has : Image → Name → Bool

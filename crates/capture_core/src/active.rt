@@ -4,9 +4,9 @@ ghost use Rattle.std.specs.Arc.{arc_value};
 ghost use Rattle.capture_core.specs.Capturing.{coming};
 
 use crate::filling::Filling;
+use crate::granted::Grants;
 use crate::image::Image;
 use base_core::{Moment, Name, NoMemory, Sequence};
-use grants_core::Grant;
 use graph_core::Graph;
 use std::alloc::Global;
 use std::marker::Model;
@@ -25,7 +25,7 @@ pub struct Active {
     filling: Filling,
     /// The rows that were taken and have no place in a table yet, the last one first.
     waiting: Vec<(Name, NumberedRow)>,
-    grants: Vec<Grant>,
+    grants: Grants,
 }
 
 impl Model for Active {
@@ -41,7 +41,7 @@ impl Model for Active {
       count = a.count;
       filled = a.filling;
       waiting = reverse a.waiting.items;
-      grants = a.grants.items;
+      grants = a.grants;
     } };
 }
 
@@ -69,7 +69,7 @@ impl Active {
             count,
             filling: Filling::of(alloc, Vec::new(alloc)),
             waiting: Vec::new(alloc),
-            grants: Vec::new(alloc),
+            grants: Grants::new(alloc),
         }
     }
 
@@ -145,11 +145,7 @@ impl Active {
         let due = tables.left() as u64 + rights.left();
         let count = due.saturating_sub(left) as usize;
         let rows = self.take_rows(tables, count)?;
-        if self.grants.is_empty() {
-            self.grants.reserve_exact(rights.left() as usize)?;
-        }
-        rights.capture_step(&mut self.grants, (count - rows) as u64)?;
-        Ok(())
+        self.grants.take(rights, (count - rows) as u64)
     }
 
     /// The image, where nothing more is due. Where a request for memory was refused, the capture,
@@ -185,13 +181,13 @@ impl Active {
             number: self.number,
             point: self.point,
             tables: Sequence::from_vec(self.filling.into_whole()),
-            grants: Sequence::from_vec(self.grants),
+            grants: self.grants,
         };
         match Arc::new(self.alloc, image) {
             Ok(image) => Ok(image),
             Err(failed) => Err(Active {
                 filling: Filling::of(self.alloc, failed.value.tables.into_vec()),
-                grants: failed.value.grants.into_vec(),
+                grants: failed.value.grants,
                 ..self
             }),
         }

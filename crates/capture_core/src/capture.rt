@@ -118,8 +118,9 @@ impl Capture {
 
     /// Takes `k` records off those that are left, or all where they are no more, and tells how many
     /// are left then. With none left the capture has ended, and the image is handed out. `Idle`
-    /// where none is active: then nothing has changed. Tables and rights must be those of `begin`,
-    /// as they and the steps changed them, so that no more is due than is left.
+    /// where none is active: then nothing has changed, and no memory was asked for. Tables and rights
+    /// must be those of `begin`, as they and the steps changed them, so that no more is due than is
+    /// left.
     ///
     /// `NoMemory` where a request for memory was refused: then as many records are left as before,
     /// and the same image is to come.
@@ -130,6 +131,7 @@ impl Capture {
         k: usize,
     ) -> Result<Progress, NoMemory>
         requires { CanGoOn self.old.active tables.old rights.old.rest }
+        ensures idle { self.old.active ≡ None → IsOk result }
         ensures tells { IfOk result (λ progress.
             TellsProgress k (in_progress self.old.active tables.old rights.old.rest) progress) }
         ensures ok { OnOk result (in_progress self.new.active tables.new rights.new.rest

@@ -1,13 +1,11 @@
 //! What a checkpoint keeps.
 ghost use Rattle.std.specs.Prelude.{◌≡◌, false, find};
-ghost use Rattle.std.specs.List.{list_any};
 ghost use Rattle.std.specs.Option.{option_copied};
 ghost use Rattle.base_core.specs.Words.{same_name};
-ghost use Rattle.grants_core.specs.Content.{gives};
 ghost use Rattle.capture_core.specs.Image as images;
 
+use crate::granted::Grants;
 use base_core::{Atom, Column, Moment, Name, Row, Sequence, User};
-use grants_core::Grant;
 
 /// A table as it stood at a checkpoint's point.
 #[derive(Drop)]
@@ -29,13 +27,7 @@ pub struct Image {
     /// All tables, in the order of their creation.
     pub tables: Sequence<TableImage>,
     /// The grants in force, in the order of their numbers.
-    pub grants: Sequence<Grant>,
-}
-
-fn any_gives(grants: &[Grant], user: &User, atom: &Atom) -> bool
-    ensures { result ≡ list_any (gives user.now atom.now) grants.now }
-{
-    grants.iter().any(|grant| grant.gives(user, atom))
+    pub grants: Grants,
 }
 
 impl Image {
@@ -58,8 +50,9 @@ impl Image {
             .any(|table| name == table.name)
     }
 
+    /// Whether the user owned the atom's table at the point. It takes no memory.
     #[tactic(auto, unfolding(crate::specs::Image::owns_in_image))]
-    fn owns(&self, user: &User, atom: &Atom) -> bool
+    pub fn owns(&self, user: &User, atom: &Atom) -> bool
         ensures { result ≡ images.owns_in_image self.now user.now atom.now }
     {
         match self.table(atom.table) {
@@ -73,6 +66,6 @@ impl Image {
     pub fn holds(&self, user: User, atom: &Atom) -> bool
         ensures { result ≡ images.holds_in_image self.now user atom.now }
     {
-        self.owns(&user, atom) || any_gives(self.grants.as_slice(), &user, atom)
+        self.owns(&user, atom) || self.grants.gives(&user, atom)
     }
 }

@@ -51,21 +51,23 @@
 //!
 //! `begin` and `active` are constant. `abandon` goes over the grants that had still to be taken, and
 //! hands what was taken to the caller. A step of k copies k rows and grants at most, and goes on
-//! over the tables that become whole with them; with a table goes a copy of its columns. `has` goes
-//! over the image's tables, and `holds` over its tables and grants. Only `step` takes memory, as
-//! much as the image has at the end: room for the rows of a table, and for the grants, is made at
+//! over the tables that become whole with them; with a table goes a copy of its columns. `has` and
+//! `owns` go over the image's tables, and `holds` over these and over the marks of its grants, of 4
+//! bytes each; so does `tables_given` of the grants. Only `step` takes memory, as much as the image has at the end: room for the rows of a table, and for the grants, is made at
 //! once, so that no long list is moved as it grows.
 #![tactic(auto)]
 
 mod active;
 mod capture;
 mod filling;
+mod granted;
 mod image;
 mod laws;
 mod progress;
 
 pub use active::Active;
 pub use capture::Capture;
+pub use granted::Grants;
 pub use image::{Image, TableImage};
 pub use laws::images_tell_the_same;
 pub use progress::Progress;

@@ -5,7 +5,7 @@ use Rattle.std.specs.Option.{option_to_list}
 use Rattle.std.proofs.lemmas.Bool.Decides.{nat_tests}
 use Rattle.std.proofs.lemmas.List.Folds.{find_at}
 use Rattle.std.proofs.lemmas.Option.{same_Some, cond_some, slice_get_within, slice_get_past, slice_get-get_or, get_or_from_slice_get}
-use Rattle.std.proofs.lemmas.List.{take_more, drop_more, take_all, length-append}
+use Rattle.std.proofs.lemmas.List.{take_more, drop_more, take_all, length-append, length-map}
 use Rattle.std.proofs.lemmas.List.Concat.{flat_map-append}
 
 pub slice_get-append_left : {X : Type 0} (xs ys : List X) (i : ℕ) (x : X) → slice_get xs i ≡ Some x → slice_get (xs ++ ys) i ≡ Some x
@@ -77,12 +77,27 @@ slice_get-zip_past (a ∷ xs) [] i none = refl
 slice_get-zip_past (a ∷ xs) (b ∷ ys) zero none = cc
 slice_get-zip_past (a ∷ xs) (b ∷ ys) (suc i) none = slice_get-zip_past xs ys i none
 
+-- two lists side by side are no longer than the second
+pub length-zip : {X Y : Type 0} (xs : List X) (ys : List Y) → length (zip xs ys) ≤ length ys
+length-zip [] ys = omega arith
+length-zip (x ∷ xs) [] = omega arith
+length-zip (x ∷ xs) (y ∷ ys) = omega (arith, length-zip xs ys)
+
+-- what is made of pairs is no more than there are second items
+pub length-map_zip : {X Y Z : Type 0} (f : X × Y → Z) (xs : List X) (ys : List Y) (zs : List Z) → zs ≡ map f (zip xs ys) → length zs ≤ length ys
+length-map_zip f xs ys zs is = omega (arith, ap length is, length-map (zip xs ys) f, length-zip xs ys)
+
 -- items beside what is made of the first of them
 pub zip-map_take : {X Y : Type 0} (f : X → Y) (n : ℕ) (xs : List X) → zip xs (map f (take n xs)) ≡ map (λ x. (x, f x)) (take n xs)
 zip-map_take f zero [] = refl
 zip-map_take f zero (x ∷ xs) = refl
 zip-map_take f (suc n) [] = refl
 zip-map_take f (suc n) (x ∷ xs) = ap (λ l. (x, f x) ∷ l) (zip-map_take f n xs)
+
+-- what is made of what was made of each item
+pub map-made : {X Y Z : Type 0} (f : X → Y) (g : Y → Z) (xs : List X) → map g (map f xs) ≡ map (λ x. g (f x)) xs
+map-made f g [] = refl
+map-made f g (x ∷ xs) = ap (λ l. g (f x) ∷ l) (map-made f g xs)
 
 -- the first item that passes, as a list
 head_of : {X : Type 0} (xs : List X) (i : ℕ) → take 1 (drop i xs) ≡ option_to_list (slice_get xs i)

@@ -10,7 +10,7 @@ use Rattle.export_core.specs.Ticket.{Exporting, after_giving}
 use Rattle.export_core.specs.Walk.{judged_tables, told_of, all_records, count_given, exporting, IsUnderWay}
 use Rattle.export_core.specs.declared.judgement.Judgement.{Judgement}
 use Rattle.export_core.specs.declared.judgement.Judgement.TheVariants.{Listed, WithheldThen, WithheldNow}
-use Rattle.export_core.specs.declared.ticket.Ticket.TheInside.{Inside}
+use Rattle.export_core.specs.declared.walk.Walk.TheInside.{Inside}
 use Rattle.export_core.proofs.Giving.{gives_nothing}
 use Rattle.export_core.proofs.Places.{slice_get-append_left, slice_get-append_right, slice_get-drop, slice_get-flat_map, slice_get-zip, slice_get-zip_past, slice_get-index, take_next, take_past, drop_next, length-flat_map_next, MatchOption-some, MatchOption-each}
 

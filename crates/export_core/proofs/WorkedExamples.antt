@@ -11,7 +11,8 @@ use Rattle.grants_core.specs.Content.{Content, gives}
 use Rattle.capture_core.specs.Image.{owns_in_image as owned}
 use Rattle.capture_core.specs.declared.image.Image.{Image}
 use Rattle.capture_core.specs.declared.image.TableImage.{TableImage}
-use Rattle.export_core.specs.Export.{image_export, to_select}
+use Rattle.export_core.specs.Export.{image_export}
+use Rattle.capture_core.specs.Image.{to_select}
 
 -- users, the table and its column are named by one letter
 abbrev o : User

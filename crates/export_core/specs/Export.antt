@@ -3,19 +3,15 @@ use Rattle.std.specs.Prelude.{◌≡◌, ℕ, Bool, true, if◌then◌else◌, L
 use Rattle.base_core.specs.Words.{same_name}
 use Rattle.base_core.specs.declared.name.Name.{Name}
 use Rattle.base_core.specs.declared.name.User.{User}
-use Rattle.base_core.specs.declared.privilege.Atom.{Atom}
-use Rattle.base_core.specs.declared.privilege.Kind.TheVariants.{Select}
 use Rattle.grants_core.specs.Content as rights
 use Rattle.grants_core.specs.Content.{Content}
 use Rattle.capture_core.specs.Image as images
+use Rattle.capture_core.specs.Image.{to_select}
 use Rattle.capture_core.specs.declared.image.Image.{Image}
 use Rattle.capture_core.specs.declared.image.TableImage.{TableImage}
 use Rattle.export_core.specs.Record.{record_line, row_line}
 use Rattle.export_core.specs.declared.judgement.Judgement.{Judgement}
 use Rattle.export_core.specs.declared.judgement.Judgement.TheVariants.{Listed, WithheldThen, WithheldNow}
-
-abbrev pub to_select : Name → Atom
-to_select table = record { table = table; kind = Select }
 
 -- whether the user held SELECT of the table at the image's point, by its owners and grants
 abbrev pub held_then : Image → User → Name → Bool

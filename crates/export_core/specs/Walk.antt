@@ -1,15 +1,44 @@
--- How a ticket's fields stand for an export on its way.
-use Rattle.std.specs.Prelude.{◌≡◌, ℕ, ◌+◌, ◌<◌, ◌≤◌, true, if◌then◌else◌, List, [], ◌∷◌, ◌++◌, length, take, drop, zip, flat_map, slice_get, None, MatchOption}
+-- How the fields of a ticket stand for an export on its way.
+use Rattle.std.specs.Prelude.{◌≡◌, ℕ, ◌+◌, ◌<◌, ◌≤◌, true, if◌then◌else◌, List, [], ◌∷◌, ◌++◌, length, map, take, drop, zip, flat_map, slice_get, None, MatchOption}
 use Rattle.std.specs.Arc.{arc_value}
+use Rattle.base_core.specs.declared.name.Name.{Name}
+use Rattle.base_core.specs.declared.name.User.{User}
+use Rattle.base_core.specs.declared.value.Moment.{Moment}
+use Rattle.grants_core.specs.Content.{Content}
+use Rattle.capture_core.specs.declared.image.Image.{Image}
 use Rattle.capture_core.specs.declared.image.TableImage.{TableImage}
-use Rattle.export_core.specs.Export.{told, end_line}
+use Rattle.export_core.specs.Export.{told, end_line, held_then, holds_now}
 use Rattle.export_core.specs.Ticket.{Exporting}
 use Rattle.export_core.specs.declared.judgement.Judgement.{Judgement}
-use Rattle.export_core.specs.declared.ticket.Ticket.TheInside.{Inside}
+use Rattle.export_core.specs.declared.judgement.Judgement.TheVariants.{Listed, WithheldThen, WithheldNow}
+use Rattle.export_core.specs.declared.walk.Walk.TheInside.{Inside}
+
+-- how a table is judged by the rights at the request alone
+abbrev pub by_rights : Content → User → Name → Judgement
+by_rights now user table = if holds_now now user table then Listed else WithheldNow
+
+-- how it is judged in the end, where the rights at the request judge it so
+abbrev pub settled : Image → User → TableImage × Judgement → Judgement
+settled image user pair =
+    if held_then image user pair.0.name then pair.1 else WithheldThen
 
 -- a table and how it was judged
 abbrev pub told_of : TableImage × Judgement → List (List ℕ)
 told_of pair = told pair.1 pair.0
+
+-- an export that was asked for: of these tables of the image, from the first on, each judged so by
+-- the rights at the request
+abbrev pub asked : Image → User → Moment → ℕ → List Judgement → Exporting
+asked image user at first now = record {
+  number = image.number;
+  point = image.point;
+  at = at;
+  given = [];
+  to_come =
+      flat_map told_of
+      (zip (drop first image.tables) (map (settled image user) (zip (drop first image.tables) now)))
+      ++ end_line image.number ∷ [];
+}
 
 -- the tables of the export, each with its judgement
 abbrev pub judged_tables : Inside → List (TableImage × Judgement)

@@ -16,8 +16,8 @@
 //! ```
 //!
 //! A [`Ticket`] stands for an export on its way: the numbers of its header, the records given so far, and
-//! those to come. The one contract: [`Ticket::issue`] judges each table once and fixes the records to
-//! come, and from then on each call moves records from those to come to those given, the next ones in
+//! those to come. The one contract: [`Ticket::issue`] fixes the records to come, with each table judged
+//! once, and from then on each call moves records from those to come to those given, the next ones in
 //! order, and hands out or writes exactly these. What is granted or revoked later changes nothing in an
 //! export that was issued. `specs/Export.antt` says what the records are, and `specs/Ticket.antt` what
 //! the calls do.
@@ -39,17 +39,18 @@
 //! written by `csv`, whose text of fields without control characters is this one; names, texts and
 //! numbers have none. Rows that follow each other are written by one writer of `csv`, since its buffer
 //! costs more than a row's text. The last record of an export alone is of another form: two words.
-//! [`write_rows`] and [`write_record`] are there for other lists of records too.
 //!
 //! # Cost
 //!
 //! A ticket keeps the image's `Arc`, one judgement a table, and where it is; nothing of the image is
-//! copied. To issue one looks up two rights for each of its tables, and takes memory for the judgements
-//! and for another owner of the image. A record costs its own bytes; at `next_record` it costs a buffer of
-//! `csv` too, at `write_to` and `write_rows` one buffer serves many rows. `write_to` makes each record
+//! copied. To issue one looks up a right for each of its tables, and takes memory for a byte a table. The
+//! first record goes over the marks of the image's grants once, and takes memory for the names of the
+//! tables of which the user was given SELECT. Any later record costs its own bytes; at `next_record` it costs a buffer of
+//! `csv` too, at `write_to` one buffer serves many rows. `write_to` makes each record
 //! after it has written the one before, and keeps the text of at most 128 rows.
 #![tactic(auto)]
 
+mod asked;
 mod fault;
 mod gate;
 mod judgement;
@@ -58,9 +59,8 @@ mod lines;
 mod record;
 mod rows;
 mod ticket;
+mod walk;
 
 pub use fault::ExportFault;
 pub use gate::{Gate, NoGate};
-pub use record::{Field, write_record};
-pub use rows::write_rows;
 pub use ticket::Ticket;

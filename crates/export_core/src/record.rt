@@ -1,11 +1,10 @@
 //! Records at the end of a text.
-ghost use Rattle.std.specs.Prelude.{◌≡◌, ◌<◌, ◌++◌, ◌∷◌, [], ℕ, List, length, map, codes, decimal, IfOk, OnOk};
+ghost use Rattle.std.specs.Prelude.{◌≡◌, ◌<◌, ◌++◌, ◌∷◌, [], ℕ, List, length, map, codes, IfOk, OnOk};
 ghost use Rattle.csv.specs.Writing.{writer_pending};
 ghost use Rattle.export_core.specs.Record.{IsBegun, IsBetween, IsPlain, comma, field_text, more_text, record_line, text_in};
 
 use base_core::{Column, Name, NoMemory};
 use csv::{Terminator, Writer, WriterBuilder};
-use itoa::Buffer;
 
 /// What stands in a record as a field.
 pub trait Field {
@@ -18,16 +17,6 @@ pub trait Field {
         ensures text { OnOk result (text_in writer.new
             ≡ text_in writer.old ++ comma ∷ field_text (bytes self.now)) }
         ensures begun { OnOk result (IsBegun writer.new) };
-}
-
-/// Numbers in plain decimal.
-impl Field for u64 {
-    ghost bytes = { decimal };
-
-    fn put(&self, writer: &mut Writer<Vec<u8>>) -> Result<(), NoMemory> {
-        let mut digits = Buffer::new();
-        put_field(writer, digits.format(*self).as_bytes())
-    }
 }
 
 /// Names as they are.

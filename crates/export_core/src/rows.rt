@@ -1,9 +1,9 @@
-//! The lines of rows.
-ghost use Rattle.std.specs.Prelude.{◌≡◌, ◌++◌, [], IfOk, OnOk};
+//! The line of a row.
+ghost use Rattle.std.specs.Prelude.{◌≡◌, ◌++◌, [], OnOk};
 ghost use Rattle.csv.specs.Writing.{writer_pending, writer_under};
-ghost use Rattle.export_core.specs.Record.{IsBetween, row_line, row_lines, text_in, value_field};
+ghost use Rattle.export_core.specs.Record.{IsBetween, row_line, text_in, value_field};
 
-use crate::record::{Field, finish, put_field, put_record, writer_after};
+use crate::record::{Field, put_field, put_record};
 use base_core::{NoMemory, Row, Value};
 use csv::Writer;
 use itoa::Buffer;
@@ -30,18 +30,6 @@ pub fn put_row(writer: &mut Writer<Vec<u8>>, values: &[Value]) -> Result<(), NoM
     ensures between { OnOk result (IsBetween writer.new) }
 {
     put_record(writer, b"row", values)
-}
-
-/// The text with the lines of several rows at its end, all by one writer: the word `row` and the
-/// values, with commas between them, and a line feed. `NoMemory` where a request for memory was refused.
-pub fn write_rows(text: Vec<u8>, rows: &[Row]) -> Result<Vec<u8>, NoMemory>
-    ensures { IfOk result (λ longer. longer.items ≡ text.items ++ row_lines rows.now) }
-{
-    let mut writer = writer_after(text);
-    for row in rows {
-        put_row(&mut writer, row.values.as_slice())?;
-    }
-    finish(writer)
 }
 
 /// Writes the line of a row behind what the writer's text is, with nothing held back.

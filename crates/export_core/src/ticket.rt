@@ -1,74 +1,50 @@
 //! An export on its way.
-ghost use Rattle.std.specs.Prelude.{◌≡◌, ◌≤◌, ◌+◌, ◌↔◌, [], true, false, ℕ, if◌then◌else◌, length, take, drop, slice_get, position, option_map, is_some, Some, IfSome, IfOk, IfErr, IsOk, IsErrOf, OnOk, OnErr};
+ghost use Rattle.std.specs.Prelude.{◌≡◌, ◌≤◌, ◌+◌, ◌↔◌, [], true, false, length, take, drop, slice_get, position, option_map, Some, IfOk, IfErr, IsOk, IsErrOf, OnOk, OnErr};
 ghost use Rattle.std.specs.Arc.{arc_value};
 ghost use Rattle.std.specs.List.{concat};
 ghost use Rattle.std.specs.Io.KnownBytes.{Appends};
 ghost use Rattle.base_core.specs.Words.{same_name};
-ghost use Rattle.csv.specs.Writing.{writer_pending};
-ghost use Rattle.export_core.specs.Record.{IsBetween, row_line};
 ghost use Rattle.export_core.specs.Export as exports;
 ghost use Rattle.export_core.specs.Export.{IsAllowed};
-ghost use Rattle.export_core.specs.Ticket.{issued, after_giving, finished, WritesRecords, Stops};
+ghost use Rattle.export_core.specs.Ticket.{issued, after_giving, finished, Stops};
 
+use crate::asked::Asked;
 use crate::fault::ExportFault;
-use crate::gate::{Gate, Passage};
-use crate::judgement::{Judgement, judgements};
-use crate::lines::{end_line, next_index, row_at, told_line};
-use crate::record::writer_after;
-use crate::rows::append_row;
-use base_core::{Broken, Moment, Name, NoMemory, Row, Sink, User, write_all};
+use crate::gate::Gate;
+use crate::judgement::judged_now;
+use crate::walk::Walk;
+use base_core::{Moment, Name, NoMemory, Sink, User};
 use capture_core::{Image, TableImage};
-use csv::Writer;
 use grants_core::Authority;
 use std::alloc::Global;
 use std::marker::Model;
 use std::sync::Arc;
 
-// How many rows one writer of records writes: so many that its buffer costs little, and so few that what
-// it holds stays small.
-const ROWS_OF_A_WRITER: usize = 128;
-
 /// An export of a checkpoint to a user. Contracts see the number and the point of the checkpoint, the
 /// moment of the request, the records given so far, and those to come.
 ///
 /// It shares the checkpoint's image and copies nothing of it: each record is made when it is asked for.
+/// What the image says of the user's rights is looked up once, for the first record.
 #[derive(Drop)]
 pub struct Ticket {
-    image: Arc<Image>,
-    at: Moment,
-    // Where the export's tables begin among those of the image.
-    first: usize,
-    // One for each of the export's tables.
-    judgements: Vec<Judgement>,
-    // How many of the tables were told whole.
-    told: usize,
-    // How many lines of the next one were given.
-    lines: usize,
-    // Whether the last line was given.
-    ended: bool,
+    asked: Asked,
+    // From the first record on.
+    walk: Option<Walk>,
 }
 
 impl Model for Ticket {
+    ghost use Rattle.std.specs.Prelude.{unwrap_or};
     ghost use Rattle.export_core.specs.Ticket.{Exporting};
-    ghost use Rattle.export_core.specs.Walk.{exporting, IsUnderWay};
 
     ghost Value = { Exporting };
 
-    ghost view = { exporting };
-
-    ghost invariant = { IsUnderWay };
+    ghost view = { λ t. unwrap_or t.walk t.asked };
 }
 
 fn place_of(tables: &[TableImage], name: Name) -> Option<usize>
     ensures { result ≡ position (λ t. same_name name t.name) tables.now }
 {
     tables.iter().position(|table| name == table.name)
-}
-
-fn judgement_at(judgements: &[Judgement], index: usize) -> Option<Judgement>
-    ensures { result ≡ slice_get judgements.now index }
-{
-    judgements.get(index).copied()
 }
 
 // The tables of an export, and how many of the image's stand before them.
@@ -88,10 +64,10 @@ fn chosen(tables: &[TableImage], only: Option<Name>) -> (usize, &[TableImage])
 
 impl Ticket {
     /// An export of the image to the user, of which nothing is given yet: of all tables, or of `only`
-    /// alone. It is judged here, once: a table is listed where the user held SELECT of it at the
-    /// image's point, by the owners and grants captured, and holds it by `rights`, those of the
-    /// request. What is revoked later takes nothing from the export. `now` is the moment of the
-    /// request.
+    /// alone. A table is listed where the user held SELECT of it at the image's point, by the owners
+    /// and grants captured, and holds it by `rights`, those of the request. These are looked up here,
+    /// once; the image's, which never change, for the first record. What is revoked later takes
+    /// nothing from the export. `now` is the moment of the request.
     ///
     /// A table that `only` names has to be in the image, and the user has to have SELECT of it at both
     /// moments. `NoMemory` where a request for memory was refused.
@@ -108,71 +84,56 @@ impl Ticket {
             (λ ticket. ticket ≡ issued (arc_value image.now) (A.content rights.now) user only now) }
     {
         let (first, tables) = chosen(image.tables.as_slice(), only);
-        let judgements = judgements(alloc, image, rights, &user, tables)?;
-        Ok(Ticket {
+        let judged = judged_now(alloc, rights, &user, tables)?;
+        let asked = Asked {
             image: image.clone()?,
+            user,
             at: now,
             first,
-            judgements,
-            told: 0,
-            lines: 0,
-            ended: false,
-        })
+            by_rights: judged,
+        };
+        Ok(Ticket { asked, walk: None })
     }
 
     /// The number of the checkpoint. It takes no memory.
     pub fn number(&self) -> u64
         ensures { result ≡ self.now.number }
     {
-        self.image.number
+        match &self.walk {
+            Some(walk) => walk.number(),
+            None => self.asked.number(),
+        }
     }
 
     /// The point of the checkpoint. It takes no memory.
     pub fn point(&self) -> Moment
         ensures { result ≡ self.now.point }
     {
-        self.image.point
+        match &self.walk {
+            Some(walk) => walk.point(),
+            None => self.asked.point(),
+        }
     }
 
     /// The moment of the request. It takes no memory.
     pub fn at(&self) -> Moment
         ensures { result ≡ self.now.at }
     {
-        self.at
-    }
-
-    // The next record.
-    fn line(&self) -> Result<Option<Vec<u8>>, NoMemory>
-        ensures line { IfOk result
-            (λ line. option_map (λ bytes. bytes.items) line ≡ slice_get self.now.to_come 0) }
-        ensures end { self.now.to_come ≡ [] → IsOk result }
-    {
-        if self.ended {
-            return Ok(None);
+        match &self.walk {
+            Some(walk) => walk.at(),
+            None => self.asked.at(),
         }
-        let alloc = *self.judgements.allocator();
-        let Some(judgement) = judgement_at(&self.judgements, self.told) else {
-            return Ok(Some(end_line(alloc, self.image.number)?));
-        };
-        let table = &self.image.tables.as_slice()[self.first + self.told];
-        Ok(Some(told_line(alloc, table, judgement, self.lines)?))
     }
 
-    // The next record counts as given.
-    fn pass(&mut self)
-        ensures { self.new ≡ after_giving 1 self.old }
+    // The walk over the tables, which begins here if it has not begun.
+    fn take_walk(&mut self) -> Result<Walk, NoMemory>
+        ensures ok { IfOk result (λ walk. walk ≡ self.old) }
+        ensures err { OnErr result (self.new ≡ self.old) }
+        ensures end { self.old.to_come ≡ [] → IsOk result }
     {
-        let Some(judgement) = judgement_at(&self.judgements, self.told) else {
-            self.ended = true;
-            return;
-        };
-        let table = &self.image.tables.as_slice()[self.first + self.told];
-        match next_index(table, judgement, self.lines) {
-            Some(lines) => self.lines = lines,
-            None => {
-                self.told += 1;
-                self.lines = 0;
-            }
+        match self.walk.take() {
+            Some(walk) => Ok(walk),
+            None => self.asked.begin(),
         }
     }
 
@@ -185,105 +146,10 @@ impl Ticket {
         ensures err { OnErr result (self.new ≡ self.old) }
         ensures end { self.old.to_come ≡ [] → IsOk result }
     {
-        let line = self.line()?;
-        self.pass();
-        Ok(line)
-    }
-
-    // The row whose record is the next, if that is a row's.
-    fn next_row(&self) -> Option<&Row>
-        ensures { IfSome result
-            (λ row. slice_get self.now.to_come 0 ≡ Some (row_line row.now.values)) }
-    {
-        let Some(Judgement::Listed) = judgement_at(&self.judgements, self.told) else {
-            return None;
-        };
-        let table = &self.image.tables.as_slice()[self.first + self.told];
-        row_at(table, self.lines)
-    }
-
-    // Gives one record and writes it. False at the end.
-    fn write_next<W: Sink, G: Gate>(
-        &mut self,
-        writer: &mut W,
-        passage: &mut Passage<G>,
-    ) -> Result<bool, ExportFault>
-        requires { W.failed writer.old ≡ false }
-        ensures write { IsErrOf result ExportFault.Write ↔ (W.failed writer.new ≡ true) }
-        ensures more { IfOk result (λ more. more ≡ is_some (slice_get self.old.to_come 0)) }
-        ensures ok { OnOk result
-            (WritesRecords 1 self.old self.new (W.taken writer.old) (W.taken writer.new)) }
-        ensures err { IfErr result
-            (λ fault. Stops fault self.old self.new (W.taken writer.old) (W.taken writer.new)) }
-    {
-        let Ok(next) = self.next_record() else {
-            return Err(ExportFault::NoMemory);
-        };
-        let Some(line) = next else {
-            return Ok(false);
-        };
-        passage.before_record();
-        let Ok(()) = write_all(writer, line.as_slice()) else {
-            return Err(ExportFault::Write);
-        };
-        Ok(true)
-    }
-
-    // Gives the next record and writes it by this writer of records, if it is a row's. Else nothing
-    // changes.
-    fn write_row<W: Sink, G: Gate>(
-        &mut self,
-        records: &mut Writer<Vec<u8>>,
-        writer: &mut W,
-        passage: &mut Passage<G>,
-    ) -> Result<bool, ExportFault>
-        requires failed { W.failed writer.old ≡ false }
-        requires between { IsBetween records.old }
-        requires pending { writer_pending records.old ≡ [] }
-        ensures write { IsErrOf result ExportFault.Write ↔ (W.failed writer.new ≡ true) }
-        ensures ok { IfOk result
-            (λ row. WritesRecords (if row then 1 else 0) self.old self.new (W.taken writer.old)
-            (W.taken writer.new)) }
-        ensures between { OnOk result (IsBetween records.new) }
-        ensures pending { OnOk result (writer_pending records.new ≡ []) }
-        ensures err { IfErr result
-            (λ fault. Stops fault self.old self.new (W.taken writer.old) (W.taken writer.new)) }
-    {
-        let Some(row) = self.next_row() else {
-            return Ok(false);
-        };
-        let start = records.get_ref().len();
-        let Ok(()) = append_row(records, row) else {
-            return Err(ExportFault::NoMemory);
-        };
-        self.pass();
-        passage.before_record();
-        match write_all(writer, &records.get_ref()[start..]) {
-            Ok(()) => Ok(true),
-            Err(Broken) => Err(ExportFault::Write),
-        }
-    }
-
-    // Gives the rows that come next and writes them, so many as one writer of records takes.
-    fn write_rows<W: Sink, G: Gate>(
-        &mut self,
-        writer: &mut W,
-        passage: &mut Passage<G>,
-    ) -> Result<(), ExportFault>
-        requires { W.failed writer.old ≡ false }
-        ensures write { IsErrOf result ExportFault.Write ↔ (W.failed writer.new ≡ true) }
-        ensures ok { OnOk result ((n : ℕ)
-            × WritesRecords n self.old self.new (W.taken writer.old) (W.taken writer.new)) }
-        ensures err { IfErr result
-            (λ fault. Stops fault self.old self.new (W.taken writer.old) (W.taken writer.new)) }
-    {
-        let mut records = writer_after(Vec::new(*self.judgements.allocator()));
-        for _ in 0..ROWS_OF_A_WRITER {
-            if !self.write_row(&mut records, writer, passage)? {
-                return Ok(());
-            }
-        }
-        Ok(())
+        let mut walk = self.take_walk()?;
+        let record = walk.next_record();
+        self.walk = Some(walk);
+        record
     }
 
     /// Gives all records to come and writes them. Before each, the last line too, the gate is called with
@@ -307,10 +173,11 @@ impl Ticket {
         ensures err { IfErr result
             (λ fault. Stops fault self.old self.new (W.taken writer.old) (W.taken writer.new)) }
     {
-        let mut passage = Passage::new(gate);
-        while self.write_next(writer, &mut passage)? {
-            self.write_rows(writer, &mut passage)?;
-        }
-        Ok(())
+        let Ok(mut walk) = self.take_walk() else {
+            return Err(ExportFault::NoMemory);
+        };
+        let written = walk.write_to(writer, gate);
+        self.walk = Some(walk);
+        written
     }
 }

@@ -1,2 +1,4 @@
 pub mod Pushing
+pub mod Pieces
+pub mod Fields
 pub mod WritingLemmas

@@ -1,5 +1,5 @@
 -- Texts that are written one after another, and what is written of a reply.
-use Rattle.std.proofs.Common.{◌≡◌, ℕ, zero, suc, List, [], ◌∷◌, ◌++◌, take, drop, slice_get, IfSome, Option, Some, Result, Ok, Err, refl, sym, ap, ◌∙◌, append_assoc, subst, inl}
+use Rattle.std.proofs.Common.{◌≡◌, ℕ, zero, suc, List, [], ◌∷◌, ◌++◌, take, drop, slice_get, IfSome, Option, Some, Result, Ok, Err, refl, sym, ap, ◌∙◌, append_assoc, append-nil, subst, inl}
 use Rattle.std.specs.List.{concat}
 use Rattle.std.specs.Result.{OnErr}
 use Rattle.std.specs.Io.KnownBytes.{Appends}
@@ -8,12 +8,21 @@ use Rattle.base_core.specs.Streams.{WritesFront, Writes, WritesFrontOf}
 use Rattle.export_core.specs.Ticket.{Exporting}
 use Rattle.system_core.specs.declared.machine.event.Reply.{Reply}
 use Rattle.system_core.specs.declared.machine.event.Reply.TheVariants as replies
-use Rattle.reply_core.specs.Texts.{reply_text}
+use Rattle.reply_core.specs.Texts.{reply_text, head_text, list_text}
 use Rattle.reply_core.specs.Telling.{TellsReply, TellsRecords}
 
 pub OnErr-from : {T E P : Type 0} (r : Result T E) → P → OnErr r P
 OnErr-from (Ok x) p = tt
 OnErr-from (Err e) p = p
+
+-- the writer failed at the first of two texts
+pub WritesFront-before : (before after : Option (List ℕ)) (text more : List ℕ) → WritesFront before after text → WritesFront before after (text ++ more)
+WritesFront-before before after text more w = record {
+  part = w.part;
+  unwritten = w.unwritten ++ more;
+  front = ap (λ t. t ++ more) w.front ∙ append_assoc w.part w.unwritten more;
+  wrote = w.wrote;
+}
 
 -- the writer failed at what comes behind a text
 pub WritesFront-after : (before between after : Option (List ℕ)) (text more : List ℕ)
@@ -57,17 +66,26 @@ pub first-broken : (P Q : List ℕ → Type 0) (before after : Option (List ℕ)
 first-broken P Q before after second q w = record {
   text = w.text ++ second;
   is = (w.text, second, w.is, q, refl);
-  wrote = record {
-    part = w.wrote.part;
-    unwritten = w.wrote.unwritten ++ second;
-    front = ap (λ t. t ++ second) w.wrote.front ∙ append_assoc w.wrote.part w.wrote.unwritten second;
-    wrote = w.wrote.wrote;
-  };
+  wrote = WritesFront-before before after w.text second w.wrote;
 }
 
 -- nothing more is written
 pub nothing-written : (P : List ℕ → Type 0) (taken : Option (List ℕ)) → P [] → Writes P taken taken
 nothing-written P taken p = record { text = []; is = p; wrote = Appends-nil taken }
+
+-- the text of a reply is its first line, and the records of a list
+pub head_then_list : (reply : Reply) → reply_text reply ≡ head_text reply ++ list_text reply
+head_then_list (replies.Rows at rows) = refl
+head_then_list (replies.Listed at entries) = refl
+head_then_list (replies.Done at) = sym (append-nil (reply_text (replies.Done at)))
+head_then_list (replies.Begun number at) = sym (append-nil (reply_text (replies.Begun number at)))
+head_then_list (replies.Export ticket) = sym (append-nil (reply_text (replies.Export ticket)))
+head_then_list (replies.Denied at lack) = sym (append-nil (reply_text (replies.Denied at lack)))
+head_then_list (replies.Refused at lack) = sym (append-nil (reply_text (replies.Refused at lack)))
+head_then_list (replies.Abandoned number) = sym (append-nil (reply_text (replies.Abandoned number)))
+head_then_list replies.Idle = refl
+head_then_list (replies.Stepped number left) = refl
+head_then_list (replies.Finished number) = refl
 
 -- a reply that is no export has no records
 pub no_records : (reply : Reply) → ((ticket : Exporting) → reply ≡ replies.Export ticket → ⊥) → TellsRecords reply []
@@ -99,7 +117,7 @@ some_records (replies.Abandoned number) = ([], refl)
 
 -- the text of a reply and its records
 pub both-tells : (reply : Reply) (text : List ℕ) → Both (λ t. t ≡ reply_text reply) (TellsRecords reply) text → TellsReply reply text
-both-tells reply text b = inl (b.1, b.3, b.4 ∙ ap (λ t. t ++ b.1) b.2)
+both-tells reply text b = (b.1, b.3, b.4 ∙ ap (λ t. t ++ b.1) b.2)
 
 -- records up to one, and those behind it
 split-records : (xs : List (List ℕ)) (n : ℕ) (x : List ℕ) → slice_get xs n ≡ Some x → concat xs ≡ concat (take n xs) ++ (x ++ concat (drop (suc n) xs))

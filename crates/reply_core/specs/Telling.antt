@@ -1,7 +1,7 @@
 -- What may be written of a reply.
-use Rattle.std.specs.Prelude.{◌≡◌, ◌⊎◌, ◌++◌, ◌<◌, ℕ, [], true, List, length, take}
+use Rattle.std.specs.Prelude.{◌≡◌, ◌⊎◌, ◌++◌, ◌<◌, ℕ, [], List, length, take}
 use Rattle.std.specs.List.{concat}
-use Rattle.reply_core.specs.Texts.{reply_text, lost_text, cut_text, is_list}
+use Rattle.reply_core.specs.Texts.{reply_text, cut_text}
 use Rattle.system_core.specs.declared.machine.event.Reply.{Reply}
 use Rattle.system_core.specs.declared.machine.event.Reply.TheVariants as replies
 
@@ -15,8 +15,7 @@ TellsRecords (replies.Export ticket) text =
     × (text ≡ concat (take n ticket.to_come) ++ cut_text))
 TellsRecords reply text = text ≡ []
 
--- what may be written of a reply: its text and its records; or of a list, out of memory, that it is lost
+-- what may be written of a reply: its text and its records
 abbrev pub TellsReply : Reply → List ℕ → Type 0
 TellsReply reply text =
-    ((records : List ℕ) × TellsRecords reply records × (text ≡ reply_text reply ++ records))
-    ⊎ ((is_list reply ≡ true) × (text ≡ lost_text))
+    (records : List ℕ) × TellsRecords reply records × (text ≡ reply_text reply ++ records)

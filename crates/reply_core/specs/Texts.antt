@@ -1,5 +1,5 @@
 -- The texts of replies, lacks and faults.
-use Rattle.std.specs.Prelude.{ℕ, Bool, true, false, List, [], ◌∷◌, codes, decimal, length}
+use Rattle.std.specs.Prelude.{ℕ, List, [], ◌∷◌, ◌++◌, codes, decimal, length}
 use Rattle.std.specs.List.{flat_map}
 use Rattle.base_core.specs.declared.name.User.{User}
 use Rattle.base_core.specs.declared.privilege.Kind.{Kind}
@@ -13,7 +13,8 @@ use Rattle.base_core.specs.declared.lack.What.{What}
 use Rattle.base_core.specs.declared.lack.What.TheVariants as whats
 use Rattle.lexer_core.specs.Codes.{code_number, code_text}
 use Rattle.lexer_core.specs.declared.fault.Code.{Code}
-use Rattle.export_core.specs.Record.{record_line, row_lines}
+use Rattle.base_core.specs.declared.value.Value.{Value}
+use Rattle.export_core.specs.Record.{comma, field_text, record_line, row_lines, value_field}
 use Rattle.export_core.specs.Ticket.{header_line}
 use Rattle.system_core.specs.declared.machine.event.Checkpoint.{Checkpoint}
 use Rattle.system_core.specs.declared.machine.event.Checkpoint.TheVariants as checkpoints
@@ -87,17 +88,24 @@ checkpoint_line (checkpoints.Kept number point) =
 checkpoint_line (checkpoints.Active number point left) =
     record_line (codes "active" ∷ decimal number ∷ decimal point.0 ∷ decimal left ∷ [])
 
+-- the first line of a list: a word, how many records come, and the moment
+abbrev pub list_line : List ℕ → ℕ → ℕ → List ℕ
+list_line word count at =
+    joined (word ∷ decimal count ∷ codes " @" ∷ decimal at ∷ codes "\n" ∷ [])
+
+-- a value in the line of its row
+abbrev pub value_text : Value → List ℕ
+value_text value = comma ∷ field_text (value_field value)
+
 -- what is written of a reply, and of an export before its records
 abbrev pub reply_text : Reply → List ℕ
 reply_text (replies.Done at) = joined (codes "done @" ∷ decimal at.0 ∷ codes "\n" ∷ [])
 reply_text (replies.Rows at rows) =
-    joined (codes "rows " ∷ decimal (length rows) ∷ codes " @" ∷ decimal at.0 ∷ codes "\n"
-    ∷ row_lines rows ∷ [])
+    list_line (codes "rows ") (length rows) at.0 ++ row_lines rows
 reply_text (replies.Denied at lack) = stamped (codes "denied @") at.0 lack
 reply_text (replies.Refused at lack) = refusal_text at.0 lack
 reply_text (replies.Listed at entries) =
-    joined (codes "checkpoints " ∷ decimal (length entries) ∷ codes " @" ∷ decimal at.0 ∷ codes "\n"
-    ∷ flat_map checkpoint_line entries ∷ [])
+    list_line (codes "checkpoints ") (length entries) at.0 ++ flat_map checkpoint_line entries
 reply_text (replies.Begun number at) =
     joined (codes "checkpoint " ∷ decimal number ∷ codes " begun @" ∷ decimal at.0 ∷ codes "\n"
     ∷ [])
@@ -108,6 +116,18 @@ reply_text replies.Idle = []
 reply_text (replies.Stepped number left) = []
 reply_text (replies.Finished number) = []
 
+-- of a list its first line, and of any other reply what is written of it
+abbrev pub head_text : Reply → List ℕ
+head_text (replies.Rows at rows) = list_line (codes "rows ") (length rows) at.0
+head_text (replies.Listed at entries) = list_line (codes "checkpoints ") (length entries) at.0
+head_text reply = reply_text reply
+
+-- the records of a list, and of any other reply nothing
+abbrev pub list_text : Reply → List ℕ
+list_text (replies.Rows at rows) = row_lines rows
+list_text (replies.Listed at entries) = flat_map checkpoint_line entries
+list_text reply = []
+
 -- what is written of a line that is not read, with the byte of the line
 abbrev pub fault_text : Code → ℕ → List ℕ
 fault_text code offset =
@@ -117,16 +137,6 @@ fault_text code offset =
 -- what is written of a line that could not be read: out of memory
 abbrev pub unread_text : List ℕ
 unread_text = codes "refused: no memory\n"
-
--- whether a reply is a list of rows or of checkpoints, whose text is made in new memory
-abbrev pub is_list : Reply → Bool
-is_list (replies.Rows at rows) = true
-is_list (replies.Listed at entries) = true
-is_list reply = false
-
--- what is written in place of a list whose text found no memory
-abbrev pub lost_text : List ℕ
-lost_text = codes "reply lost: no memory\n"
 
 -- what is written in place of the rest of an export, where its next record found no memory
 abbrev pub cut_text : List ℕ

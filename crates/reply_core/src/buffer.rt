@@ -1,4 +1,4 @@
-//! The room in which texts are made that are told whatever memory there is.
+//! The room in which lines are made that are told whatever memory there is.
 ghost use Rattle.std.specs.Prelude.{◌≡◌, ◌≤◌, ◌+◌, ◌++◌, [], length, decimal, IfOk};
 ghost use Rattle.reply_core.specs.declared.buffer.TheConstants.{REPLY_BYTES};
 
@@ -7,8 +7,8 @@ use itoa::Buffer;
 use std::alloc::Global;
 use std::marker::Model;
 
-/// The most bytes of a text but for rows, lists and the records of exports: those of a refusal that
-/// names two users, a column and a table of 30 bytes each, at a moment of 20 digits.
+/// The most bytes of a line but for those of rows and of the records of exports: those of a refusal
+/// that names two users, a column and a table of 30 bytes each, at a moment of 20 digits.
 pub const REPLY_BYTES: usize = 180;
 
 /// Room for a text. Contracts see its bytes.
@@ -29,7 +29,8 @@ impl Model for ReplyBuffer {
 }
 
 impl ReplyBuffer {
-    /// No text, and the memory for each but those of lists. `NoMemory` where the request was refused.
+    /// No text, and the memory for each line that is made here. `NoMemory` where the request was
+    /// refused.
     pub fn new(alloc: Global) -> Result<ReplyBuffer, NoMemory>
         ensures { IfOk result (λ text. text ≡ []) }
     {
@@ -48,12 +49,6 @@ impl ReplyBuffer {
         ensures { result.now ≡ self.now }
     {
         self.bytes.as_slice()
-    }
-
-    pub(crate) fn into_bytes(self) -> Vec<u8>
-        ensures { result.items ≡ self }
-    {
-        self.bytes
     }
 
     /// Appends the bytes, for which there has to be room. It takes no memory.

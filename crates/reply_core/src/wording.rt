@@ -1,16 +1,15 @@
 //! The texts of replies, lacks and faults.
-ghost use Rattle.std.specs.Prelude.{◌≡◌, ◌≤◌, ◌+◌, ◌++◌, ◌∷◌, [], false, codes, decimal, length, IfOk};
-ghost use Rattle.std.specs.List.{flat_map};
+ghost use Rattle.std.specs.Prelude.{◌≡◌, ◌≤◌, ◌+◌, ◌++◌, ◌∷◌, [], codes, decimal, length};
+ghost use Rattle.export_core.specs.Record.{field_text};
 ghost use Rattle.export_core.specs.Ticket.{header_line};
-ghost use Rattle.reply_core.specs.Texts.{joined, kind_text, type_text, what_text, about_atom, stamped, lack_text, refusal_text, checkpoint_line, reply_text, fault_text, is_list};
+ghost use Rattle.reply_core.specs.Texts.{joined, kind_text, type_text, what_text, about_atom, stamped, lack_text, refusal_text, list_line, checkpoint_line, head_text, reply_text, fault_text};
 ghost use Rattle.reply_core.specs.declared.buffer.TheConstants.{REPLY_BYTES};
 ghost use Rattle.reply_core.specs.declared.wording.TheConstants.{KIND_BYTES, ABOUT_ATOM_BYTES, NO_SELECT_BYTES, LACK_BYTES};
 
 use crate::buffer::ReplyBuffer;
-use base_core::{Atom, ColType, Kind, Lack, Moment, Name, NoMemory, Row, User, What};
-use export_core::{Ticket, write_record, write_rows};
+use base_core::{Atom, ColType, Kind, Lack, Moment, Name, User, What};
+use export_core::Ticket;
 use lexer_core::Code;
-use std::alloc::Global;
 use system_core::{Checkpoint, Reply};
 
 /// The most bytes of a privilege: `UPDATE(`, a name and `)`.
@@ -81,6 +80,16 @@ fn push_number_in(text: &mut ReplyBuffer, before: &[u8], number: u64, behind: &[
     text.push(before);
     text.push_number(number);
     text.push(behind);
+}
+
+/// A number as a field of a record, between two texts.
+fn push_field_in(text: &mut ReplyBuffer, before: &[u8], number: u64, behind: &[u8])
+    requires { length text.old + length before.now + 20 + length behind.now ≤ REPLY_BYTES }
+    ensures text { text.new
+        ≡ text.old ++ joined (before.now ∷ field_text (decimal number) ∷ behind.now ∷ []) }
+    ensures short { length text.new ≤ length text.old + length before.now + 20 + length behind.now }
+{
+    push_number_in(text, before, number, behind);
 }
 
 /// A user, what is said of him, a privilege, and its table.
@@ -239,17 +248,27 @@ pub fn push_done(text: &mut ReplyBuffer, at: Moment)
     text.push(b"\n");
 }
 
-/// Appends the text of a reply that is no list, which takes no memory: `done @m`;
-/// `checkpoint n begun @m` or `checkpoint n abandoned`; of an export the line before its records,
-/// `export n point p @m`; `denied @m:` or `refused @m:` and what is missing; nothing for the other
-/// replies of the checkpointer.
-pub fn push_reply(text: &mut ReplyBuffer, reply: &Reply)
-    requires start { text.old ≡ [] }
-    requires brief { is_list reply.now ≡ false }
-    ensures { text.new ≡ reply_text reply.now }
+/// Appends the first line of a list: a word, how many records come, and the moment.
+fn push_list(text: &mut ReplyBuffer, word: &[u8], count: usize, at: Moment)
+    requires { length text.old + length word.now + 43 ≤ REPLY_BYTES }
+    ensures { text.new ≡ text.old ++ list_line word.now count at.0 }
+{
+    push_number_in(text, word, count as u64, b" @");
+    push_number_in(text, b"", at.0, b"\n");
+}
+
+/// Appends the first line of a reply, which is all of it but for the records of a list and of an
+/// export: `done @m`; `rows N @m` or `checkpoints N @m`, with how many records come;
+/// `checkpoint n begun @m` or `checkpoint n abandoned`; `export n point p @m`; `denied @m:` or
+/// `refused @m:` and what is missing; nothing for the other replies of the checkpointer.
+pub fn push_head(text: &mut ReplyBuffer, reply: &Reply)
+    requires { text.old ≡ [] }
+    ensures { text.new ≡ head_text reply.now }
 {
     match reply {
         Reply::Done { at } => push_done(text, *at),
+        Reply::Rows { at, rows } => push_list(text, b"rows ", rows.len(), *at),
+        Reply::Listed { at, entries } => push_list(text, b"checkpoints ", entries.len(), *at),
         Reply::Begun { number, at } => push_begun(text, *number, *at),
         Reply::Export(ticket) => push_header(text, ticket),
         Reply::Denied { at, lack } => push_stamped(text, b"denied @", *at, lack),
@@ -257,8 +276,29 @@ pub fn push_reply(text: &mut ReplyBuffer, reply: &Reply)
         Reply::Abandoned { number } => {
             push_number_in(text, b"checkpoint ", *number, b" abandoned\n")
         }
-        Reply::Rows { .. } | Reply::Listed { .. } => {}
         Reply::Idle | Reply::Stepped { .. } | Reply::Finished { .. } => {}
+    }
+}
+
+/// Appends the line of a checkpoint, as it is listed: `finished,n,p` or `active,n,p,left`.
+pub fn push_checkpoint(text: &mut ReplyBuffer, checkpoint: &Checkpoint)
+    requires { text.old ≡ [] }
+    ensures { text.new ≡ checkpoint_line checkpoint.now }
+{
+    match checkpoint {
+        Checkpoint::Kept { number, point } => {
+            push_field_in(text, b"finished,", *number, b",");
+            push_field_in(text, b"", point.0, b"\n");
+        }
+        Checkpoint::Active {
+            number,
+            point,
+            left,
+        } => {
+            push_field_in(text, b"active,", *number, b",");
+            push_field_in(text, b"", point.0, b",");
+            push_field_in(text, b"", *left, b"\n");
+        }
     }
 }
 
@@ -271,87 +311,4 @@ pub fn push_fault(text: &mut ReplyBuffer, code: Code, offset: usize)
     push_number_in(text, b"", offset as u64, b": ");
     text.push(code.text().as_bytes());
     text.push(b"\n");
-}
-
-/// The first line of a list: a word, how many records come, and the moment.
-fn list_head(alloc: Global, word: &[u8], count: usize, at: Moment) -> Result<Vec<u8>, NoMemory>
-    requires { length word.now + 43 ≤ REPLY_BYTES }
-    ensures { IfOk result (λ text. text.items
-        ≡ word.now ++ decimal count ++ codes " @" ++ decimal at.0 ++ codes "\n") }
-{
-    let mut text = ReplyBuffer::new(alloc)?;
-    push_number_in(&mut text, word, count as u64, b" @");
-    push_number_in(&mut text, b"", at.0, b"\n");
-    Ok(text.into_bytes())
-}
-
-fn rows_text(alloc: Global, at: Moment, rows: &[Row]) -> Result<Vec<u8>, NoMemory>
-    ensures { IfOk result (λ text. text.items ≡ reply_text (Reply.Rows at rows.now)) }
-{
-    let head = list_head(alloc, b"rows ", rows.len(), at)?;
-    write_rows(head, rows)
-}
-
-fn write_checkpoint(text: Vec<u8>, checkpoint: &Checkpoint) -> Result<Vec<u8>, NoMemory>
-    ensures { IfOk result (λ longer. longer.items ≡ text.items ++ checkpoint_line checkpoint.now) }
-{
-    match checkpoint {
-        Checkpoint::Kept { number, point } => {
-            write_record(text, b"finished", &[*number, point.0])
-        }
-        Checkpoint::Active {
-            number,
-            point,
-            left,
-        } => write_record(text, b"active", &[*number, point.0, *left]),
-    }
-}
-
-fn write_checkpoints(mut text: Vec<u8>, entries: &[Checkpoint]) -> Result<Vec<u8>, NoMemory>
-    ensures { IfOk result
-        (λ longer. longer.items ≡ text.items ++ flat_map checkpoint_line entries.now) }
-{
-    for checkpoint in entries {
-        text = write_checkpoint(text, checkpoint)?;
-    }
-    Ok(text)
-}
-
-fn listed_text(alloc: Global, at: Moment, entries: &[Checkpoint]) -> Result<Vec<u8>, NoMemory>
-    ensures { IfOk result (λ text. text.items ≡ reply_text (Reply.Listed at entries.now)) }
-{
-    let head = list_head(alloc, b"checkpoints ", entries.len(), at)?;
-    write_checkpoints(head, entries)
-}
-
-fn brief_text(alloc: Global, reply: &Reply) -> Result<Vec<u8>, NoMemory>
-    requires { is_list reply.now ≡ false }
-    ensures { IfOk result (λ text. text.items ≡ reply_text reply.now) }
-{
-    let mut text = ReplyBuffer::new(alloc)?;
-    push_reply(&mut text, reply);
-    Ok(text.into_bytes())
-}
-
-/// The text of a reply, each line with its line feed, in new memory: of rows `rows N @m` and N
-/// records, of a list of checkpoints `checkpoints N @m` and N records, and else as [`push_reply`]
-/// appends it. `NoMemory` where a request for memory was refused.
-pub fn reply_text(alloc: Global, reply: &Reply) -> Result<Vec<u8>, NoMemory>
-    ensures { IfOk result (λ text. text.items ≡ reply_text reply.now) }
-{
-    match reply {
-        Reply::Rows { at, rows } => rows_text(alloc, *at, rows.as_slice()),
-        Reply::Listed { at, entries } => listed_text(alloc, *at, entries.as_slice()),
-        _ => brief_text(alloc, reply),
-    }
-}
-
-/// Whether a reply is a list, whose text takes memory: rows, or checkpoints.
-pub fn is_list(reply: &Reply) -> bool
-    ensures { result ≡ is_list reply.now }
-{
-    match reply {
-        Reply::Rows { .. } | Reply::Listed { .. } => true,
-        _ => false,
-    }
 }

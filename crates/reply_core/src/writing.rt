@@ -2,20 +2,18 @@
 ghost use Rattle.std.specs.Prelude.{◌≡◌, false, true, OnOk, OnErr, MatchResult};
 ghost use Rattle.std.specs.Io.KnownBytes.{Appends};
 ghost use Rattle.base_core.specs.Streams.{Writes, WritesFront, WritesFrontOf};
-ghost use Rattle.reply_core.specs.Texts.{is_list, fault_text, unread_text};
+ghost use Rattle.reply_core.specs.Texts.{fault_text, list_text, reply_text, unread_text};
 ghost use Rattle.reply_core.specs.Telling.{TellsReply, TellsRecords};
 
 use crate::buffer::ReplyBuffer;
-use crate::wording::{is_list, push_done, push_fault, push_reply, reply_text};
-use base_core::{Broken, Moment, NoMemory, Sink, write_all};
+use crate::records::{write_checkpoints, write_rows};
+use crate::wording::{push_done, push_fault, push_head};
+use base_core::{Broken, Moment, Sink, write_all};
 use export_core::{ExportFault, Gate, Ticket};
 use lexer_core::Code;
-use std::alloc::Global;
 use system_core::Reply;
 
 const UNREAD: &[u8] = b"refused: no memory\n";
-
-const LOST: &[u8] = b"reply lost: no memory\n";
 
 const CUT: &[u8] = b"export cut: no memory\n";
 
@@ -59,52 +57,53 @@ fn write_records<W: Sink, G: Gate>(reply: Reply, writer: &mut W, gate: &G) -> Re
     write_ticket(ticket, writer, gate)
 }
 
-/// Writes a list, whose text is made in new memory, or that it is lost.
-fn write_list<W: Sink>(alloc: Global, reply: &Reply, writer: &mut W) -> Result<(), Broken>
-    requires sink { W.failed writer.old ≡ false }
-    requires list { is_list reply.now ≡ true }
+/// Writes the records of a list, and of any other reply nothing.
+fn write_list<W: Sink>(
+    buffer: &mut ReplyBuffer,
+    reply: &Reply,
+    writer: &mut W,
+) -> Result<(), Broken>
+    requires { W.failed writer.old ≡ false }
     ensures failed { MatchResult result (λ _. W.failed writer.new ≡ false)
         (λ _. W.failed writer.new ≡ true) }
     ensures ok { OnOk result
-        (Writes (TellsReply reply.now) (W.taken writer.old) (W.taken writer.new)) }
+        (Appends (W.taken writer.old) (W.taken writer.new) (list_text reply.now)) }
     ensures err { OnErr result
-        (WritesFrontOf (TellsReply reply.now) (W.taken writer.old) (W.taken writer.new)) }
+        (WritesFront (W.taken writer.old) (W.taken writer.new) (list_text reply.now)) }
 {
-    match reply_text(alloc, reply) {
-        Ok(text) => write_all(writer, &text),
-        Err(NoMemory) => write_all(writer, LOST),
+    match reply {
+        Reply::Rows { rows, .. } => write_rows(writer, rows.as_slice()),
+        Reply::Listed { entries, .. } => write_checkpoints(buffer, writer, entries.as_slice()),
+        _ => Ok(()),
     }
 }
 
-/// Writes the text of a reply that is no list, and its records.
-fn write_brief<W: Sink, G: Gate>(
+/// Writes the text of a reply. It takes no memory.
+pub fn write_text<W: Sink>(
     buffer: &mut ReplyBuffer,
-    reply: Reply,
+    reply: &Reply,
     writer: &mut W,
-    gate: &G,
 ) -> Result<(), Broken>
-    requires sink { W.failed writer.old ≡ false }
-    requires brief { is_list reply ≡ false }
+    requires { W.failed writer.old ≡ false }
     ensures failed { MatchResult result (λ _. W.failed writer.new ≡ false)
         (λ _. W.failed writer.new ≡ true) }
-    ensures ok { OnOk result (Writes (TellsReply reply) (W.taken writer.old) (W.taken writer.new)) }
+    ensures ok { OnOk result
+        (Appends (W.taken writer.old) (W.taken writer.new) (reply_text reply.now)) }
     ensures err { OnErr result
-        (WritesFrontOf (TellsReply reply) (W.taken writer.old) (W.taken writer.new)) }
+        (WritesFront (W.taken writer.old) (W.taken writer.new) (reply_text reply.now)) }
 {
     buffer.clear();
-    push_reply(buffer, &reply);
+    push_head(buffer, reply);
     write_all(writer, buffer.as_slice())?;
-    write_records(reply, writer, gate)
+    write_list(buffer, reply, writer)
 }
 
 /// Writes the text of a reply, and behind that of an export its records, before each of which the gate
 /// is called. The buffer may have any text; what it has then means nothing.
 ///
-/// Where there is no memory for the text of rows or of a list of checkpoints, `reply lost: no memory` is
-/// written in its place, and where there is none for an export's next record, `export cut: no memory`;
-/// other replies take none. `Broken` exactly where the writer has failed, and then a front was written.
+/// Only an export's records take memory: where there is none for the next, `export cut: no memory` is
+/// written in its place. `Broken` exactly where the writer has failed, and then a front was written.
 pub fn write_reply<W: Sink, G: Gate>(
-    alloc: Global,
     buffer: &mut ReplyBuffer,
     reply: Reply,
     writer: &mut W,
@@ -117,10 +116,8 @@ pub fn write_reply<W: Sink, G: Gate>(
     ensures err { OnErr result
         (WritesFrontOf (TellsReply reply) (W.taken writer.old) (W.taken writer.new)) }
 {
-    if is_list(&reply) {
-        return write_list(alloc, &reply, writer);
-    }
-    write_brief(buffer, reply, writer, gate)
+    write_text(buffer, &reply, writer)?;
+    write_records(reply, writer, gate)
 }
 
 /// Writes the text of a change that made this moment, as [`write_reply`] does of [`Reply::Done`], which

@@ -1,5 +1,5 @@
 -- What is written for a line is an answer to it.
-use Rattle.std.proofs.Common.{◌≡◌, ℕ, true, false, not, List, [], ◌++◌, Option, Some, None, Result, Ok, is_some, refl, sym, subst, inl}
+use Rattle.std.proofs.Common.{◌≡◌, ℕ, true, false, not, List, [], ◌++◌, Option, Some, None, Result, Ok, is_some, refl, sym, subst}
 use Rattle.reply_core.specs.Texts.{reply_text}
 use Rattle.reply_core.specs.Telling.{TellsReply}
 use Rattle.reply_core.proofs.WritingLemmas.{Both, some_records}
@@ -33,7 +33,7 @@ advanced-follows old new (Some reply) text (refusal, mid, step, refused, up) tel
 
 -- something may be written of each reply
 pub tells-some : (reply : Reply) → (text : List ℕ) × TellsReply reply text
-tells-some reply = let more = some_records reply in (reply_text reply ++ more.0, inl (more.0, more.1, refl))
+tells-some reply = let more = some_records reply in (reply_text reply ++ more.0, (more.0, more.1, refl))
 
 -- **what is written of both answers the line**
 pub both-answer : (old mid new : World) (line : List ℕ) (what : Said) (advanced : Option Reply) → ComesTo old line what mid → Advanced mid advanced new → (text : List ℕ) → TellsBoth what advanced text → Answers old line text new

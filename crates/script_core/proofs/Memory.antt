@@ -1,21 +1,18 @@
 -- An answer is in full, or it tells of memory.
-use Rattle.std.proofs.Common.{◌≡◌, ◌⊎◌, ◌<◌, ℕ, Bool, true, false, List, [], ◌++◌, length, take, Option, Some, None, refl, sym, ap, ◌∙◌, subst, inl, inr, append_assoc, append-nil}
+use Rattle.std.proofs.Common.{◌≡◌, ◌⊎◌, ℕ, true, false, List, [], ◌++◌, take, Option, Some, None, refl, sym, ap, ◌∙◌, subst, inl, inr, append_assoc, append-nil}
 use Rattle.std.specs.List.{concat}
-use Rattle.base_core.specs.declared.name.User.{User}
 use Rattle.base_core.specs.declared.value.Moment.{Moment}
 use Rattle.base_core.specs.declared.lack.Lack.{Lack}
 use Rattle.base_core.specs.declared.lack.Lack.TheVariants as lacks
-use Rattle.reader_core.specs.declared.statement.Statement.{Statement}
-use Rattle.system_core.specs.declared.machine.event.Event.TheVariants as events
 use Rattle.system_core.specs.declared.machine.event.Reply.{Reply}
 use Rattle.system_core.specs.declared.machine.event.Reply.TheVariants as replies
 use Rattle.system_core.specs.World.{World, ActiveCheckpoint}
-use Rattle.system_core.specs.Step.{Advances, GivesUp, Step}
-use Rattle.reply_core.specs.Texts.{reply_text, unread_text, lost_text, cut_text}
-use Rattle.reply_core.specs.Telling.{TellsRecords, TellsReply}
+use Rattle.system_core.specs.Step.{Advances, GivesUp}
+use Rattle.reply_core.specs.Texts.{reply_text, unread_text, cut_text}
+use Rattle.reply_core.specs.Telling.{TellsReply}
 use Rattle.script_core.specs.Script.{Asks, is_refused, AnswersLine, Follows, Answers}
 use Rattle.script_core.specs.Script as script
-use Rattle.script_core.specs.InFull.{tells_want, records_of, AnswersLineInFull, faulty, said, AnswersInFull, IsMemoryLine, refused, unread, lost, cut, given_up, TellsOfMemory}
+use Rattle.script_core.specs.InFull.{tells_want, records_of, AnswersLineInFull, faulty, said, AnswersInFull, IsMemoryLine, refused, unread, cut, given_up, TellsOfMemory}
 
 -- the text is such a line alone
 alone : (text line : List ℕ) → IsMemoryLine line → text ≡ line → TellsOfMemory text
@@ -45,9 +42,6 @@ behind_it first second t = record {
 abbrev Told : Reply → List ℕ → Type 0
 Told reply text = ((tells_want reply ≡ false) × (text ≡ reply_text reply ++ records_of reply)) ⊎ TellsOfMemory text
 
-lost_told : (reply : Reply) (text : List ℕ) → text ≡ lost_text → Told reply text
-lost_told reply text e = inr (alone text lost_text lost e)
-
 refused_told : (at : Moment) (text records : List ℕ) → records ≡ [] → text ≡ reply_text (replies.Refused at lacks.NoMemory) ++ records → TellsOfMemory text
 refused_told at text records none e =
     let line = reply_text (replies.Refused at lacks.NoMemory) in
@@ -64,19 +58,18 @@ refusal_told at lacks.NoMemory text records none e = inr (refused_told at text r
 refusal_told at lack text records none e = inl (refl, e ∙ ap (λ z. reply_text (replies.Refused at lack) ++ z) none)
 
 reply_told : (reply : Reply) (text : List ℕ) → TellsReply reply text → Told reply text
-reply_told reply text (inr h) = lost_told reply text h.1
-reply_told (replies.Export ticket) text (inl (records, inl all, e)) = inl (refl, e ∙ ap (λ z. reply_text (replies.Export ticket) ++ z) all)
-reply_told (replies.Export ticket) text (inl (records, inr (n, below, c), e)) = inr (cut_told (replies.Export ticket) text records (concat (take n ticket.to_come)) c e)
-reply_told (replies.Refused at lack) text (inl (records, none, e)) = refusal_told at lack text records none e
-reply_told (replies.Done at) text (inl (records, none, e)) = inl (refl, e ∙ ap (λ z. reply_text (replies.Done at) ++ z) none)
-reply_told (replies.Rows at rows) text (inl (records, none, e)) = inl (refl, e ∙ ap (λ z. reply_text (replies.Rows at rows) ++ z) none)
-reply_told (replies.Listed at entries) text (inl (records, none, e)) = inl (refl, e ∙ ap (λ z. reply_text (replies.Listed at entries) ++ z) none)
-reply_told (replies.Begun number at) text (inl (records, none, e)) = inl (refl, e ∙ ap (λ z. reply_text (replies.Begun number at) ++ z) none)
-reply_told (replies.Denied at lack) text (inl (records, none, e)) = inl (refl, e ∙ ap (λ z. reply_text (replies.Denied at lack) ++ z) none)
-reply_told replies.Idle text (inl (records, none, e)) = inl (refl, e ∙ ap (λ z. reply_text replies.Idle ++ z) none)
-reply_told (replies.Stepped number left) text (inl (records, none, e)) = inl (refl, e ∙ ap (λ z. reply_text (replies.Stepped number left) ++ z) none)
-reply_told (replies.Finished number) text (inl (records, none, e)) = inl (refl, e ∙ ap (λ z. reply_text (replies.Finished number) ++ z) none)
-reply_told (replies.Abandoned number) text (inl (records, none, e)) = inl (refl, e ∙ ap (λ z. reply_text (replies.Abandoned number) ++ z) none)
+reply_told (replies.Export ticket) text (records, inl all, e) = inl (refl, e ∙ ap (λ z. reply_text (replies.Export ticket) ++ z) all)
+reply_told (replies.Export ticket) text (records, inr (n, below, c), e) = inr (cut_told (replies.Export ticket) text records (concat (take n ticket.to_come)) c e)
+reply_told (replies.Refused at lack) text (records, none, e) = refusal_told at lack text records none e
+reply_told (replies.Done at) text (records, none, e) = inl (refl, e ∙ ap (λ z. reply_text (replies.Done at) ++ z) none)
+reply_told (replies.Rows at rows) text (records, none, e) = inl (refl, e ∙ ap (λ z. reply_text (replies.Rows at rows) ++ z) none)
+reply_told (replies.Listed at entries) text (records, none, e) = inl (refl, e ∙ ap (λ z. reply_text (replies.Listed at entries) ++ z) none)
+reply_told (replies.Begun number at) text (records, none, e) = inl (refl, e ∙ ap (λ z. reply_text (replies.Begun number at) ++ z) none)
+reply_told (replies.Denied at lack) text (records, none, e) = inl (refl, e ∙ ap (λ z. reply_text (replies.Denied at lack) ++ z) none)
+reply_told replies.Idle text (records, none, e) = inl (refl, e ∙ ap (λ z. reply_text replies.Idle ++ z) none)
+reply_told (replies.Stepped number left) text (records, none, e) = inl (refl, e ∙ ap (λ z. reply_text (replies.Stepped number left) ++ z) none)
+reply_told (replies.Finished number) text (records, none, e) = inl (refl, e ∙ ap (λ z. reply_text (replies.Finished number) ++ z) none)
+reply_told (replies.Abandoned number) text (records, none, e) = inl (refl, e ∙ ap (λ z. reply_text (replies.Abandoned number) ++ z) none)
 
 line_told : (old new : World) (line text : List ℕ) → AnswersLine old line text new → AnswersLineInFull old line text new ⊎ TellsOfMemory text
 line_told old _ line _ (script.faulty {code} {offset} f) = inl (faulty code offset f refl refl)
@@ -91,10 +84,8 @@ idle_refuses reply e r {A} = let i = ap is_refused e in absurd (let no : false �
 abandoned_told : (reply : Reply) (number : ℕ) (text : List ℕ) → reply ≡ replies.Abandoned number → TellsReply reply text → TellsOfMemory text
 abandoned_told reply number text e tells =
     let line = reply_text (replies.Abandoned number) in
-    elim (subst (λ r. TellsReply r text) e tells) [
-      | inl h ↦ alone text line (given_up number) (h.2 ∙ (ap (λ z. line ++ z) h.1 ∙ append-nil line))
-      | inr h ↦ alone text lost_text lost h.1
-    ]
+    let h = subst (λ r. TellsReply r text) e tells in
+    alone text line (given_up number) (h.2 ∙ (ap (λ z. line ++ z) h.1 ∙ append-nil line))
 
 gave_up_told : (old mid new : World) (active : Option ActiveCheckpoint) (refusal reply : Reply) (text : List ℕ)
     → Advances old active refusal mid → is_refused refusal ≡ true → GivesUp mid active reply new → TellsReply reply text → TellsOfMemory text

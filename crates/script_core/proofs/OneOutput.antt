@@ -221,7 +221,7 @@ all_records (replies.Abandoned number) = refl
 line_answered : (old new : World) (line text : List ℕ) → AnswersLineInFull old line text new → AnswersLine old line text new
 line_answered old new line text (faulty code offset h e n) =
     subst (λ w. AnswersLine old line text w) (sym n) (subst (λ t. AnswersLine old line t old) (sym e) (script.faulty h))
-line_answered old new line text (said user asked reply a step w e) = script.said user asked reply a step (inl (records_of reply, all_records reply, e))
+line_answered old new line text (said user asked reply a step w e) = script.said user asked reply a step (records_of reply, all_records reply, e)
 
 -- **what is answered in full is answered**
 pub full_is_answer : (old new : World) (line text : List ℕ) → AnswersInFull old line text new → Answers old line text new

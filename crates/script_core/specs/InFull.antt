@@ -6,7 +6,7 @@ use Rattle.base_core.specs.declared.value.Moment.{Moment}
 use Rattle.base_core.specs.declared.lack.Lack.TheVariants as lacks
 use Rattle.lexer_core.specs.declared.fault.Code.{Code}
 use Rattle.reader_core.specs.declared.statement.Statement.{Statement}
-use Rattle.reply_core.specs.Texts.{reply_text, fault_text, unread_text, lost_text, cut_text}
+use Rattle.reply_core.specs.Texts.{reply_text, fault_text, unread_text, cut_text}
 use Rattle.system_core.specs.World.{World}
 use Rattle.system_core.specs.Step.{Step}
 use Rattle.script_core.specs.Script.{Asks, IsFaulty, is_refused}
@@ -42,12 +42,11 @@ pub record AnswersInFull (old : World) (line text : List ℕ) (new : World) : Ty
   pub stepped : Step mid events.Step reply new
   pub silent : is_refused reply ≡ false
 
--- a line that tells that memory was refused: to a statement, to the reading of a line, to a list, to an
--- export's last records, or to the step of a checkpoint, which is given up
+-- a line that tells that memory was refused: to a statement, to the reading of a line, to an export's
+-- last records, or to the step of a checkpoint, which is given up
 pub data IsMemoryLine : List ℕ → Type 0 where
   refused : (at : Moment) → IsMemoryLine (reply_text (replies.Refused at lacks.NoMemory))
   unread : IsMemoryLine unread_text
-  lost : IsMemoryLine lost_text
   cut : IsMemoryLine cut_text
   given_up : (number : ℕ) → IsMemoryLine (reply_text (replies.Abandoned number))
 

@@ -5,7 +5,7 @@ ghost use Rattle.base_core.specs.Streams.{Writes, WritesFrontOf};
 ghost use Rattle.turnstile.specs.Passes.{IsSamePass};
 ghost use Rattle.session_core.specs.Session.{AnswersUser};
 
-use base_core::{Broken, Sink, User};
+use base_core::{Broken, Moment, Sink, User};
 use desk_core::{Desk, Pass};
 use export_core::Gate;
 use lexer_core::{Code, MAX_LINE, ReadFault, Token};
@@ -13,11 +13,36 @@ use reader_core::read_with;
 use reply_core::{ReplyBuffer, write_fault, write_reply, write_unread};
 use std::alloc::Global;
 use std::sync::Wait;
+use system_core::Reply;
+
+/// The moment that a reply bears.
+fn moment_of(reply: &Reply) -> Option<Moment> {
+    match reply {
+        Reply::Done { at }
+        | Reply::Rows { at, .. }
+        | Reply::Listed { at, .. }
+        | Reply::Begun { at, .. }
+        | Reply::Denied { at, .. }
+        | Reply::Refused { at, .. } => Some(*at),
+        Reply::Export(ticket) => Some(ticket.at()),
+        _ => None,
+    }
+}
+
+/// Tells the gate of a line that was answered.
+fn tell<G: Gate>(gate: &G, at: Option<Moment>, written: Result<(), Broken>) -> Result<(), Broken>
+    ensures { result ≡ written }
+{
+    if written.is_ok() {
+        gate.answered(at);
+    }
+    written
+}
 
 /// One line of a user, answered through a pass of the desk: what it says is asked in a turn, and
-/// the reply is written after it, with the records of an export. `Broken` exactly where the writer
-/// failed: then a front of an answer was written. What the vector of tokens and the buffer have
-/// before and behind the call means nothing.
+/// the reply is written after it, with the records of an export. Then the gate is told. `Broken`
+/// exactly where the writer failed: then a front of an answer was written. What the vector of tokens
+/// and the buffer have before and behind the call means nothing.
 pub fn serve_line<R: Wait, W: Sink, G: Gate>(
     rt: &R,
     alloc: Global,
@@ -43,14 +68,19 @@ pub fn serve_line<R: Wait, W: Sink, G: Gate>(
         (W.taken writer.old) (W.taken writer.new)) }
 {
     if line.len() > MAX_LINE {
-        return write_fault(buffer, Code::TooLong, MAX_LINE, writer);
+        let written = write_fault(buffer, Code::TooLong, MAX_LINE, writer);
+        return tell(gate, None, written);
     }
     match read_with(alloc, tokens, line) {
         Ok(statement) => {
             let reply = desk.execute(rt, pass, user, statement);
-            write_reply(alloc, buffer, reply, writer, gate)
+            let at = moment_of(&reply);
+            let written = write_reply(buffer, reply, writer, gate);
+            tell(gate, at, written)
         }
-        Err(ReadFault::At { code, offset }) => write_fault(buffer, code, offset, writer),
-        Err(ReadFault::NoMemory) => write_unread(writer),
+        Err(ReadFault::At { code, offset }) => {
+            tell(gate, None, write_fault(buffer, code, offset, writer))
+        }
+        Err(ReadFault::NoMemory) => tell(gate, None, write_unread(writer)),
     }
 }

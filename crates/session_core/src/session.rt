@@ -69,6 +69,7 @@ impl<'a, R: Wait, G: Gate> Session<'a, R, G> {
         match greeting(line) {
             Ok(user) => {
                 self.user = Some(user);
+                self.gate.named(&user);
                 write_welcome(writer, &user)
             }
             Err((code, offset)) => {

@@ -27,7 +27,8 @@ use Rattle.catalogue_core.proofs.RingLemmas.{find-map}
 use Rattle.export_core.specs.declared.judgement.Judgement.{Judgement}
 use Rattle.export_core.specs.declared.judgement.Judgement.TheVariants.{Listed, WithheldThen, WithheldNow}
 use Rattle.export_core.specs.Record.{record_line, row_line}
-use Rattle.export_core.specs.Export.{to_select, held_then, holds_now, judgement, told, chosen, listed_lines, withheld_line, end_line}
+use Rattle.capture_core.specs.Image.{to_select}
+use Rattle.export_core.specs.Export.{held_then, holds_now, judgement, told, chosen, listed_lines, withheld_line, end_line}
 use Rattle.export_core.specs.Ticket.{issued}
 use Rattle.system_core.specs.declared.machine.event.Entry.{Entry}
 use Rattle.system_core.specs.Journal.{contents, rights_at, IsLawful}

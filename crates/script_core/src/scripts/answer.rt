@@ -36,12 +36,7 @@ fn is_refused(reply: &Reply) -> bool
     }
 }
 
-fn write_said<W: Sink>(
-    alloc: Global,
-    buffer: &mut ReplyBuffer,
-    said: Said,
-    writer: &mut W,
-) -> Result<(), Broken>
+fn write_said<W: Sink>(buffer: &mut ReplyBuffer, said: Said, writer: &mut W) -> Result<(), Broken>
     requires { W.failed writer.old ≡ false }
     ensures failed { MatchResult result (λ _. W.failed writer.new ≡ false)
         (λ _. W.failed writer.new ≡ true) }
@@ -52,7 +47,7 @@ fn write_said<W: Sink>(
     match said {
         Said::Fault { code, offset } => write_fault(buffer, code, offset, writer),
         Said::Unread => write_unread(writer),
-        Said::Answer(reply) => write_reply(alloc, buffer, reply, writer, &NoGate),
+        Said::Answer(reply) => write_reply(buffer, reply, writer, &NoGate),
     }
 }
 
@@ -60,7 +55,6 @@ fn write_said<W: Sink>(
 /// the step: where it found no memory, that the checkpoint is given up. Both are written after the
 /// step, so that a writer that fails leaves none undone.
 fn tell<W: Sink>(
-    alloc: Global,
     buffer: &mut ReplyBuffer,
     system: &mut System,
     writer: &mut W,
@@ -78,19 +72,18 @@ fn tell<W: Sink>(
     let reply = system.step(Event::Step);
     if !is_refused(&reply) {
         system.let_go();
-        return write_said(alloc, buffer, said, writer);
+        return write_said(buffer, said, writer);
     }
     let given_up = system.step(Event::Abandon);
     system.let_go();
-    write_said(alloc, buffer, said, writer)?;
-    write_reply(alloc, buffer, given_up, writer, &NoGate)
+    write_said(buffer, said, writer)?;
+    write_reply(buffer, given_up, writer, &NoGate)
 }
 
 /// Tells that a line has this fault.
 // Not inlined, here and below: the large stack frame would otherwise be cleared for every INSERT.
 #[inline(never)]
 fn tell_fault<W: Sink>(
-    alloc: Global,
     buffer: &mut ReplyBuffer,
     system: &mut System,
     writer: &mut W,
@@ -107,13 +100,12 @@ fn tell_fault<W: Sink>(
         (WritesFrontOf (TellsThen (Said.Fault code offset) system.old system.new)
         (W.taken writer.old) (W.taken writer.new)) }
 {
-    tell(alloc, buffer, system, writer, Said::Fault { code, offset })
+    tell(buffer, system, writer, Said::Fault { code, offset })
 }
 
 /// Tells that a line was not read.
 #[inline(never)]
 fn tell_unread<W: Sink>(
-    alloc: Global,
     buffer: &mut ReplyBuffer,
     system: &mut System,
     writer: &mut W,
@@ -128,13 +120,12 @@ fn tell_unread<W: Sink>(
         (WritesFrontOf (TellsThen Said.Unread system.old system.new)
         (W.taken writer.old) (W.taken writer.new)) }
 {
-    tell(alloc, buffer, system, writer, Said::Unread)
+    tell(buffer, system, writer, Said::Unread)
 }
 
 /// Tells the reply. Where no checkpoint is active the checkpointer's step does nothing, and is left
 /// out.
 fn tell_reply<W: Sink>(
-    alloc: Global,
     buffer: &mut ReplyBuffer,
     system: &mut System,
     writer: &mut W,
@@ -151,15 +142,14 @@ fn tell_reply<W: Sink>(
         (W.taken writer.old) (W.taken writer.new)) }
 {
     if system.is_idle() {
-        return write_reply(alloc, buffer, reply, writer, &NoGate);
+        return write_reply(buffer, reply, writer, &NoGate);
     }
-    tell(alloc, buffer, system, writer, Said::Answer(reply))
+    tell(buffer, system, writer, Said::Answer(reply))
 }
 
 /// Tells what an allowed change that was asked at this moment came to.
 #[inline(never)]
 fn tell_change<W: Sink>(
-    alloc: Global,
     buffer: &mut ReplyBuffer,
     system: &mut System,
     writer: &mut W,
@@ -176,12 +166,11 @@ fn tell_change<W: Sink>(
         (WritesFrontOf (TellsThen (Said.Answer (change_reply at made)) system.old system.new)
         (W.taken writer.old) (W.taken writer.new)) }
 {
-    tell_reply(alloc, buffer, system, writer, Reply::to_change(at, made))
+    tell_reply(buffer, system, writer, Reply::to_change(at, made))
 }
 
 /// Asks an allowed change, and tells what it came to.
 fn ask_change<W: Sink>(
-    alloc: Global,
     buffer: &mut ReplyBuffer,
     system: &mut System,
     writer: &mut W,
@@ -203,18 +192,17 @@ fn ask_change<W: Sink>(
     let at = system.moment();
     let made = system.change(entry);
     if !system.is_idle() {
-        return tell_change(alloc, buffer, system, writer, at, made);
+        return tell_change(buffer, system, writer, at, made);
     }
     match made {
         Ok(made) => write_done(buffer, made, writer),
-        Err(NoMemory) => tell_change(alloc, buffer, system, writer, at, Err(NoMemory)),
+        Err(NoMemory) => tell_change(buffer, system, writer, at, Err(NoMemory)),
     }
 }
 
 /// Asks any statement, and tells the reply.
 #[inline(never)]
 fn ask_any<W: Sink>(
-    alloc: Global,
     buffer: &mut ReplyBuffer,
     system: &mut System,
     writer: &mut W,
@@ -240,12 +228,11 @@ fn ask_any<W: Sink>(
         user,
         statement,
     });
-    tell_reply(alloc, buffer, system, writer, reply)
+    tell_reply(buffer, system, writer, reply)
 }
 
 /// Asks what a user says, lets the checkpointer do a step, and writes what is said.
 fn ask<W: Sink>(
-    alloc: Global,
     buffer: &mut ReplyBuffer,
     system: &mut System,
     writer: &mut W,
@@ -262,9 +249,9 @@ fn ask<W: Sink>(
         (W.taken writer.old) (W.taken writer.new)) }
 {
     if system.may_change(&entry) {
-        return ask_change(alloc, buffer, system, writer, entry);
+        return ask_change(buffer, system, writer, entry);
     }
-    ask_any(alloc, buffer, system, writer, entry)
+    ask_any(buffer, system, writer, entry)
 }
 
 /// Reads a line, asks what it says, lets the checkpointer do a step, and writes what is said.
@@ -289,7 +276,7 @@ pub fn answer<W: Sink>(
     let (user, start) = match addressed(line) {
         Ok(address) => address,
         Err((code, offset)) => {
-            return tell_fault(alloc, buffer, system, writer, code, offset);
+            return tell_fault(buffer, system, writer, code, offset);
         }
     };
     match read_with(alloc, tokens, &line[start..]) {
@@ -299,12 +286,12 @@ pub fn answer<W: Sink>(
                 user,
                 statement,
             };
-            ask(alloc, buffer, system, writer, entry)
+            ask(buffer, system, writer, entry)
         }
         Err(ReadFault::At { code, offset }) => {
             let offset = start + offset;
-            tell_fault(alloc, buffer, system, writer, code, offset)
+            tell_fault(buffer, system, writer, code, offset)
         }
-        Err(ReadFault::NoMemory) => tell_unread(alloc, buffer, system, writer),
+        Err(ReadFault::NoMemory) => tell_unread(buffer, system, writer),
     }
 }

@@ -9,36 +9,36 @@ use Rattle.session_core.proofs.line.serve_line.Goals as goal
 
 pub returns-then-line-gt-MAX_LINE-clause-ok : goal.returns-then-line-gt-MAX_LINE-clause-ok
 returns-then-line-gt-MAX_LINE-clause-ok g c =
-    on_ok_weaker c.write_fault.result (λ w. Writes-one _ _ _ _ (faulty (lexical (long_line c.if-line-gt-MAX_LINE.true))) w) c.write_fault.ensures.ok
+    rw c.tell.ensures (on_ok_weaker c.write_fault-written.result (λ w. Writes-one _ _ _ _ (faulty (lexical (long_line c.if-line-gt-MAX_LINE.true))) w) c.write_fault-written.ensures.ok)
 
 pub returns-then-line-gt-MAX_LINE-clause-err : goal.returns-then-line-gt-MAX_LINE-clause-err
 returns-then-line-gt-MAX_LINE-clause-err g c =
-    on_err_weaker c.write_fault.result (λ w. Front-one _ _ _ _ (faulty (lexical (long_line c.if-line-gt-MAX_LINE.true))) w) c.write_fault.ensures.err
+    rw c.tell.ensures (on_err_weaker c.write_fault-written.result (λ w. Front-one _ _ _ _ (faulty (lexical (long_line c.if-line-gt-MAX_LINE.true))) w) c.write_fault-written.ensures.err)
 
 pub returns-in-Ok-clause-ok : goal.returns-in-Ok-clause-ok
 returns-in-Ok-clause-ok g c =
-    on_ok_weaker c.write_reply.result (Writes-map _ _ _ _ (λ text t. said c.in-Ok.statement c.execute-reply.result c.in-Ok.ensures.spelled c.execute-reply.ensures.same c.execute-reply.ensures.answered t)) c.write_reply.ensures.ok
+    rw c.tell-in-Ok.ensures (on_ok_weaker c.write_reply-written.result (Writes-map _ _ _ _ (λ text t. said c.in-Ok.statement c.execute-reply.result c.in-Ok.ensures.spelled c.execute-reply.ensures.same c.execute-reply.ensures.answered t)) c.write_reply-written.ensures.ok)
 
 pub returns-in-Ok-clause-err : goal.returns-in-Ok-clause-err
 returns-in-Ok-clause-err g c =
-    on_err_weaker c.write_reply.result (WritesFrontOf-map _ _ _ _ (λ text t. said c.in-Ok.statement c.execute-reply.result c.in-Ok.ensures.spelled c.execute-reply.ensures.same c.execute-reply.ensures.answered t)) c.write_reply.ensures.err
+    rw c.tell-in-Ok.ensures (on_err_weaker c.write_reply-written.result (WritesFrontOf-map _ _ _ _ (λ text t. said c.in-Ok.statement c.execute-reply.result c.in-Ok.ensures.spelled c.execute-reply.ensures.same c.execute-reply.ensures.answered t)) c.write_reply-written.ensures.err)
 
 pub returns-in-Err-At-clause-ok : goal.returns-in-Err-At-clause-ok
 returns-in-Err-At-clause-ok g c =
     let fault : IsReadFault c.args.line.now c.in-Err-At.code c.in-Err-At.offset = rw c.in-Err-At.field-0-is at c.in-Err-At.ensures.faulty in
-    on_ok_weaker c.write_fault-in-Err-At.result (λ w. Writes-one _ _ _ _ (faulty fault) w) (rw c.in-Err-At.field-0-is at c.write_fault-in-Err-At.ensures.ok)
+    rw c.tell-in-Err-At.ensures (on_ok_weaker c.write_fault.result (λ w. Writes-one _ _ _ _ (faulty fault) w) (rw c.in-Err-At.field-0-is at c.write_fault.ensures.ok))
 
 pub returns-in-Err-At-clause-err : goal.returns-in-Err-At-clause-err
 returns-in-Err-At-clause-err g c =
     let fault : IsReadFault c.args.line.now c.in-Err-At.code c.in-Err-At.offset = rw c.in-Err-At.field-0-is at c.in-Err-At.ensures.faulty in
-    on_err_weaker c.write_fault-in-Err-At.result (λ w. Front-one _ _ _ _ (faulty fault) w) (rw c.in-Err-At.field-0-is at c.write_fault-in-Err-At.ensures.err)
+    rw c.tell-in-Err-At.ensures (on_err_weaker c.write_fault.result (λ w. Front-one _ _ _ _ (faulty fault) w) (rw c.in-Err-At.field-0-is at c.write_fault.ensures.err))
 
 pub returns-in-Err-NoMemory-clause-ok : goal.returns-in-Err-NoMemory-clause-ok
 returns-in-Err-NoMemory-clause-ok g c =
     let short = c.if-line-gt-MAX_LINE.false in
-    on_ok_weaker c.write_unread.result (λ w. Writes-one _ _ _ _ (unread (omega (arith, short))) w) c.write_unread.ensures.ok
+    rw c.tell-in-Err-NoMemory.ensures (on_ok_weaker c.write_unread.result (λ w. Writes-one _ _ _ _ (unread (omega (arith, short))) w) c.write_unread.ensures.ok)
 
 pub returns-in-Err-NoMemory-clause-err : goal.returns-in-Err-NoMemory-clause-err
 returns-in-Err-NoMemory-clause-err g c =
     let short = c.if-line-gt-MAX_LINE.false in
-    on_err_weaker c.write_unread.result (λ w. Front-one _ _ _ _ (unread (omega (arith, short))) w) c.write_unread.ensures.err
+    rw c.tell-in-Err-NoMemory.ensures (on_err_weaker c.write_unread.result (λ w. Front-one _ _ _ _ (unread (omega (arith, short))) w) c.write_unread.ensures.err)

@@ -1,0 +1,73 @@
+-- Marks tell grants apart.
+use Rattle.std.proofs.Common.{◌≡◌, ◌⊎◌, ⊎_elim, ℕ, zero, suc, ◌+◌, ◌*◌, ◌<◌, ◌≤◌, Bool, true, false, ◌||◌, List, [], ◌∷◌, take, drop, map, length, get_or, Some, refl, sym, ap, ◌∙◌, arith}
+use Rattle.std.specs.List.{list_any, slice_get, fold}
+use Rattle.std.specs.Option.{option_map}
+use Rattle.std.proofs.lemmas.Bool.{and_parts, false_from_ne_true}
+use Rattle.std.proofs.Math.Nat.{mod-lt}
+use Rattle.std.proofs.lemmas.List.{take-append-drop, length-map, length-take}
+use Rattle.std.proofs.lemmas.List.Folds.{list_any-append}
+use Rattle.std.proofs.lemmas.Option.{get_or_from_slice_get, slice_get-get_or}
+use Rattle.base_core.specs.declared.name.User.{User}
+use Rattle.base_core.specs.declared.privilege.Atom.{Atom}
+use Rattle.base_core.proofs.SameLemmas.{same_name-true, same_user-true}
+use Rattle.grants_core.specs.Content.{gives}
+use Rattle.grants_core.specs.declared.grant.Grant.{Grant}
+use Rattle.capture_core.specs.Marks.{mixed, part_of, grant_mark, mark_of}
+
+-- a grant that gives the user the atom has the mark of both
+gives-mark : (user : User) (atom : Atom) (g : Grant) → gives user atom g ≡ true → grant_mark g ≡ mark_of user atom.table
+unfolding gives
+gives-mark user atom g h =
+    let both = and_parts _ _ h in
+    let same = and_parts _ _ both.0 in
+    ap (λ u. mark_of u g.atom.table) (same_user-true g.grantee user both.1) ∙ ap (mark_of user) (same_name-true g.atom.table atom.table same.0)
+
+part_small-from : (part : ℕ) (bytes : List ℕ) → part < 65521 → fold mixed part bytes < 65521
+part_small-from part [] small = small
+part_small-from part (b ∷ bytes) small = part_small-from (mixed part b) bytes (mod-lt (part * 31 + b) (omega arith))
+
+part_small : (bytes : List ℕ) → part_of bytes < 65521
+part_small bytes = part_small-from 0 bytes (omega arith)
+
+-- one whose mark is out of the user's range is not to him
+pub out_of_range : (user : User) (atom : Atom) (g : Grant) → (grant_mark g < part_of user.0 * 65536) ⊎ (part_of user.0 * 65536 + 65535 < grant_mark g)
+    → gives user atom g ≡ false
+unfolding gives
+out_of_range user atom g out = false_from_ne_true (gives user atom g) (λ h.
+    let table = part_of g.atom.table in
+    let small : table < 65521 = part_small g.atom.table in
+    let mark : grant_mark g ≡ part_of user.0 * 65536 + table = ap (λ (u : User). part_of u.0 * 65536 + table) (same_user-true g.grantee user (and_parts _ _ h).1) in
+    ⊎_elim (λ (low : grant_mark g < part_of user.0 * 65536). omega (arith, low, mark)) (λ (high : part_of user.0 * 65536 + 65535 < grant_mark g). omega (arith, high, mark, small)) out)
+
+-- so one of another mark does not
+pub another-mark : (user : User) (atom : Atom) (g : Grant) → (grant_mark g ≡ mark_of user atom.table → ⊥) → gives user atom g ≡ false
+another-mark user atom g other = false_from_ne_true (gives user atom g) (λ h. other (gives-mark user atom g h))
+
+slice_get-take : {X : Type 0} (n : ℕ) (xs : List X) (i : ℕ) → i < n → slice_get (take n xs) i ≡ slice_get xs i
+slice_get-take zero xs i below = absurd (omega (arith, below))
+slice_get-take (suc n) [] i below = refl
+slice_get-take (suc n) (x ∷ xs) zero below = refl
+slice_get-take (suc n) (x ∷ xs) (suc i) below = slice_get-take n xs i (omega (arith, below))
+
+slice_get-mapped : {X Y : Type 0} (f : X → Y) (xs : List X) (i : ℕ) (x : X) → slice_get xs i ≡ Some x → slice_get (map f xs) i ≡ Some (f x)
+slice_get-mapped f [] i x found = cc
+slice_get-mapped f (y ∷ xs) zero x found = ap (option_map f) found
+slice_get-mapped f (y ∷ xs) (suc i) x found = slice_get-mapped f xs i x found
+
+-- there are no more marks than grants
+pub few_marks : (marks : List ℕ) (grants : List Grant) → marks ≡ map grant_mark (take (length marks) grants) → length marks ≤ length grants
+few_marks marks grants are =
+    omega (arith, ap length are, length-map (take (length marks) grants) grant_mark, length-take (length marks) grants)
+
+-- the mark at a place is that of the grant there
+pub mark_there : (marks : List ℕ) (grants : List Grant) (i : ℕ) (g : Grant) → marks ≡ map grant_mark (take (length marks) grants) → i < length marks → g ≡ get_or grants i g
+    → get_or marks i 0 ≡ grant_mark g
+mark_there marks grants i g are below read =
+    let many = few_marks marks grants are in
+    let found : slice_get grants i ≡ Some g = slice_get-get_or grants i g (omega (arith, below, many)) ∙ ap Some (sym read) in
+    get_or_from_slice_get marks i (grant_mark g) 0
+    (ap (λ l. slice_get l i) are ∙ slice_get-mapped grant_mark (take (length marks) grants) i g (slice_get-take (length marks) grants i below ∙ found))
+
+-- what passes among the first items or the others passes among all
+pub any_of_parts : {X : Type 0} (p : X → Bool) (n : ℕ) (xs : List X) → list_any p xs ≡ (list_any p (take n xs) || list_any p (drop n xs))
+any_of_parts p n xs = ap (list_any p) (sym (take-append-drop n xs)) ∙ list_any-append p (take n xs) (drop n xs)

@@ -1,0 +1,223 @@
+//! The grants of an image.
+ghost use Rattle.std.specs.Prelude.{◌≡◌, ◌↔◌, ◌⊎◌, ◌<◌, ◌+◌, ◌++◌, ◌||◌, [], length, get_or, map, take, drop, IsTrue, IfOk, OnOk, OnErr};
+ghost use Rattle.std.specs.List.{list_any};
+ghost use Rattle.base_core.specs.Words.{same_name};
+ghost use Rattle.base_core.specs.declared.name.Name.{Name as names};
+ghost use Rattle.indexmap.specs.IndexSet.{contains_by};
+ghost use Rattle.capture_core.specs.Image.{to_select};
+ghost use Rattle.grants_core.specs.Content as rights;
+ghost use Rattle.capture_core.specs.Marks as marks;
+ghost use Rattle.capture_core.specs.Marks.{grant_mark};
+
+use base_core::{Atom, Kind, Name, NoMemory, User};
+use grants_core::Grant;
+use graph_core::Graph;
+use indexmap::IndexSet;
+use std::alloc::Global;
+use std::marker::Model;
+
+// A prime below 2^16.
+const PARTS: u32 = 65_521;
+
+// The part of a mark that its grantee makes counts so much.
+const GRANTEES: u32 = 65_536;
+
+/// Grants in the order of their numbers. Contracts see the list.
+///
+/// Beside each stands a small number, its mark, of which the name of its grantee makes the upper half and
+/// that of its table the lower. Grants that are not looked for mostly differ in it, so a look-up over many
+/// grants reads 4 bytes of each in place of 144. Where a mark found no memory, it and the later ones are
+/// missing.
+#[derive(Drop)]
+pub struct Grants {
+    grants: Vec<Grant>,
+    marks: Vec<u32>,
+}
+
+impl Model for Grants {
+    ghost use Rattle.std.specs.Prelude.{◌≡◌, List, length, map, take};
+    ghost use Rattle.grants_core.specs.declared.grant.Grant.{Grant};
+    ghost use Rattle.capture_core.specs.Marks.{grant_mark};
+
+    ghost Value = { List Grant };
+
+    ghost view = { λ g. g.grants.items };
+
+    ghost invariant = { λ g. g.marks.items
+        ≡ map grant_mark (take (length g.marks.items) g.grants.items) };
+}
+
+// The number that the bytes of a name make.
+fn part_of(bytes: &[u8]) -> u32
+    ensures part { result ≡ marks.part_of bytes.now }
+    ensures small { result < 65521 }
+{
+    let mut part = 0;
+    for byte in bytes {
+        part = (part * 31 + *byte as u32) % PARTS;
+    }
+    part
+}
+
+fn mark_of(user: &User, table: &Name) -> u32
+    ensures { result ≡ marks.mark_of user.now table.now }
+{
+    part_of(user.0.as_bytes()) * GRANTEES + part_of(table.as_bytes())
+}
+
+// Marks the grants that have no mark yet, as far as there is memory.
+fn mark_all(marked: &mut Vec<u32>, grants: &[Grant])
+    requires { marked.old.items ≡ map grant_mark (take (length marked.old.items) grants.now) }
+    ensures { marked.new.items ≡ map grant_mark (take (length marked.new.items) grants.now) }
+{
+    while let Some(grant) = grants.get(marked.len()) {
+        if marked
+            .push(mark_of(&grant.grantee, &grant.atom.table))
+            .is_err()
+        {
+            return;
+        }
+    }
+}
+
+// Whether one of the grants that have a mark gives the user the atom.
+fn any_marked(marked: &[u32], grants: &[Grant], user: &User, atom: &Atom) -> bool
+    requires { marked.now ≡ map grant_mark (take (length marked.now) grants.now) }
+    ensures { result
+        ≡ list_any (rights.gives user.now atom.now) (take (length marked.now) grants.now) }
+{
+    let wanted = mark_of(user, &atom.table);
+    for at in 0..marked.len() {
+        let grant = &grants[at];
+        if marked[at] == wanted && grant.gives(user, atom) {
+            return true;
+        }
+    }
+    false
+}
+
+// Whether the mark at a place, if there is one, is of another grantee than the one of whom marks begin here.
+fn is_of_another(marked: &[u32], at: usize, first: u32) -> bool
+    ensures { IsTrue result → ((at < length marked.now)
+        × ((get_or marked.now at 0 < first) ⊎ (first + 65535 < get_or marked.now at 0))) }
+{
+    match marked.get(at) {
+        Some(mark) => *mark < first || *mark - first >= GRANTEES,
+        None => false,
+    }
+}
+
+// The table of the grant is put among those that it gives the user SELECT of, if it does.
+fn add_given(given: &mut IndexSet<Name>, grant: &Grant, user: &User) -> Result<(), NoMemory>
+    ensures { OnOk result ((table : names) → contains_by (same_name table) given.new
+        ≡ (contains_by (same_name table) given.old
+        || rights.gives user.now (to_select table) grant.now)) }
+{
+    let own = Atom {
+        table: grant.atom.table,
+        kind: Kind::Select,
+    };
+    if grant.gives(user, &own) {
+        given.insert(grant.atom.table)?;
+    }
+    Ok(())
+}
+
+// The tables of which one of the grants gives the user SELECT.
+fn given_tables(
+    alloc: Global,
+    marked: &[u32],
+    grants: &[Grant],
+    user: &User,
+) -> Result<IndexSet<Name>, NoMemory>
+    requires { marked.now ≡ map grant_mark (take (length marked.now) grants.now) }
+    ensures { IfOk result (λ given. (table : names) → contains_by (same_name table) given
+        ≡ list_any (rights.gives user.now (to_select table)) grants.now) }
+{
+    let first = part_of(user.0.as_bytes()) * GRANTEES;
+    let mut given = IndexSet::new(alloc);
+    for at in 0..grants.len() {
+        let grant = &grants[at];
+        if !is_of_another(marked, at, first) {
+            add_given(&mut given, grant, user)?;
+        }
+    }
+    Ok(given)
+}
+
+fn any_gives(grants: &[Grant], user: &User, atom: &Atom) -> bool
+    ensures { result ≡ list_any (rights.gives user.now atom.now) grants.now }
+{
+    grants.iter().any(|grant| grant.gives(user, atom))
+}
+
+impl Grants {
+    ghost use Rattle.base_core.specs.declared.name.Name.{Name as names};
+
+    /// No grants. It takes no memory.
+    pub(crate) fn new(alloc: Global) -> Grants
+        ensures { result ≡ [] }
+    {
+        Grants {
+            grants: Vec::new(alloc),
+            marks: Vec::new(alloc),
+        }
+    }
+
+    /// The grants.
+    pub fn as_slice(&self) -> &[Grant]
+        ensures { result.now ≡ self.now }
+    {
+        self.grants.as_slice()
+    }
+
+    /// How many they are.
+    pub fn len(&self) -> usize
+        ensures { result ≡ length self.now }
+    {
+        self.grants.len()
+    }
+
+    /// Whether there are none.
+    pub fn is_empty(&self) -> bool
+        ensures { IsTrue result ↔ (length self.now ≡ 0) }
+    {
+        self.grants.is_empty()
+    }
+
+    /// Whether one of them gives the user the atom. It takes no memory.
+    pub fn gives(&self, user: &User, atom: &Atom) -> bool
+        ensures { result ≡ list_any (rights.gives user.now atom.now) self.now }
+    {
+        any_marked(&self.marks, &self.grants, user, atom)
+            || any_gives(&self.grants[self.marks.len()..], user, atom)
+    }
+
+    /// The tables of which one of them gives the user SELECT. `NoMemory` where a request for memory
+    /// was refused.
+    pub fn tables_given(&self, alloc: Global, user: &User) -> Result<IndexSet<Name>, NoMemory>
+        ensures { IfOk result (λ given. (table : names) → contains_by (same_name table) given
+            ≡ list_any (rights.gives user.now (to_select table)) self.now) }
+    {
+        given_tables(alloc, &self.marks, &self.grants, user)
+    }
+
+    /// Takes the next `count` grants of the capture, or all that are left. `NoMemory` where a request
+    /// for memory was refused: then these grants and the rights are as before.
+    pub(crate) fn take(&mut self, rights: &mut Graph, count: u64) -> Result<(), NoMemory>
+        ensures content { rights.new.content ≡ rights.old.content }
+        ensures items { OnOk result (self.new ≡ self.old ++ take count rights.old.rest) }
+        ensures rest { OnOk result (rights.new.rest ≡ drop count rights.old.rest) }
+        ensures err { OnErr result (rights.new ≡ rights.old) }
+        ensures same { OnErr result (self.new ≡ self.old) }
+    {
+        if self.grants.is_empty() {
+            let ahead = rights.left() as usize;
+            self.grants.reserve_exact(ahead)?;
+            let _ = self.marks.reserve_exact(ahead);
+        }
+        rights.capture_step(&mut self.grants, count)?;
+        mark_all(&mut self.marks, &self.grants);
+        Ok(())
+    }
+}

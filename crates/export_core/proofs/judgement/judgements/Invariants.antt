@@ -1,6 +1,0 @@
-use Rattle.std.proofs.Common.{◌≡◌, take, map}
-use Rattle.export_core.specs.Export.{judgement}
-use Rattle.export_core.proofs.judgement.judgements.Given as goal
-
-abbrev pub invariant-loop-table : goal.invariant-loop-table
-invariant-loop-table g l = l.judged.items ≡ map (λ t. judgement l.image (g.A.Authority.content l.rights) l.user t.name) (take l.table-index l.tables)
