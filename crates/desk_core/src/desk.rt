@@ -1,5 +1,5 @@
 //! The core behind a turn lock.
-ghost use Rattle.std.specs.Prelude.{◌≡◌, ◌≢◌, ◌+◌, ◌<◌, ◌≤◌, length, All, Some, IfOk, IfErr, OnOk, OnErr};
+ghost use Rattle.std.specs.Prelude.{◌≡◌, ◌≢◌, ◌+◌, ◌<◌, ◌≤◌, ◌^◌, length, All, Some, IfOk, IfErr, OnOk, OnErr};
 ghost use Rattle.turnstile.specs.Logs.{StartsWith};
 ghost use Rattle.turnstile.specs.Passes.{IsSamePass, mine, new_passes};
 ghost use Rattle.turnstile.specs.Closed.{AreAll};
@@ -39,8 +39,8 @@ impl Model for Desk {
 
 impl Desk {
     /// A desk with `count` passes, from 1 to 64, and a core with nothing entered and full limits. The
-    /// chunk is from 1 to 64. The passes are numbered from 0 and have seen nothing. `NoMemory` where a
-    /// request for memory was refused.
+    /// chunk is from 1 to 64, and turns are counted from 0. The passes are numbered from 0 and have
+    /// seen nothing. `NoMemory` where a request for memory was refused.
     pub fn build(alloc: Global, count: usize, chunk: usize) -> Result<(Desk, Vec<Pass>), NoMemory>
         requires counts { (0 < count) × (count ≤ 64) }
         requires some { 0 < chunk }
@@ -49,8 +49,26 @@ impl Desk {
             (λ b. (b.0.count ≡ count) × (b.0.start ≡ 0) × (b.0.fixed ≡ chunk)) }
         ensures passes { IfOk result (λ b. b.1.items ≡ new_passes b.0) }
     {
+        Desk::build_at(alloc, count, chunk, 0)
+    }
+
+    /// The same, with the turns counted from `start`, at most 2^62.
+    pub fn build_at(
+        alloc: Global,
+        count: usize,
+        chunk: usize,
+        start: u64,
+    ) -> Result<(Desk, Vec<Pass>), NoMemory>
+        requires counts { (0 < count) × (count ≤ 64) }
+        requires some { 0 < chunk }
+        requires small { chunk ≤ 64 }
+        requires start { start ≤ 2 ^ 62 }
+        ensures desk { IfOk result
+            (λ b. (b.0.count ≡ count) × (b.0.start ≡ start) × (b.0.fixed ≡ chunk)) }
+        ensures passes { IfOk result (λ b. b.1.items ≡ new_passes b.0) }
+    {
         let core = Core::new(alloc, chunk)?;
-        let (turnstile, passes) = Turnstile::build(alloc, core, count)?;
+        let (turnstile, passes) = Turnstile::build_at(alloc, core, count, start)?;
         Ok((Desk { turnstile }, passes))
     }
 

@@ -16,7 +16,8 @@
 //! ```
 //!
 //! [`fault_text`] and [`fault_name`] say what is told of a fault that ended the answering, [`audit_end`]
-//! how an audit ends, and [`give_up`] ends a process that could not go on.
+//! how an audit ends, and [`give_up`] ends a process that could not go on. A [`Steady`] stream makes a call
+//! again that a signal interrupted, so that no signal ends the answering.
 //!
 //! # Mechanism
 //!
@@ -35,6 +36,8 @@
 mod ending;
 mod line;
 mod serving;
+mod steady;
 
 pub use ending::{NO_MEMORY, audit_end, fault_name, fault_text, give_up};
 pub use serving::{LineServer, MOST_BYTES, SessionFault, serve};
+pub use steady::Steady;

@@ -1,12 +1,12 @@
 -- Sessions keep the pass that they go through.
-use Rattle.std.proofs.Common.{◌≡◌, ℕ, List, Option, Some, None, refl, ◌∙◌}
+use Rattle.std.proofs.Common.{ℕ, List, Option, refl, ◌∙◌}
 use Rattle.std.specs.Prelude.{Result, Ok, Err}
 use Rattle.lines_core.specs.declared.serving.SessionFault.{SessionFault}
 use Rattle.turnstile.specs.Passes.{Lock, Held, IsSamePass}
 use Rattle.system_core.specs.declared.machine.event.Entry.{Entry}
 use Rattle.session_core.specs.Session.{EndsSession}
 use Rattle.session_core.proofs.Sessions.{same_pass}
-use Rattle.server_core.specs.Sessions.{Attends, Attended, nobody, another, IsOf}
+use Rattle.server_core.specs.Sessions.{Attends, Attended, nobody, another}
 
 ends_same : (desk : Lock ℕ) (ending : Result ℕ SessionFault) (old new : Held Entry ℕ) (left left' taken taken' : Option (List ℕ)) → EndsSession desk ending old new left left' taken taken' → IsSamePass old new
 ends_same desk (Ok n) old new _ _ _ _ (last, count, at) = same_pass last.user old new at.gained

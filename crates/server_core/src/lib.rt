@@ -1,4 +1,4 @@
-//! Sessions over sockets: the door at which they come in, the log of their faults, and the worker that
+//! Sessions over sockets: the door at which they come in, the log that tells of them, and the worker that
 //! serves them.
 //!
 //! A server shares one desk among threads, each with a pass of its own. [`work`] is what a worker's
@@ -10,7 +10,7 @@
 //!
 //! ```text
 //! let door = Mutex::new(Door::new(100));
-//! let pass = work(&rt, alloc, &desk, pass, &listener, &door, &log);
+//! let pass = work(&rt, alloc, &desk, pass, &listener, &door, None, &log);
 //! door.into_inner().served(100)?;                                // 100
 //! ```
 //!
@@ -19,11 +19,18 @@
 //! The door stands behind a lock, and who has the lock accepts the next session. So no session waits in
 //! the program, none is lost on the way to a worker, and the program has at most one socket for each
 //! worker. A server keeps the lock until all threads have started: where one can't be started, no session
-//! is taken.
+//! is taken. An accept that fails is made again after 50 milliseconds; only where the listener itself is
+//! gone no further session is taken.
 //!
 //! A session that has ended is shut for writing and then read for a while, since to close a socket
 //! with unread bytes would take the last replies from the client. A fault of a session ends that
-//! session, and is told on the error stream. A client that sends nothing holds its worker.
+//! session, and is told on the error stream. [`Notes`] are taken of each session, for a log of where
+//! sessions begin and end.
+//!
+//! A client that sends nothing holds its worker, and so does one that takes nothing of its replies,
+//! for as long as [`Manners`] say. What it takes counts once that makes room in the socket, and whatever of
+//! a reply then goes in begins the time anew. The kernel is not asked to look after silent peers (std's
+//! sockets have no call for that), so a peer that is gone is found by this time alone.
 //!
 //! # Cost
 //!
@@ -32,8 +39,12 @@
 
 mod door;
 mod log;
+mod manners;
+mod notes;
 mod worker;
 
-pub use door::{Door, ServeFault};
+pub use door::{Door, Guest, ServeFault};
 pub use log::{Log, SharedLog};
+pub use manners::Manners;
+pub use notes::Notes;
 pub use worker::work;

@@ -4,16 +4,16 @@ ghost use Rattle.server_core.specs.Sessions.{IsOf, Attends, Attended};
 
 use crate::door::Door;
 use crate::log::Log;
+use crate::notes::Notes;
 use base_core::{StdSink, StdSource};
 use desk_core::{Desk, Pass};
-use export_core::NoGate;
-use lines_core::SessionFault;
+use lines_core::{SessionFault, Steady};
 use session_core::serve_session;
 use std::alloc::Global;
 use std::io::{BufWriter, Read};
 use std::net::{Shutdown, TcpListener, TcpStream};
 use std::sync::{Mutex, Wait};
-use std::time::Duration;
+use std::time::{Clock, Duration};
 
 // What is gathered of a session's replies before it is written.
 const OUTPUT_BYTES: usize = 65536;
@@ -30,7 +30,7 @@ fn let_go(stream: &TcpStream) {
         return;
     }
     let _ = stream.set_read_timeout(Some(Duration::from_millis(LAST_MILLIS)));
-    let mut rest = stream;
+    let mut rest = Steady::new(stream);
     let mut bytes = [0; 1024];
     for _ in 0..LAST_READS {
         match rest.read(&mut bytes) {
@@ -40,37 +40,45 @@ fn let_go(stream: &TcpStream) {
     }
 }
 
-/// Serves one session to its end, through the pass and through nothing else.
+/// Serves one session to its end, through the pass and through nothing else. A read or a write that
+/// waits for longer than `idle` is its fault.
 fn attend<R: Wait>(
     rt: &R,
     alloc: Global,
     desk: &Desk,
     pass: &mut Pass,
     stream: &TcpStream,
+    idle: Option<Duration>,
+    notes: &Notes,
 ) -> Result<u64, SessionFault>
     requires { IsOf desk.now pass.old }
     ensures { Attends desk.now result pass.old pass.new }
 {
     let _ = stream.set_nodelay(true);
-    let Ok(buffered) = BufWriter::with_capacity(alloc, OUTPUT_BYTES, stream) else {
+    let _ = stream.set_read_timeout(idle);
+    let _ = stream.set_write_timeout(idle);
+    let output = Steady::new(stream);
+    let Ok(buffered) = BufWriter::with_capacity(alloc, OUTPUT_BYTES, output) else {
         return Err(SessionFault::NoMemory);
     };
-    let mut reader = StdSource::new(stream);
+    let mut reader = StdSource::new(Steady::new(stream));
     let mut writer = StdSink::new(buffered);
-    let served = serve_session(rt, alloc, desk, pass, &mut reader, &mut writer, &NoGate);
+    let served = serve_session(rt, alloc, desk, pass, &mut reader, &mut writer, notes);
     let_go(stream);
     served
 }
 
-/// Takes sessions one by one and serves each through the pass, until all are taken or one can't be.
-/// Nothing else is done through it.
-pub fn work<R: Wait, L: Log>(
+/// Takes sessions one by one and serves each through the pass, until all are taken or the listener
+/// is gone. Nothing else is done through it. A session ends with a fault whose client sends nothing
+/// for as long as `idle` says, or takes nothing; without it a session waits.
+pub fn work<R: Wait + Clock, L: Log>(
     rt: &R,
     alloc: Global,
     desk: &Desk,
     pass: Pass,
     listener: &TcpListener,
     door: &Mutex<Door>,
+    idle: Option<Duration>,
     log: &L,
 ) -> Pass
     requires { IsOf desk.now pass }
@@ -78,12 +86,15 @@ pub fn work<R: Wait, L: Log>(
 {
     let mut pass = pass;
     for _ in rt.forever() {
-        let Some(stream) = door.lock(rt).admit(listener) else {
+        let Some(guest) = door.lock(rt).admit(rt, listener) else {
             break;
         };
-        if let Err(fault) = attend(rt, alloc, desk, &mut pass, &stream) {
+        log.begun(rt, &guest);
+        let notes = Notes::new();
+        if let Err(fault) = attend(rt, alloc, desk, &mut pass, &guest.stream, idle, &notes) {
             log.tell(rt, fault);
         }
+        log.ended(rt, &guest, &notes);
     }
     pass
 }

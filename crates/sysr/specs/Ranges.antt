@@ -1,11 +1,15 @@
 -- The numbers of a command line.
-use Rattle.std.specs.Prelude.{ℕ, ◌<◌, ◌≤◌}
+use Rattle.std.specs.Prelude.{ℕ, ◌<◌, ◌≤◌, Option, IfSome}
 use Rattle.sysr.specs.declared.command_line.CommandLine.{CommandLine}
 use Rattle.sysr.specs.declared.command_line.CommandLine.TheVariants as asked
 
 -- as many records as a step of the checkpointer may take
 abbrev pub IsChunk : ℕ → Type 0
 IsChunk chunk = (0 < chunk) × (chunk ≤ 64)
+
+-- the seconds after which an idle session ends, if they are given
+abbrev pub IsIdle : Option ℕ → Type 0
+IsIdle idle = IfSome idle (λ seconds. (0 < seconds) × (seconds ≤ 86400))
 
 -- each number that is asked for is in its range
 abbrev pub IsInRange : CommandLine → Type 0
@@ -15,3 +19,4 @@ IsInRange (asked.Serve s) =
     × ((0 < s.workers) × (s.workers ≤ 16))
     × ((0 < s.sessions) × (s.sessions ≤ 10000))
     × IsChunk s.chunk
+    × IsIdle s.idle

@@ -1,10 +1,10 @@
 //! What the command line says.
 ghost use Rattle.std.specs.Prelude.{◌<◌, ◌≤◌, IfOk};
-ghost use Rattle.sysr.specs.Ranges.{IsChunk, IsInRange};
+ghost use Rattle.sysr.specs.Ranges.{IsChunk, IsIdle, IsInRange};
 
 use clap::error::ErrorKind;
 use clap::{Arg, ArgAction, ArgMatches, Command, Error};
-use lines_core::{NO_MEMORY, give_up};
+use lines_core::{NO_MEMORY, SessionFault, fault_text, give_up};
 use std::alloc::{AllocError, Global};
 use std::convert::AsStr;
 use std::process::ExitCode;
@@ -13,9 +13,15 @@ const CHUNK: u8 = 16;
 
 const MAX_CHUNK: u8 = 64;
 
+const WORKERS: u8 = 4;
+
 const MAX_WORKERS: u8 = 16;
 
+const SESSIONS: u16 = 10_000;
+
 const MAX_SESSIONS: u16 = 10_000;
+
+const MAX_IDLE: u32 = 86_400;
 
 // This edition of the program.
 const VERSION: &str = "0.1.0";
@@ -26,7 +32,8 @@ order of the lines; standard error says why the program could not go on.";
 
 const FORM_OF_A_SESSION: &str = "\
 The first line of a session is `USER name`; each later line is a statement of that user, as in
-`SELECT * FROM pay`. Standard error says of each session that ended with a fault which one it was.";
+`SELECT * FROM pay`. Standard error says of each session that ended with a fault which one it was;
+with --log it also says where each session begins and ends.";
 
 /// What the command line asks for.
 #[derive(Clone, Copy, PartialEq, Eq)]
@@ -39,13 +46,16 @@ pub enum CommandLine {
 }
 
 /// The sessions that are asked for: at which port of this machine, how many, by how many threads,
-/// and how many records a step of the checkpointer takes.
+/// how many records a step of the checkpointer takes, for how many seconds a session waits for its
+/// client, if not for ever, and whether it is told where sessions begin and end.
 #[derive(Clone, Copy, PartialEq, Eq)]
 pub struct Serving {
     pub port: u16,
     pub workers: usize,
     pub sessions: u64,
     pub chunk: usize,
+    pub idle: Option<u64>,
+    pub log: bool,
 }
 
 // clap has refused a number out of range, so that the last is for no chunk at all.
@@ -58,19 +68,29 @@ fn chunk_of(matches: &ArgMatches<'_>) -> usize
     }
 }
 
-// clap has refused a command line without these, and a number out of range: so none of the numbers
+// clap has refused a number out of range.
+fn idle_of(matches: &ArgMatches<'_>) -> Option<u64>
+    ensures { IsIdle result }
+{
+    let seconds = matches.get_one::<u32>("idle")?;
+    Some(seconds.clamp(1, MAX_IDLE) as u64)
+}
+
+// clap has refused a command line without a port, and a number out of range: so none of the numbers
 // for that case is ever taken.
 fn serving_of(matches: &ArgMatches<'_>) -> Serving
     ensures { IsInRange (CommandLine.Serve result) }
 {
     let port = matches.get_one::<u16>("port").unwrap_or(1).max(1);
-    let workers = matches.get_one::<u8>("workers").unwrap_or(1);
-    let sessions = matches.get_one::<u16>("sessions").unwrap_or(1);
+    let workers = matches.get_one::<u8>("workers").unwrap_or(WORKERS);
+    let sessions = matches.get_one::<u16>("sessions").unwrap_or(SESSIONS);
     Serving {
         port,
         workers: workers.clamp(1, MAX_WORKERS) as usize,
         sessions: sessions.clamp(1, MAX_SESSIONS) as u64,
         chunk: chunk_of(matches),
+        idle: idle_of(matches),
+        log: matches.get_flag("log"),
     }
 }
 
@@ -110,18 +130,36 @@ fn workers_arg<'a>(alloc: Global) -> Arg<'a> {
     Arg::new(alloc, "workers")
         .long("workers")
         .value_name("n")
-        .required(true)
         .value_parser(clap::value_parser!(u8).range(1..=16))
-        .help("Threads that serve sessions, from 1 to 16")
+        .help("Threads that serve sessions, from 1 to 16; 4 where it is not given")
 }
 
 fn sessions_arg<'a>(alloc: Global) -> Arg<'a> {
     Arg::new(alloc, "sessions")
         .long("sessions")
         .value_name("k")
-        .required(true)
         .value_parser(clap::value_parser!(u16).range(1..=10000))
-        .help("Sessions that are served before it ends, from 1 to 10,000")
+        .help(
+            "Sessions that are served before it ends, from 1 to 10,000; 10,000 where it is not given",
+        )
+}
+
+fn idle_arg<'a>(alloc: Global) -> Arg<'a> {
+    Arg::new(alloc, "idle")
+        .long("idle")
+        .value_name("s")
+        .value_parser(clap::value_parser!(u32).range(1..=86400))
+        .help(
+            "Seconds after which a session ends whose client sends nothing or takes nothing, \
+            from 1 to 86,400; it waits where it is not given",
+        )
+}
+
+fn log_arg<'a>(alloc: Global) -> Arg<'a> {
+    Arg::new(alloc, "log")
+        .long("log")
+        .action(ArgAction::SetTrue)
+        .help("Says on standard error where each session begins and ends")
 }
 
 fn serve_command<'a>(alloc: Global) -> Result<Command<'a>, AllocError> {
@@ -131,13 +169,16 @@ fn serve_command<'a>(alloc: Global) -> Result<Command<'a>, AllocError> {
         .arg(port_arg(alloc))?
         .arg(workers_arg(alloc))?
         .arg(sessions_arg(alloc))?
-        .arg(chunk_arg(alloc))
+        .arg(chunk_arg(alloc))?
+        .arg(idle_arg(alloc))?
+        .arg(log_arg(alloc))
 }
 
 /// Reads the words of a command line, of which the first is the name of the program. Each number is
-/// in its range: the chunk from 1 to 64, and 16 where none is given; the port from 1 to 65,535, the
-/// workers from 1 to 16, and the sessions from 1 to 10,000. An error is clap's: the words were
-/// refused, help or the version was asked for, or there was no memory.
+/// in its range: the chunk from 1 to 64, and 16 where none is given; the port from 1 to 65,535; the
+/// workers from 1 to 16, and 4 where none are given; the sessions from 1 to 10,000, and 10,000 where
+/// none are given; the seconds of an idle session, if they are given, from 1 to 86,400. An error is
+/// clap's: the words were refused, help or the version was asked for, or there was no memory.
 pub fn options<S: AsStr>(alloc: Global, words: &[S]) -> Result<CommandLine, Error>
     ensures { IfOk result IsInRange }
 {
@@ -159,11 +200,14 @@ pub fn options<S: AsStr>(alloc: Global, words: &[S]) -> Result<CommandLine, Erro
 }
 
 /// Shows help or the version, which are asked for, or tells why the command line was refused: with
-/// the status that clap gives, 0 or 2, and with 1 where there was no memory.
+/// the status that clap gives, 0 or 2, and with 1 where there was no memory, or where help or the
+/// version could not be written.
 pub fn refuse(rt: &HostRuntime, error: &Error) -> ExitCode {
     if error.kind() == ErrorKind::OutOfMemory {
         return give_up(rt, NO_MEMORY);
     }
-    let _ = error.print(rt);
+    if error.print(rt).is_err() && !error.use_stderr() {
+        return give_up(rt, fault_text(SessionFault::Write));
+    }
     ExitCode::from(error.exit_code() as u8)
 }

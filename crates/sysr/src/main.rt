@@ -4,7 +4,11 @@
 //! Each line of `run` is `user: statement`, and what was read is answered before more is read. The
 //! exit status is 0 where the input was read to its end, whatever the replies; 1 where the program
 //! itself could not go on, with the reason on standard error; 2 where the command line was refused;
-//! 3 where an audit failed. Help and the version go to standard output, with status 0.
+//! 3 where an audit failed. Help and the version go to standard output, with status 0. A call that a
+//! signal interrupted is made again.
+//!
+//! Before `serve` opens its first socket it fills the places of standard streams that are closed, so
+//! that no client is told what is meant for standard error.
 //!
 //! What is written for what was read is the contract of [`script`]; what the command line may say is
 //! that of [`options`]; and what the threads of a server do to its core is that of
@@ -19,7 +23,7 @@ mod serving;
 
 use base_core::{Broken, Sink, StdSink, StdSource, write_all};
 use command_line::{CommandLine, options, refuse};
-use lines_core::{NO_MEMORY, SessionFault, audit_end, fault_text, give_up};
+use lines_core::{NO_MEMORY, SessionFault, Steady, audit_end, fault_text, give_up};
 use listening::serve;
 use script_core::script;
 use std::io::BufWriter;
@@ -59,10 +63,11 @@ fn run(rt: &HostRuntime, chunk: usize, audited: bool) -> ExitCode
     requires some { 0 < chunk }
     requires small { chunk ≤ 64 }
 {
-    let Ok(buffered) = BufWriter::with_capacity(rt.alloc(), OUTPUT_BYTES, rt.stdout()) else {
+    let output = Steady::new(rt.stdout());
+    let Ok(buffered) = BufWriter::with_capacity(rt.alloc(), OUTPUT_BYTES, output) else {
         return give_up(rt, NO_MEMORY);
     };
-    let mut reader = StdSource::new(rt.stdin());
+    let mut reader = StdSource::new(Steady::new(rt.stdin()));
     let mut writer = StdSink::new(buffered);
     match script(rt.alloc(), &mut reader, &mut writer, chunk) {
         Ok(system) => {

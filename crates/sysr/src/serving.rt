@@ -7,7 +7,7 @@ ghost use Rattle.server_core.specs.Sessions.{IsOf, IsNew, IsWorkers, IsCheckpoin
 
 use desk_core::{Desk, Pass};
 use export_core::NoGate;
-use server_core::{Door, Log, ServeFault, SharedLog, work};
+use server_core::{Door, Log, Manners, ServeFault, SharedLog, work};
 use session_core::checkpointer;
 use std::alloc::Global;
 use std::io::Write;
@@ -17,7 +17,7 @@ use std::sync::atomic::{AtomicBool, Ordering};
 use std::sync::{Mutex, Wait};
 use std::thread;
 use std::thread::{Promise, PromisedHandle, Threads};
-use std::time::Clock;
+use std::time::{Clock, Duration};
 use system_core::System;
 
 /// The promise of a thread that sessions were served through its pass, and nothing else was done.
@@ -53,20 +53,21 @@ fn check<R: Wait + Clock>(rt: &R, desk: &Desk, pass: Pass, stop: &AtomicBool) ->
     pass
 }
 
-/// Serves sessions until all are taken or one can't be.
-fn attend<R: Wait, L: Log>(
+/// Serves sessions until all are taken or the listener is gone.
+fn attend<R: Wait + Clock, L: Log>(
     rt: &R,
     alloc: Global,
     desk: &Desk,
     pass: Pass,
     listener: &TcpListener,
     door: &Mutex<Door>,
+    idle: Option<Duration>,
     log: &L,
 ) -> Pass
     requires { IsNew desk.now pass }
     ensures { IsWorkers desk.now result }
 {
-    work(rt, alloc, desk, pass, listener, door, log)
+    work(rt, alloc, desk, pass, listener, door, idle, log)
 }
 
 // Keeps a thread. There is room for it.
@@ -118,6 +119,7 @@ fn serve_all<R, L>(
     passes: Vec<Pass>,
     listener: &TcpListener,
     door: &Mutex<Door>,
+    idle: Option<Duration>,
     log: &L,
     stop: &AtomicBool,
 ) -> Result<Vec<Pass>, ServeFault>
@@ -159,7 +161,7 @@ where
                     move || -> Pass
                         requires { IsNew desk.now pass }
                         ensures { IsWorkers desk.entry.now result }
-                    { attend(rt, alloc, desk, pass, listener, door, log) },
+                    { attend(rt, alloc, desk, pass, listener, door, idle, log) },
                 ) {
                     Ok(worker) => keep(desk, &mut workers, worker),
                     Err(_) => closed.shut(ServeFault::NoMemory),
@@ -201,6 +203,7 @@ fn serve_sessions<R, W>(
     workers: usize,
     chunk: usize,
     door: &Mutex<Door>,
+    idle: Option<Duration>,
     log: &SharedLog<'_, W>,
 ) -> Result<System, ServeFault>
 where
@@ -213,7 +216,7 @@ where
 {
     let (desk, passes) = Desk::build(alloc, workers + 1, chunk)?;
     let stop = AtomicBool::new(false);
-    match serve_all(rt, alloc, &desk, passes, listener, door, log, &stop) {
+    match serve_all(rt, alloc, &desk, passes, listener, door, idle, log, &stop) {
         Ok(passes) => close(desk, passes),
         Err(fault) => {
             forget(desk);
@@ -227,10 +230,16 @@ where
 /// closes the desk, and answers the number of sessions.
 ///
 /// Each session that ends with a fault is told on `err`, as `session fault: read`, or `write`,
-/// `bound`, `no memory`; a fault of `err` itself is forgotten. `Accept` where a session could not
-/// be accepted: no further one is taken, and those that run are ended by their clients. `NoMemory`
-/// where a request for memory was refused or a thread could not be started, before the first
-/// session or behind the last.
+/// `bound`, `no memory`. By the manners a session whose client sends nothing for so long ends with
+/// `read`, and one whose client takes nothing for so long with `write`; and where they have a log,
+/// each session is told on `err` as it begins and ends, with its number from 1, its user, its
+/// client's address, the lines answered behind the first, and the moment of its last reply that bore
+/// one. A fault of `err` itself is forgotten.
+///
+/// `Accept` where the listener is gone: no further session is taken, and those that run are ended
+/// by their clients. Of any other fault of accepting a session nothing is told, and it is tried
+/// again. `NoMemory` where a request for memory was refused or a thread could not be started, before
+/// the first session or behind the last.
 pub fn serve_on<R, W>(
     rt: &R,
     alloc: Global,
@@ -238,6 +247,7 @@ pub fn serve_on<R, W>(
     workers: usize,
     sessions: u64,
     chunk: usize,
+    manners: Manners,
     err: &mut W,
 ) -> Result<u64, ServeFault>
 where
@@ -252,8 +262,10 @@ where
     let door = Mutex::new(Door::new(sessions));
     let log = SharedLog {
         writer: Mutex::new(err),
+        sessions: manners.log,
     };
-    let system = serve_sessions(rt, alloc, listener, workers, chunk, &door, &log)?;
+    let idle = manners.idle;
+    let system = serve_sessions(rt, alloc, listener, workers, chunk, &door, idle, &log)?;
     // The process ends soon, and its memory goes back as a whole.
     forget(system);
     door.into_inner().served(sessions)
