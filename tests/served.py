@@ -21,10 +21,12 @@ class Server:
 
     running = []
 
-    def __init__(self, program, sessions, workers=2, port=None, chunk=None):
-        words = ["--workers", str(workers), "--sessions", str(sessions)]
+    def __init__(self, program, sessions, workers=2, port=None, chunk=None, more=(), **started):
+        words = ["--workers", str(workers)] if workers else []
+        words += ["--sessions", str(sessions)] if sessions else []
         words += ["--chunk", str(chunk)] if chunk else []
-        pipes = {"stdout": subprocess.PIPE, "stderr": subprocess.PIPE}
+        words += more
+        pipes = {"stdout": subprocess.PIPE, "stderr": subprocess.PIPE, **started}
         # (another process may take the port first)
         for _ in range(50):
             self.port = port or free_port()
@@ -333,39 +335,18 @@ def chain(program, check):
     check("a chain: the end", ended == (0, b"served 1026\n", []), ended)
 
 
-def taken_port(program, check):
-    with socket.socket() as taken:
-        taken.bind(("127.0.0.1", 0))
-        taken.listen()
-        words = ["--port", str(taken.getsockname()[1]), "--workers", "1", "--sessions", "1"]
-        done = subprocess.run([program, "serve", *words], capture_output=True, timeout=WAIT)
-    seen = (done.returncode, done.stdout, done.stderr)
-    check("a port that is taken", seen == (1, b"", b"sysr: cannot listen\n"), seen)
+TESTS = (two_users, first_lines, misuse, asked_by_clients, large_checkpoints, chunk_is_kept, many, chain)
 
 
-def greatest_numbers(program, check):
-    """The greatest port and the most workers and sessions are taken: sixteen clients are served at once."""
-    server = Server(program, 10_000, workers=16, port=65535)
-    if server.listening == b"" and server.said == b"sysr: cannot listen\n":
-        print("port 65535 is not free: the greatest numbers were not tried")
-        return
-    check("the greatest port", server.listening == b"listening on 65535\n", server.listening)
-    sessions = [Session(server, f"u{n}") for n in range(16)]
-    said = [session.welcome for session in sessions]
-    check("sixteen workers", said == [f"welcome u{n}\n" for n in range(16)], said)
-    for session in sessions:
-        session.end()
-
-
-TESTS = (two_users, first_lines, misuse, asked_by_clients, large_checkpoints, chunk_is_kept, many, chain, taken_port,
-    greatest_numbers)
+def in_time(name, check, test):
+    try:
+        test()
+    except (OSError, LookupError, ValueError, subprocess.TimeoutExpired) as error:
+        check(f"{name}: an answer in time", False, error)
+    finally:
+        Server.stop_all()
 
 
 def played(program, check):
     for test in TESTS:
-        try:
-            test(program, check)
-        except (OSError, LookupError, ValueError, subprocess.TimeoutExpired) as error:
-            check(f"{test.__name__}: an answer in time", False, error)
-        finally:
-            Server.stop_all()
+        in_time(test.__name__, check, lambda: test(program, check))

@@ -169,3 +169,26 @@ a: REVOKE SELECT ON t FROM c
 fn changes_are_told(rt: HostRuntime) {
     play(&rt, rt.alloc(), Limits::full(), REPEATED_GRANTS, 8);
 }
+
+/// Plays a session, and tells whether an image or what a capture had taken is to be freed then.
+fn parts(rt: &impl Abort, alloc: Global, system: &mut System, session: &str) -> (bool, bool) {
+    let _ = replies(rt, alloc, system, session);
+    let parting = system.take_parting();
+    let seen = (parting.image.is_some(), parting.taken.is_some());
+    parting.free();
+    seen
+}
+
+/// Each part that the core leaves to be freed is handed out, once.
+#[test]
+fn parting(rt: HostRuntime) {
+    let mut system = System::new(rt.alloc(), 16).expect(&rt, "memory");
+    for number in 1..=10 {
+        let seen = parts(&rt, rt.alloc(), &mut system, "o: CHECKPOINT\nstep");
+        assert!(rt; seen == (number > 8, false));
+    }
+    let given_up = parts(&rt, rt.alloc(), &mut system, "o: CHECKPOINT\nabandon");
+    let nothing = parts(&rt, rt.alloc(), &mut system, "o: CHECKPOINTS");
+    system.free();
+    assert!(rt; given_up == (false, true) && nothing == (false, false));
+}

@@ -3,11 +3,15 @@ ghost use Rattle.std.specs.Prelude.{◌≡◌, Some, []};
 
 use base_core::{Name, User};
 use desk_core::{Desk, Pass};
+use export_core::NoGate;
 use reader_core::read;
 use reply_core::reply_text;
+use session_core::checkpointer;
 use std::alloc::Global;
 use std::process::Abort;
 use std::sync::Wait;
+use std::sync::atomic::AtomicBool;
+use std::time::Clock;
 use system_core::{Reply, System};
 
 /// Puts what the desk answers to ann's statement through this pass behind what was said.
@@ -100,4 +104,39 @@ fn freshness(rt: HostRuntime) {
         b"done @1\ndone @2\nrows 1 @2\nrow,7\ncheckpoint 1 begun @2\ncheckpoint 1 abandoned\n\
 checkpoint 2 begun @2\ncheckpoints 1 @2\nfinished,2,2\n";
     assert!(rt; said.as_slice() == wanted.as_slice());
+}
+
+/// Whether the checkpointer is told, like all who come behind the last turn, that no turn is left.
+fn wear_out<R: Wait + Clock + Abort>(
+    rt: &R,
+    alloc: Global,
+    desk: &Desk,
+    pass: &mut Pass,
+    said: &mut Vec<u8>,
+) -> bool
+    requires { pass.old.lock ≡ Some desk.now }
+    ensures { pass.new.lock ≡ pass.old.lock }
+{
+    ask(rt, alloc, desk, pass, "CREATE TABLE t (x INTEGER)", said);
+    ask(rt, alloc, desk, pass, "INSERT INTO t VALUES (7)", said);
+    let step = desk.checkpoint_turn(rt, pass);
+    say(rt, alloc, &step, said);
+    checkpointer(rt, desk, pass, &NoGate, &AtomicBool::new(false)).is_err()
+}
+
+/// The last of all turns is answered, and none behind it.
+#[test]
+fn worn(rt: HostRuntime) {
+    let mut said = Vec::new(rt.alloc());
+    let (desk, mut passes) = Desk::build_at(rt.alloc(), 1, 16, (1 << 62) - 1).expect(&rt, "memory");
+    let mut pass = passes.pop().expect(&rt, "a pass");
+    let is_worn = wear_out(&rt, rt.alloc(), &desk, &mut pass, &mut said);
+    assert!(rt; passes.push(pass).is_ok());
+    let Ok(system) = desk.close(passes) else {
+        panic!(rt; "not all passes")
+    };
+    let changes = system.journal().len();
+    system.free();
+    assert!(rt; is_worn && changes == 1);
+    assert!(rt; said.as_slice() == b"done @1\nrefused: worn\nrefused: worn\n".as_slice());
 }

@@ -25,11 +25,15 @@ mod locks;
 #[cfg(test)]
 mod nobody;
 #[cfg(test)]
+mod pieces;
+#[cfg(test)]
 mod plain;
 #[cfg(test)]
 mod printer;
 #[cfg(test)]
 mod rights;
+#[cfg(test)]
+mod scripts;
 #[cfg(test)]
 mod slow;
 #[cfg(test)]

@@ -1,8 +1,9 @@
-//! How input is read in pieces, and what is written when a reader or a writer fails in between.
+//! How input is read in pieces.
 ghost use Rattle.std.specs.Prelude.{◌≡◌, false};
 
+use crate::pieces::Pieces;
 use crate::slow::Slow;
-use base_core::{Broken, Sink, Source, write_all};
+use base_core::{Broken, Sink, write_all};
 use lines_core::{LineServer, SessionFault, serve};
 use std::alloc::Global;
 
@@ -31,52 +32,6 @@ impl LineServer for Echo {
     }
 
     ghost too_long = { λ _ _ _ _ _ _ _ answered. answered };
-}
-
-/// A reader that gives a few bytes at a time, and fails at some read.
-#[derive(Drop)]
-struct Pieces<'a> {
-    bytes: &'a [u8],
-    size: usize,
-    good_reads: usize,
-    most_asked: usize,
-    failed: bool,
-}
-
-impl<'a> Pieces<'a> {
-    fn new(bytes: &'a [u8], size: usize, good_reads: usize) -> Pieces<'a>
-        ensures { result.failed ≡ false }
-    {
-        Pieces {
-            bytes,
-            size,
-            good_reads,
-            most_asked: 0,
-            failed: false,
-        }
-    }
-}
-
-impl Source for Pieces<'_> {
-    ghost use Rattle.std.specs.Prelude.{Some};
-
-    ghost failed = { λ s. s.failed };
-
-    ghost left = { λ s. Some s.bytes.now };
-
-    fn read(&mut self, into: &mut [u8]) -> Result<usize, Broken> {
-        if self.good_reads == 0 {
-            self.failed = true;
-            return Err(Broken);
-        }
-        self.good_reads -= 1;
-        self.most_asked = self.most_asked.max(into.len());
-        let n = into.len().min(self.bytes.len()).min(self.size.max(1));
-        let (front, behind) = self.bytes.split_at(n);
-        into[..n].copy_from_slice(front);
-        self.bytes = behind;
-        Ok(n)
-    }
 }
 
 /// How the answering of these pieces ends, and what a writer with so many good writes took.
@@ -120,26 +75,4 @@ fn over_early(rt: HostRuntime) {
     let mut pieces = Pieces::new(b"a\nbye\nb\nc\n", 7, 1000);
     let (outcome, text) = serve_pieces(rt.alloc(), &mut pieces, 1000);
     assert!(rt; outcome == Ok(()) && text.as_slice() == b"a\nbye\n".as_slice());
-}
-
-/// Pieces of two bytes: the lines that have come are answered.
-#[test]
-fn read_fails(rt: HostRuntime) {
-    let lines = b"a\nbc\nde\n".as_slice();
-    for (good_reads, answered) in [(0, 0), (1, 2), (2, 2), (3, 5), (4, 8)] {
-        let mut pieces = Pieces::new(lines, 2, good_reads);
-        let (outcome, text) = serve_pieces(rt.alloc(), &mut pieces, 1000);
-        assert!(rt; outcome == Err(SessionFault::Read));
-        assert!(rt; text.as_slice() == &lines[..answered]);
-    }
-}
-
-#[test]
-fn write_fails(rt: HostRuntime) {
-    for good_writes in 0..OUTPUT.len() {
-        let mut pieces = Pieces::new(INPUT, 3, 1000);
-        let (outcome, text) = serve_pieces(rt.alloc(), &mut pieces, good_writes);
-        assert!(rt; outcome == Err(SessionFault::Write));
-        assert!(rt; text.as_slice() == &OUTPUT[..good_writes]);
-    }
 }

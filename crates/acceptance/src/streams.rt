@@ -29,7 +29,7 @@ impl io::Read for Counted {
     fn read(&mut self, _into: &mut [u8]) -> io::Result<usize> {
         self.calls = self.calls.saturating_add(1);
         if self.is_broken {
-            return Err(io::Error::from(ErrorKind::TimedOut));
+            return Err(io::Error::from(ErrorKind::Interrupted));
         }
         Ok(0)
     }
@@ -53,6 +53,7 @@ impl io::Write for Counted {
     }
 }
 
+/// An interrupted read is not made again: it is broken as any other.
 #[test]
 fn a_read_is_one_call(rt: HostRuntime) {
     for (is_broken, want) in [(false, Ok(0)), (true, Err(Broken))] {

@@ -1,0 +1,151 @@
+//! The steps of a checkpoint, and a ticket that outlives its checkpoint.
+use crate::telling::{ask, event, is_refused, tell, tell_reply, unchanged};
+use export_core::Ticket;
+use reply_core::reply_text;
+use std::alloc::Global;
+use system_core::{Reply, System};
+
+/// A table of so many rows, of the numbers 1, 2, 3, 3 and so on.
+fn fill(rt: &HostRuntime, alloc: Global, system: &mut System, rows: usize) -> Option<()> {
+    let _ = ask(rt, alloc, system, "CREATE TABLE t (v INTEGER)")?;
+    for place in 0..rows {
+        let line = match place {
+            0 => "INSERT INTO t VALUES (1)",
+            1 => "INSERT INTO t VALUES (2)",
+            _ => "INSERT INTO t VALUES (3)",
+        };
+        let _ = ask(rt, alloc, system, line)?;
+    }
+    Some(())
+}
+
+/// What the core answers is written.
+fn tell_answer(rt: &HostRuntime, alloc: Global, system: &mut System, line: &str) -> Option<()> {
+    let reply = ask(rt, alloc, system, line)?;
+    tell_reply(rt, alloc, &reply)
+}
+
+/// Whether the list has the checkpoint with all its three records left.
+fn is_whole(alloc: Global, listed: &Reply) -> Option<bool> {
+    let text = reply_text(alloc, listed).ok()?;
+    Some(text.as_slice() == b"checkpoints 1 @4\nactive,1,4,3\n".as_slice())
+}
+
+/// A step, which is taken again where it was refused.
+fn stepped(rt: &HostRuntime, alloc: Global, system: &mut System) -> Option<Reply> {
+    let reply = system.step(event(alloc, "step")?);
+    if !is_refused(&reply) {
+        return Some(reply);
+    }
+    let listed = system.step(event(alloc, "CHECKPOINTS")?);
+    unchanged(rt, is_whole(alloc, &listed)?);
+    Some(system.step(event(alloc, "step")?))
+}
+
+fn tell_step(rt: &HostRuntime, alloc: Global, system: &mut System) -> Option<()> {
+    fill(rt, alloc, system, 3)?;
+    tell_answer(rt, alloc, system, "CHECKPOINT")?;
+    match stepped(rt, alloc, system)? {
+        Reply::Stepped { number, left } => println!(rt; "stepped {number} left {left}").ok(),
+        _ => None,
+    }
+}
+
+/// The first step of a checkpoint of three records.
+pub fn step(rt: &HostRuntime, alloc: Global) -> Option<()> {
+    let mut system = System::new(alloc, 1).ok()?;
+    let told = tell_step(rt, alloc, &mut system);
+    system.free();
+    told
+}
+
+/// The next record, which is asked for again where it was refused.
+fn next(ticket: &mut Ticket) -> Option<Option<Vec<u8>>> {
+    match ticket.next_record() {
+        Ok(record) => Some(record),
+        Err(_) => ticket.next_record().ok(),
+    }
+}
+
+fn tell_record(rt: &HostRuntime, ticket: &mut Ticket) -> Option<()> {
+    match next(ticket)? {
+        Some(record) => tell(rt, &record),
+        None => tell(rt, b"none\n"),
+    }
+    Some(())
+}
+
+/// The export of the only checkpoint.
+fn ticket(rt: &HostRuntime, alloc: Global, system: &mut System) -> Option<Ticket> {
+    match ask(rt, alloc, system, "EXPORT 1")? {
+        Reply::Export(ticket) => Some(ticket),
+        _ => None,
+    }
+}
+
+/// A checkpoint of few rows.
+fn checkpoint(rt: &HostRuntime, alloc: Global, system: &mut System) -> Option<()> {
+    let _ = ask(rt, alloc, system, "CHECKPOINT")?;
+    let _ = ask(rt, alloc, system, "step")?;
+    Some(())
+}
+
+/// Eight checkpoints more push the first out of the list, and its export goes on.
+fn export_on(
+    rt: &HostRuntime,
+    alloc: Global,
+    system: &mut System,
+    ticket: &mut Ticket,
+) -> Option<()> {
+    tell_record(rt, ticket)?;
+    tell_record(rt, ticket)?;
+    for _ in 0..8 {
+        checkpoint(rt, alloc, system)?;
+    }
+    tell_answer(rt, alloc, system, "EXPORT 1")?;
+    for _ in 0..4 {
+        tell_record(rt, ticket)?;
+    }
+    Some(())
+}
+
+fn tell_export(rt: &HostRuntime, alloc: Global, system: &mut System) -> Option<()> {
+    fill(rt, alloc, system, 3)?;
+    checkpoint(rt, alloc, system)?;
+    let mut ticket = ticket(rt, alloc, system)?;
+    export_on(rt, alloc, system, &mut ticket)
+}
+
+/// A ticket whose checkpoint is dropped after two records.
+pub fn export(rt: &HostRuntime, alloc: Global) -> Option<()> {
+    let mut system = System::new(alloc, 16).ok()?;
+    let told = tell_export(rt, alloc, &mut system);
+    system.free();
+    told
+}
+
+fn issued(
+    rt: &HostRuntime,
+    alloc: Global,
+    system: &mut System,
+    rows: usize,
+    tickets: usize,
+) -> Option<()> {
+    fill(rt, alloc, system, rows)?;
+    let _ = ask(rt, alloc, system, "CHECKPOINT")?;
+    for _ in 0..rows {
+        let _ = ask(rt, alloc, system, "step")?;
+    }
+    for _ in 0..tickets {
+        let _ = ticket(rt, alloc, system)?;
+    }
+    Some(())
+}
+
+/// So many tickets of a checkpoint of so many rows.
+pub fn issue(rt: &HostRuntime, alloc: Global, rows: usize, tickets: usize) -> Option<()> {
+    let mut system = System::new(alloc, 64).ok()?;
+    let issued = issued(rt, alloc, &mut system, rows, tickets);
+    system.free();
+    issued
+}

@@ -1,0 +1,66 @@
+//! What is written, and what is said to a core.
+use base_core::{Lack, Name, User};
+use reader_core::read;
+use reply_core::reply_text;
+use std::alloc::Global;
+use std::io::Write;
+use system_core::{Event, Reply, System};
+
+/// Writes these bytes.
+pub fn tell(rt: &HostRuntime, bytes: &[u8]) {
+    let mut out = rt.stdout();
+    let _ = out.write_all(bytes);
+}
+
+/// Says where a call that was refused has not left all as it was.
+pub fn unchanged(rt: &HostRuntime, is_unchanged: bool) {
+    if !is_unchanged {
+        tell(rt, b"changed by a refusal\n");
+    }
+}
+
+pub fn named(name: &str) -> Option<Name> {
+    Name::read(name.as_bytes())
+}
+
+/// A step of the checkpointer, or what ann says.
+pub fn event(alloc: Global, line: &str) -> Option<Event> {
+    if line == "step" {
+        return Some(Event::Step);
+    }
+    let user = User(named("ann")?);
+    let statement = read(alloc, line.as_bytes()).ok()?;
+    Some(Event::Say {
+        pass: 0,
+        user,
+        statement,
+    })
+}
+
+pub fn is_refused(reply: &Reply) -> bool {
+    matches!(
+        reply,
+        Reply::Refused {
+            lack: Lack::NoMemory,
+            ..
+        }
+    )
+}
+
+/// Writes the text of a reply.
+pub fn tell_reply(rt: &HostRuntime, alloc: Global, reply: &Reply) -> Option<()> {
+    let text = reply_text(alloc, reply).ok()?;
+    tell(rt, &text);
+    Some(())
+}
+
+/// What the core answers, which is asked again where it was refused.
+pub fn ask(rt: &HostRuntime, alloc: Global, system: &mut System, line: &str) -> Option<Reply> {
+    let before = system.moment();
+    let reply = system.step(event(alloc, line)?);
+    if !is_refused(&reply) {
+        return Some(reply);
+    }
+    unchanged(rt, system.moment() == before);
+    Some(system.step(event(alloc, line)?))
+}

@@ -1,0 +1,194 @@
+"""The door of `sysr serve`: its port and workers, clients that say nothing, what stands in for closed streams, the log,
+and accepts that fail."""
+import errno
+import os
+import select
+import signal
+import socket
+import subprocess
+import time
+
+from served import WAIT, Server, Session, free_port, in_time, talk
+
+
+def taken_port(program, check):
+    with socket.socket() as taken:
+        taken.bind(("127.0.0.1", 0))
+        taken.listen()
+        port = taken.getsockname()[1]
+        done = subprocess.run([program, "serve", "--port", str(port)], capture_output=True, timeout=WAIT)
+    seen = (done.returncode, done.stdout, done.stderr)
+    check("a port that is taken", seen == (1, b"", f"sysr: cannot listen on {port}\n".encode()), seen)
+
+
+def greatest_numbers(program, check):
+    """The greatest port and the most workers and sessions are taken: sixteen clients are served at once."""
+    server = Server(program, 10_000, workers=16, port=65535)
+    if server.listening == b"" and server.said == b"sysr: cannot listen on 65535\n":
+        print("port 65535 is not free: the greatest numbers were not tried")
+        return
+    check("the greatest port", server.listening == b"listening on 65535\n", server.listening)
+    sessions = [Session(server, f"u{n}") for n in range(16)]
+    said = [session.welcome for session in sessions]
+    check("sixteen workers", said == [f"welcome u{n}\n" for n in range(16)], said)
+    for session in sessions:
+        session.end()
+
+
+def fewest_words(program, check):
+    """With a port alone there are four workers: a fifth client waits until one of four leaves."""
+    server = Server(program, None, workers=None)
+    sessions = [Session(server, f"u{n}") for n in range(4)]
+    said = [session.welcome for session in sessions]
+    check("four workers", said == [f"welcome u{n}\n" for n in range(4)], said)
+    with server.connect() as fifth, fifth.makefile("rb") as reader:
+        fifth.sendall(b"USER u4\n")
+        ready = select.select([fifth], [], [], 0.1)[0]
+        check("the fifth waits", ready == [], ready)
+        sessions.pop().end()
+        seen = reader.readline()
+        check("the fifth is served", seen == b"welcome u4\n", seen)
+    for session in sessions:
+        session.end()
+
+
+def silent_clients(program, check):
+    """Of two clients of two workers one sends nothing and one takes nothing of 9 MB. Some seconds later both sessions
+    have ended with their faults, and others are served in their place. A server that was stopped and goes on ends no
+    session. Between the two parts other tests are played, while the time passes.
+    """
+    server = Server(program, 5, more=["--idle", "1"])
+    Server.running.remove(server.child)
+    try:
+        row = ", ".join(3 * [f"'{1000 * 'x'}'"])
+        seen = talk(server, "USER ann\nCREATE TABLE t (a TEXT, b TEXT, c TEXT)\nGRANT SELECT ON t TO eve\n"
+            + 3000 * f"INSERT INTO t VALUES ({row})\n")
+        check("9 MB", seen.endswith("\ndone @3002\n"), seen[-100:])
+        bob = Session(server, "bob")
+        for stop in (signal.SIGSTOP, signal.SIGCONT):
+            server.child.send_signal(stop)
+            time.sleep(0.05)
+        said = [bob.ask("CHECKPOINTS"), bob.end()]
+        check("stopped for a while", said == ["checkpoints 0 @3002\n", ""], said)
+        with server.connect() as silent, socket.socket() as deaf:
+            deaf.setsockopt(socket.SOL_SOCKET, socket.SO_RCVBUF, 4096)
+            deaf.connect(("127.0.0.1", server.port))
+            deaf.sendall(b"USER eve\nSELECT * FROM t\n")
+            yield
+            seen = talk(server, "USER carl\n")
+            check("another beside them", seen == "welcome carl\n", seen)
+            check("that sends nothing", silent.recv(1) == b"", "not ended")
+            ended = server.end()
+        wanted = (0, b"served 5\n", ["session fault: read", "session fault: write"])
+        check("silent clients: the end", ended == wanted, ended)
+    finally:
+        server.child.kill()
+        server.child.communicate(timeout=WAIT)
+
+
+def closed_streams(program, check):
+    """A fault is written to no client's socket where standard error and standard input are closed; where standard
+    output is closed, that it listens cannot be said."""
+    server = Server(program, 2, stderr=None, preexec_fn=lambda: (os.close(0), os.close(2)))
+    bob, eve = Session(server, "bob"), Session(server, "eve")
+    eve.send("CHECKPO")
+    eve.reset()
+    time.sleep(0.1)
+    said = [bob.welcome, bob.ask("CHECKPOINTS"), bob.end()]
+    check("closed error: replies alone", said == ["welcome bob\n", "checkpoints 0 @0\n", ""], said)
+    out = server.child.communicate(timeout=WAIT)[0]
+    check("closed error: the end", (server.child.returncode, out) == (0, b"served 2\n"), (server.child, out))
+    for closed in ((1,), (0, 1)):
+        words = ["serve", "--port", str(free_port())]
+        done = subprocess.run([program, *words], stderr=subprocess.PIPE, timeout=WAIT,
+            preexec_fn=lambda: [os.close(each) for each in closed])
+        seen = (done.returncode, done.stderr)
+        check(f"closed streams {closed}", seen == (1, b"sysr: write fault\n"), seen)
+
+
+def logged(program, check):
+    """With a log the beginning and the end of each session are told, beside its fault."""
+    server = Server(program, 4, workers=1, more=["--log"])
+    wanted = []
+
+    def told(session, number, user, lines, moment, *fault):
+        peer = "{}:{}".format(*session.client.getsockname())
+        wanted.extend([f"session {number} begun: peer {peer}", *fault,
+            f"session {number} ended: user {user}, peer {peer}, lines {lines}, moment {moment}"])
+
+    ann = Session(server, "ann")
+    for line in ("CREATE TABLE t (x INTEGER)", "INSERT INTO t VALUES (1)", "CHECKPOINTS", "?"):
+        ann.ask(line)
+    told(ann, 1, "ann", 4, 2)
+    ann.end()
+    nobody = Session(server, "in vain")
+    told(nobody, 2, "-", 0, "-")
+    nobody.end()
+    eve = Session(server, "eve")
+    eve.send("SELECT * FR")
+    told(eve, 3, "eve", 0, "-", "session fault: read")
+    eve.reset()
+    bob = Session(server, "bob")
+    bob.ask("SELECT * FROM t")
+    told(bob, 4, "bob", 1, 2)
+    bob.end()
+    ended = server.end()
+    check("a log", ended == (0, b"served 4\n", wanted), ended)
+
+
+# Lets accept4 fail by the numbers of ACCEPT_FAULTS, one after another; it is as ever where a number is 0, and behind
+# the last.
+ACCEPTS = """
+#define _GNU_SOURCE
+#include <dlfcn.h>
+#include <errno.h>
+#include <stdlib.h>
+#include <sys/socket.h>
+
+int accept4(int fd, struct sockaddr *peer, socklen_t *len, int flags) {
+    static int (*real)(int, struct sockaddr *, socklen_t *, int);
+    static const char *next;
+    if (!real) {
+        real = (int (*)(int, struct sockaddr *, socklen_t *, int))dlsym(RTLD_NEXT, "accept4");
+        next = getenv("ACCEPT_FAULTS");
+    }
+    if (next && *next) {
+        char *end;
+        int fault = (int)strtol(next, &end, 10);
+        next = *end ? end + 1 : end;
+        if (fault) { errno = fault; return -1; }
+    }
+    return real(fd, peer, len, flags);
+}
+"""
+
+
+def refused_accepts(program, check, preloaded):
+    """An accept that fails is tried again; where the listener is gone the sessions that run go on, and it ends."""
+    def serving(sessions, *faults):
+        more = {"LD_PRELOAD": preloaded, "ACCEPT_FAULTS": ",".join(str(fault) for fault in faults)}
+        return Server(program, sessions, env={**os.environ, **more})
+
+    server = serving(2, errno.ECONNABORTED, errno.EMFILE, errno.ENFILE, errno.ENOMEM, errno.EPROTO)
+    said = [talk(server, "USER ann\n"), talk(server, "USER bob\n")]
+    check("accepts that failed", said == ["welcome ann\n", "welcome bob\n"], said)
+    ended = server.end()
+    check("accepts that failed: the end", ended == (0, b"served 2\n", []), ended)
+    server = serving(2, 0, errno.EBADF)
+    ann = Session(server, "ann")
+    time.sleep(0.05)
+    said = [ann.ask("CHECKPOINTS"), ann.end()]
+    check("without a listener", said == ["checkpoints 0 @0\n", ""], said)
+    ended = server.end()
+    check("without a listener: the end", ended == (1, b"", ["sysr: accept fault"]), ended)
+
+
+TESTS = (taken_port, greatest_numbers, fewest_words, closed_streams, logged)
+
+
+def played(program, check):
+    slow = silent_clients(program, check)
+    in_time("silent clients", check, lambda: next(slow))
+    for test in TESTS:
+        in_time(test.__name__, check, lambda: test(program, check))
+    in_time("silent clients", check, lambda: next(slow, None))
