@@ -231,4 +231,5 @@ def main(program):
     redis()
 
 
-main(sys.argv[1])
+if __name__ == "__main__":
+    main(sys.argv[1])
