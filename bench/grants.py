@@ -9,6 +9,10 @@ import time
 
 from postgres import running
 
+# Who revokes, what, and from whom. By the second and the third the owner's grant stays, and the same others fall.
+REVOKE = ("own", "REVOKE", "u0")
+REVOKE_OPTION = ("own", "REVOKE GRANT OPTION FOR", "u0")
+REVOKE_BEHIND = ("u0", "REVOKE", "u1")
 COLUMNS = [f"c{n}" for n in range(32)]
 ROUNDS = 5
 BATCH = 20_000
@@ -86,8 +90,9 @@ def granted(edges, privilege):
     return [f"{by}: GRANT {privilege} ON t TO {to} WITH GRANT OPTION" for by, to in edges]
 
 
-def ours(program, edges, privilege):
-    """Microseconds of the REVOKE by which all fall, the median of some rounds, less those of a line with no work."""
+def ours(program, edges, privilege, revocation):
+    """Microseconds of the revocation, the median of some rounds, less those of a line with no work."""
+    by, revoke, whom = revocation
     script = Script(program)
     columns = ", ".join(f"{name} INTEGER" for name in COLUMNS)
     script.done([f"own: CREATE TABLE t ({columns})"])
@@ -95,14 +100,17 @@ def ours(program, edges, privilege):
     for _ in range(ROUNDS):
         script.done(granted(edges, privilege))
         idle = statistics.median(script.send([])[0] for _ in range(9))
-        found.append(script.done([f"own: REVOKE {privilege} ON t FROM u0"]) - idle)
+        found.append(script.done([f"{by}: {revoke} {privilege} ON t FROM {whom}"]) - idle)
+        if revocation != REVOKE:
+            script.done([f"own: REVOKE {privilege} ON t FROM u0"])
     script.close()
     return 1e6 * statistics.median(found)
 
 
-def theirs(place, edges, privilege):
+def theirs(place, edges, privilege, revocation):
     """The same by PostgreSQL, by psql's timing."""
     (user, folder), work = place
+    by, revoke, whom = revocation
     names = sorted({name for edge in edges for name in edge})
     listed = privilege if privilege == "SELECT" else f"{privilege} ({', '.join(COLUMNS)})"
     script = ["SET client_min_messages = warning;", "CREATE SCHEMA IF NOT EXISTS s;"]
@@ -111,10 +119,10 @@ def theirs(place, edges, privilege):
     script += [f"CREATE TABLE t ({', '.join(f'{name} integer' for name in COLUMNS)});", "ALTER TABLE t OWNER TO own;"]
     for _ in range(ROUNDS):
         script += [
-            f"SET ROLE {by}; GRANT {listed} ON t TO {to} WITH GRANT OPTION; RESET ROLE;" for by, to in edges
+            f"SET ROLE {giver}; GRANT {listed} ON t TO {to} WITH GRANT OPTION; RESET ROLE;" for giver, to in edges
         ]
-        script += ["SET ROLE own;", "\\timing on", f"REVOKE {listed} ON t FROM u0 CASCADE;"]
-        script += ["\\timing off", "RESET ROLE;"]
+        script += [f"SET ROLE {by};", "\\timing on", f"{revoke} {listed} ON t FROM {whom} CASCADE;", "\\timing off"]
+        script += ["SET ROLE own;", f"REVOKE {listed} ON t FROM u0 CASCADE;", "RESET ROLE;"]
     script += ["DROP TABLE t;"] + [f"DROP OWNED BY {name}; DROP ROLE {name};" for name in names]
     words = [*user, f"{folder}/psql", "-q", "-h", work, "-U", "postgres", "postgres", "-v", "ON_ERROR_STOP=1"]
     done = subprocess.run(words, input="\n".join(script), stdout=subprocess.PIPE, text=True, check=True)
@@ -125,10 +133,12 @@ def theirs(place, edges, privilege):
 def shapes(program):
     settings = "-c fsync=off -c max_locks_per_transaction=2000"
     with tempfile.TemporaryDirectory() as work, running(work, settings) as place:
-        for name, (edges, privilege) in SHAPES.items():
-            found = f"REVOKE, {name}: {ours(program, edges, privilege):,.0f} us"
+        more = [(REVOKE_OPTION, "chain of 1,023"), (REVOKE_BEHIND, "chain of 1,023")]
+        for revocation, name in [*((REVOKE, name) for name in SHAPES), *more]:
+            asked = *SHAPES[name], revocation
+            found = f"{revocation[0]}: {revocation[1]}, {name}: {ours(program, *asked):,.0f} us"
             if place and "cycle" not in name:  # PostgreSQL refuses a grant back to its grantor
-                found += f", PostgreSQL {theirs((place, work), edges, privilege):,.0f} us"
+                found += f", PostgreSQL {theirs((place, work), *asked):,.0f} us"
             print(found, flush=True)
 
 

@@ -1,179 +1,28 @@
-"""A long script by chance, and a plain model that says what is written for it, line by line.
+"""A long script by chance, and what the model says is written for it.
 
 Nothing refuses a request for memory here, so no line may tell of memory, however large things are: a
 server that gives up at some size would be seen. The script has all tables that there may be, some of 32 columns;
 20,000 rows in one of them, and texts of 1,024 bytes; updates of two and of seven columns; replies of more
 than 10,000 rows; checkpoints of more than 1,000 records, and lists of eight; and exports of all tables, by
-their owner and by one who may select some. The seed is fixed, so each run plays the same.
-
-The model keeps lists of rows, copies all of them for a checkpoint, and knows one owner, `own`, and one other
-user, `bob`, who can be granted SELECT. It was written from the rules of the language.
+their owner and by users who may select some. The owner, `own`, grants SELECT to `bob`, and he to `eve` where he may.
+The seed is fixed, so each run plays the same.
 """
-import operator
 import random
 
+from model import COMPARISONS, TABLES, Model
+from rights import GRANT, REVOKE, REVOKE_OPTION
+
 CHUNK = 64
-TABLES = 1024
 ROWS = 20_000
-COMPARISONS = {"=": operator.eq, "<>": operator.ne, "<": operator.lt, "<=": operator.le, ">": operator.gt,
-    ">=": operator.ge}
 # No text of the script has these words.
 OF_MEMORY = (b"no memory", b"reply lost", b"export cut", b"abandoned")
-
-
-def field(value):
-    text = str(value)
-    return '"' + text.replace('"', '""') + '"' if "," in text or '"' in text else text
-
-
-def record(word, values):
-    return ",".join([word, *map(field, values)])
-
-
-def literal(value):
-    return str(value) if isinstance(value, int) else "'" + value.replace("'", "''") + "'"
-
-
-def ordered(value):
-    """As values compare: texts by their bytes."""
-    return value if isinstance(value, int) else value.encode()
-
-
-class Table:
-    def __init__(self, columns):
-        self.columns, self.rows = columns, []
-        self.names = [name for name, _ in columns]
-
-    def chosen(self, filters):
-        """The places of the rows that meet all conditions."""
-        tests = [(self.names.index(name), COMPARISONS[sign], ordered(value)) for name, sign, value in filters]
-        return [at for at, row in enumerate(self.rows)
-            if all(compare(ordered(row[column]), value) for column, compare, value in tests)]
-
-
-class Model:
-    """What the server holds, and for each statement what it answers: the lines behind `given`, in `wanted`."""
-
-    def __init__(self):
-        self.tables, self.granted, self.moment = {}, set(), 0
-        self.begun, self.active, self.kept = 0, None, []
-        self.given, self.wanted = [], []
-
-    def say(self, user, statement, answers):
-        """A line with its answers; then the checkpointer takes its step."""
-        self.given.append(f"{user}: {statement}")
-        self.wanted += answers
-        if self.active:
-            self.active["left"] -= CHUNK
-            if self.active["left"] <= 0:
-                self.kept = [*self.kept, self.active][-8:]
-                self.active = None
-
-    def done(self, statement):
-        self.moment += 1
-        self.say("own", statement, [f"done @{self.moment}"])
-
-    def holds(self, user, name):
-        return user == "own" or name in self.granted
-
-    def create(self, name, columns):
-        listed = ", ".join(f"{column} {kind}" for column, kind in columns)
-        if len(self.tables) == TABLES:
-            self.say("own", f"CREATE TABLE {name} ({listed})", [f"refused @{self.moment}: full: tables"])
-            return
-        self.tables[name] = Table(columns)
-        self.done(f"CREATE TABLE {name} ({listed})")
-
-    def insert(self, name, row):
-        self.tables[name].rows.append(row)
-        self.done(f"INSERT INTO {name} VALUES ({', '.join(map(literal, row))})")
-
-    def select(self, user, name, listed, filters):
-        table = self.tables[name]
-        statement = f"SELECT {', '.join(listed) or '*'} FROM {name}{where(filters)}"
-        if not self.holds(user, name):
-            self.say(user, statement, [f"denied @{self.moment}: {user} lacks SELECT on {name}"])
-            return
-        places = [table.names.index(column) for column in listed or table.names]
-        rows = [record("row", [table.rows[at][place] for place in places]) for at in table.chosen(filters)]
-        self.say(user, statement, [f"rows {len(rows)} @{self.moment}", *rows])
-
-    def update(self, name, sets, filters):
-        table = self.tables[name]
-        for at in table.chosen(filters):
-            changed = {table.names.index(column): value for column, value in sets}
-            table.rows[at] = [changed.get(place, value) for place, value in enumerate(table.rows[at])]
-        listed = ", ".join(f"{column} = {literal(value)}" for column, value in sets)
-        self.done(f"UPDATE {name} SET {listed}{where(filters)}")
-
-    def delete(self, name, filters):
-        table = self.tables[name]
-        gone = set(table.chosen(filters))
-        table.rows = [row for at, row in enumerate(table.rows) if at not in gone]
-        self.done(f"DELETE FROM {name}{where(filters)}")
-
-    def turn_right(self, name):
-        """Grants SELECT to bob, or takes it back."""
-        self.granted ^= {name}
-        words = ("GRANT", "TO") if name in self.granted else ("REVOKE", "FROM")
-        self.done(f"{words[0]} SELECT ON {name} {words[1]} bob")
-
-    def checkpoint(self):
-        if self.active:
-            self.say("bob", "CHECKPOINT", [f"refused @{self.moment}: busy"])
-            return
-        self.begun += 1
-        image = {name: (table.names, [*table.rows]) for name, table in self.tables.items()}
-        records = sum(len(rows) for _, rows in image.values()) + len(self.granted)
-        self.active = {"number": self.begun, "point": self.moment, "left": max(records, 1), "image": image,
-            "granted": {*self.granted}}
-        self.say("bob", "CHECKPOINT", [f"checkpoint {self.begun} begun @{self.moment}"])
-
-    def checkpoints(self):
-        lines = [f"finished,{kept['number']},{kept['point']}" for kept in self.kept]
-        if self.active:
-            lines.append("active,{number},{point},{left}".format(**self.active))
-        self.say("bob", "CHECKPOINTS", [f"checkpoints {len(lines)} @{self.moment}", *lines])
-
-    def exported(self, user, image, name):
-        """What an export has of a table."""
-        columns, rows = image["image"][name]
-        if user != "own" and name not in image["granted"]:
-            return [f"withheld,{name},point"]
-        if not self.holds(user, name):
-            return [f"withheld,{name},now"]
-        return [record("table", [name, *columns]), *(record("row", row) for row in rows)]
-
-    def export(self, user, number, only=None):
-        statement = f"EXPORT {number}" + (f" ONLY {only}" if only else "")
-        image = next((kept for kept in self.kept if kept["number"] == number), None)
-        if image is None:
-            self.say(user, statement, [f"denied @{self.moment}: no checkpoint {number}"])
-            return
-        point = image["point"]
-        names = [only] if only else [*image["image"]]
-        if only and only not in image["image"]:
-            self.say(user, statement, [f"denied @{point}: no table {only} at checkpoint {number}"])
-            return
-        told = [line for name in names for line in self.exported(user, image, name)]
-        if only and told == [f"withheld,{only},point"]:
-            self.say(user, statement, [f"denied @{point}: {user} lacked SELECT on {only}"])
-        elif only and told == [f"withheld,{only},now"]:
-            self.say(user, statement, [f"denied @{self.moment}: {user} now lacks SELECT on {only}"])
-        else:
-            self.say(user, statement, [f"export {number} point {point} @{self.moment}", *told, f"end {number}"])
-
-
-def where(filters):
-    conditions = " AND ".join(f"{name} {sign} {literal(value)}" for name, sign, value in filters)
-    return f" WHERE {conditions}" if filters else ""
 
 
 class Chance:
     """Statements by chance, told to a model."""
 
     def __init__(self, seed):
-        self.random, self.model, self.missing = random.Random(seed), Model(), ROWS
+        self.random, self.model, self.missing = random.Random(seed), Model(CHUNK), ROWS
 
     def value(self, kind, long=False):
         pick = self.random
@@ -196,32 +45,32 @@ class Chance:
 
     def create_all(self):
         """All tables that there may be, and one more."""
-        self.model.create("big", [("n", "INTEGER"), ("t", "TEXT")])
+        self.model.create("own", "big", [("n", "INTEGER"), ("t", "TEXT")])
         for n in range(1, TABLES + 1):
             width = self.random.choice((1, 2, 3, 7, 8, 32)) if n < 60 else 1
             columns = [(f"c{at}", self.random.choice(("INTEGER", "TEXT"))) for at in range(width)]
-            self.model.create(f"t{n}", columns)
+            self.model.create("own", f"t{n}", columns)
             if n % 200 == 0:
-                self.model.checkpoint()
-                self.model.checkpoints()
+                self.model.checkpoint("bob")
+                self.model.checkpoints("bob")
 
     def insert(self):
         if self.missing and self.random.random() < 0.9:
             self.missing -= 1
-            self.model.insert("big", [self.missing, self.value("TEXT", self.random.random() < 0.01)])
+            self.model.insert("own", "big", [self.missing, self.value("TEXT", self.random.random() < 0.01)])
         else:
             name = f"t{self.random.randint(1, 60)}"
-            self.model.insert(name, self.row(self.model.tables[name].columns, self.random.random() < 0.3))
+            self.model.insert("own", name, self.row(self.model.tables[name].columns, self.random.random() < 0.3))
 
     def update(self, name, width):
         table = self.model.tables[name]
         picked = self.random.sample(table.columns, min(width, len(table.columns)))
-        self.model.update(name, [(column, self.value(kind)) for column, kind in picked], self.filters(table))
+        self.model.update("own", name, [(column, self.value(kind)) for column, kind in picked], self.filters(table))
 
     def other(self):
         """A statement that is no INSERT."""
         pick, model = self.random, self.model
-        name, user = f"t{pick.randint(1, 60)}", pick.choice(("own", "own", "bob"))
+        name, user = f"t{pick.randint(1, 60)}", pick.choice(("own", "own", "bob", "eve"))
         table, kind = model.tables[name], pick.randint(0, 9)
         if kind < 3:
             listed = pick.sample(table.names, pick.randint(0, len(table.names)))
@@ -229,23 +78,30 @@ class Chance:
         elif kind < 6:
             self.update(name, pick.choice((1, 2, 7)))
         elif kind == 6:
-            model.delete(name, self.filters(table) + [("c0", "=", self.value(table.columns[0][1]))])
+            model.delete("own", name, self.filters(table) + [("c0", "=", self.value(table.columns[0][1]))])
         elif kind == 7:
-            model.turn_right(pick.choice((name, "big")))
+            self.turn_right(pick.choice((name, "big", "big")))
         elif kind == 8:
-            pick.choice((model.checkpoint, model.checkpoints))()
+            pick.choice((model.checkpoint, model.checkpoints))("bob")
         else:
             number = pick.randint(max(1, model.begun - 9), model.begun + 1)
             model.export(user, number, pick.choice((name, name, "t999")))
+
+    def turn_right(self, name):
+        """Grants SELECT, or takes it or its option back."""
+        by, to = self.random.choice((("own", "bob"), ("own", "bob"), ("bob", "eve")))
+        kind = self.random.choice((GRANT, GRANT, REVOKE, REVOKE_OPTION))
+        option = kind == GRANT and self.random.random() < 0.7
+        self.model.change_rights(kind, by, name, [("SELECT", None)], [to], option)
 
     def large(self):
         """Statements that go over the table with many rows, or over all tables."""
         model, pick = self.model, self.random
         listed = pick.sample(["n", "t"], pick.randint(0, 2))
         model.select("own", "big", listed, [("n", "<>", pick.randint(0, ROWS))])
-        self.update("big", 2) if pick.random() < 0.5 else model.update("big", [("t", "it's")], [("n", "<", 500)])
+        self.update("big", 2) if pick.random() < 0.5 else model.update("own", "big", [("t", "it's")], [("n", "<", 500)])
         model.select("own", "big", [], [("n", "<", pick.randint(0, 99))])
-        model.export(pick.choice(("own", "bob")), pick.choice(model.kept)["number"] if model.kept else 1)
+        model.export(pick.choice(("own", "bob", "eve")), pick.choice(model.kept)["number"] if model.kept else 1)
 
 
 def script():
@@ -258,14 +114,14 @@ def script():
             chance.insert() if chance.random.random() < 0.9 else chance.other()
         chance.large()
     for _ in range(9):
-        model.checkpoint()
+        model.checkpoint("bob")
         while model.active:
             chance.other()
-    model.checkpoints()
-    for user in ("own", "bob"):
+    model.checkpoints("bob")
+    for user in ("own", "bob", "eve"):
         model.export(user, model.begun)
     model.select("own", "big", [], [])
-    return model.given, [*model.wanted, f"audit ok {len(model.granted)}"]
+    return model.given, [*model.wanted, model.audit()]
 
 
 def has_sizes(given, wanted):

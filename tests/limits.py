@@ -17,14 +17,38 @@ HOSTILE_LINES = [
 ]
 
 
-def longest_chain():
-    """As many grants as may be in force, each by the one before: one more is refused; without the first all fall."""
+def chain():
+    """As many grants as may be in force, each by the one before."""
     given = ["o: CREATE TABLE t (x INTEGER)", "o: GRANT SELECT ON t TO u1 WITH GRANT OPTION"]
     given += [f"u{n}: GRANT SELECT ON t TO u{n + 1} WITH GRANT OPTION" for n in range(1, 1024)]
+    return given, [f"done @{m}" for m in range(1, 1026)]
+
+
+def longest_chain():
+    """One more grant than may be in force is refused; without the first all fall."""
+    given, wanted = chain()
     given += ["u1024: GRANT SELECT ON t TO u1025", "o: REVOKE SELECT ON t FROM u1", "u1024: SELECT * FROM t"]
-    wanted = [f"done @{m}" for m in range(1, 1026)]
     wanted += ["refused @1025: full: grants", "done @1026", "denied @1026: u1024 lacks SELECT on t", "audit ok 0"]
     return given, wanted
+
+
+def chain_without_option():
+    """Without the option of the first grant all fall but this one, and there is room for as many again."""
+    given, wanted = chain()
+    given += ["o: REVOKE GRANT OPTION FOR SELECT ON t FROM u1", "u1: SELECT * FROM t", "u2: SELECT * FROM t",
+        "u1024: SELECT * FROM t", "u1: GRANT SELECT ON t TO u2", "o: GRANT SELECT ON t TO u1025"]
+    wanted += ["done @1026", "rows 0 @1026"]
+    wanted += [f"denied @1026: {lack} SELECT on t" for lack in ("u2 lacks", "u1024 lacks", "u1 may not grant")]
+    return given, [*wanted, "done @1027", "audit ok 2"]
+
+
+def longest_lack():
+    """A denial with as many names as one has, each as long as may be."""
+    by, to, table, column = (letter * 30 for letter in "oatc")
+    given = [f"{by}: CREATE TABLE {table} ({column} INTEGER)"]
+    given += [f"{by}: REVOKE{option} UPDATE ({column}) ON {table} FROM {to}" for option in ("", " GRANT OPTION FOR")]
+    lacks = [f"{by} granted no {option}UPDATE({column}) on {table} to {to}" for option in ("", "option for ")]
+    return given, ["done @1", *(f"denied @1: {lack}" for lack in lacks), "audit ok 0"]
 
 
 def most_tables():

@@ -116,6 +116,7 @@ class Client:
             f"UPDATE {table} SET x = {pick.randint(0, 9)}{where}",
             *3 * (f"GRANT {right} ON {pick.choice((table, 't' + self.user))} TO {others}{option}",),
             *2 * (f"REVOKE {right} ON {pick.choice((table, 't' + self.user))} FROM {others}",),
+            *2 * (f"REVOKE GRANT OPTION FOR {right} ON {pick.choice((table, 't' + self.user))} FROM {others}",),
             "CHECKPOINT",
             "CHECKPOINTS",
             *2 * (f"EXPORT {self.checkpoint()}",),

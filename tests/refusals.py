@@ -19,17 +19,22 @@ HERE = os.path.dirname(os.path.abspath(__file__))
 NOTHING = "?"
 
 RIGHTS = ["o: SELECT * FROM t", *(f"{user}: SELECT * FROM t" for user in "abcd"),
-    # (none of them may grant or has granted INSERT: so the lack tells whether he may grant or has granted SELECT)
+    # (none of them may grant or has granted INSERT: so the lack tells whether he may grant or has granted SELECT, and
+    # whether with the option)
     *(f"{user}: GRANT SELECT, INSERT ON t TO z" for user in "abcd"),
-    *(f"{by}: REVOKE SELECT, INSERT ON t FROM {to}" for by, to in ("oa", "ob", "ac", "bc", "cd"))]
+    *(f"{by}: REVOKE{option} SELECT, INSERT ON t FROM {to}" for option in ("", " GRANT OPTION FOR")
+        for by, to in ("oa", "ob", "ac", "bc", "cd"))]
 
 # The examples, how many records their checkpoint has, of which a step takes one, and the lines behind them.
 SCRIPTS = {
     "first_run": (0, ["ann: SELECT * FROM pay"]),
     "repeated_grants": (0, RIGHTS),
+    "option_keeps_others": (0, RIGHTS),
     "kept_value": (3, ["ann: SELECT * FROM t", "ann: EXPORT 1"]),
     "captured_grants": (2, ["o: SELECT * FROM t", "u: SELECT * FROM t", "o: REVOKE SELECT, INSERT ON t FROM u",
         "o: EXPORT 1", "u: EXPORT 1"]),
+    "option_in_image": (3, ["a: SELECT * FROM t", "b: SELECT * FROM t", "a: GRANT SELECT, INSERT ON t TO z",
+        "o: REVOKE GRANT OPTION FOR SELECT, INSERT ON t FROM a", "b: EXPORT 1", "z: EXPORT 1"]),
     "folding_and_quotes": (0, ["ann: SELECT * FROM pay"]),
 }
 

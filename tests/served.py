@@ -328,8 +328,9 @@ def chain(program, check):
         session.end()
     check("a chain stands", answers == [f"done @{m}\n" for m in range(1, 1026)], answers[-3:])
     seen = talk(server, "USER own\nREVOKE SELECT ON t FROM u0\nGRANT SELECT ON t TO u1\nREVOKE SELECT ON t FROM u1\n"
-        "REVOKE SELECT ON t FROM u1\n")
-    wanted = "welcome own\ndone @1026\ndone @1027\ndone @1028\ndenied @1028: own granted no SELECT on t to u1\n"
+        "REVOKE SELECT ON t FROM u1\nREVOKE GRANT OPTION FOR SELECT ON t FROM u1\n")
+    wanted = ("welcome own\ndone @1026\ndone @1027\ndone @1028\ndenied @1028: own granted no SELECT on t to u1\n"
+        "denied @1028: own granted no option for SELECT on t to u1\n")
     check("a chain falls", seen == wanted, seen)
     ended = server.end()
     check("a chain: the end", ended == (0, b"served 1026\n", []), ended)

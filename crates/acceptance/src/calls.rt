@@ -82,7 +82,7 @@ o: CREATE TABLE s (x INTEGER)
     refused @1: full: tables
 o: GRANT SELECT ON t TO a, b
     refused @1: full: grants
-o: GRANT SELECT ON t TO a
+o: GRANT SELECT ON t TO a WITH GRANT OPTION
     done @2
 o: CHECKPOINT
     checkpoint 1 begun @2
@@ -107,13 +107,17 @@ o: UPDATE t SET x = 'a'
     refused @2: column x takes INTEGER
 o: UPDATE t SET x = 1
     refused @2: full: changes
-a: GRANT SELECT ON t TO b
-    denied @2: a may not grant SELECT on t
+b: GRANT SELECT ON t TO c
+    denied @2: b may not grant SELECT on t
 o: GRANT SELECT ON t TO b
     refused @2: full: changes
 o: REVOKE SELECT ON t FROM b
     denied @2: o granted no SELECT on t to b
 o: REVOKE SELECT ON t FROM a
+    refused @2: full: changes
+o: REVOKE GRANT OPTION FOR SELECT ON t FROM b
+    denied @2: o granted no option for SELECT on t to b
+o: REVOKE GRANT OPTION FOR SELECT ON t FROM a
     refused @2: full: changes
 ";
 

@@ -44,10 +44,9 @@ fn owned(rt: &impl Abort, alloc: Global) -> Graph {
     rights
 }
 
-/// Of the tables a, b and c, a has two rows and c has one. Ann holds SELECT of a with the option,
-/// and bob holds it from her.
-fn some_state(rt: &impl Abort, alloc: Global) -> State
-    ensures rows { length (all_rows result.tables.tables) ≤ 3 }
+/// Three tables without rows, and no grants.
+fn new_state(rt: &impl Abort, alloc: Global) -> State
+    ensures rows { length (all_rows result.tables.tables) ≡ 0 }
     ensures idle { result.capture.active ≡ None }
 {
     let mut state = State {
@@ -59,6 +58,16 @@ fn some_state(rt: &impl Abort, alloc: Global) -> State
     create(rt, alloc, &mut state.tables, named(rt, "a"));
     create(rt, alloc, &mut state.tables, named(rt, "b"));
     create(rt, alloc, &mut state.tables, named(rt, "c"));
+    state
+}
+
+/// Of the tables a, b and c, a has two rows and c has one. Ann holds SELECT of a with the option,
+/// and bob holds it from her.
+fn some_state(rt: &impl Abort, alloc: Global) -> State
+    ensures rows { length (all_rows result.tables.tables) ≤ 3 }
+    ensures idle { result.capture.active ≡ None }
+{
+    let mut state = new_state(rt, alloc);
     insert(rt, alloc, &mut state.tables, named(rt, "a"), 10);
     insert(rt, alloc, &mut state.tables, named(rt, "a"), 11);
     insert(rt, alloc, &mut state.tables, named(rt, "c"), 30);
@@ -222,6 +231,69 @@ fn an_image_is_the_state_at_the_begin(rt: HostRuntime) {
     has_rows(&rt, &image, 2, "c", &[30]);
     assert!(rt; image.grants.len() == 2);
     assert!(rt; image.holds(bob, &a) && !image.holds(bob, &b));
+}
+
+/// The owner of a granted SELECT of it to zoe, to ann with the option, and ann to bob. No table has
+/// rows.
+fn optioned_state(rt: &impl Abort, alloc: Global) -> State
+    ensures rows { length (all_rows result.tables.tables) ≤ 3 }
+    ensures idle { result.capture.active ≡ None }
+{
+    let mut state = new_state(rt, alloc);
+    let (a, ann) = (user(rt, "a"), user(rt, "ann"));
+    let (bob, zoe) = (user(rt, "bob"), user(rt, "zoe"));
+    let atom = select_of(rt, "a");
+    grant(rt, &mut state.rights, &a, &atom, &zoe, false, 2);
+    grant(rt, &mut state.rights, &a, &atom, &ann, true, 3);
+    grant(rt, &mut state.rights, &ann, &atom, &bob, false, 4);
+    state
+}
+
+/// Takes ann's option, by which her grant to bob falls, and grants to bob again.
+fn revoke_option(rt: &impl Abort, state: &mut State)
+    ensures tables { state.new.tables ≡ state.old.tables }
+    ensures capture { state.new.capture ≡ state.old.capture }
+{
+    let (a, ann, bob) = (user(rt, "a"), user(rt, "ann"), user(rt, "bob"));
+    let atom = select_of(rt, "a");
+    state.rights.revoke_option(a, &[atom], &[ann]);
+    assert!(rt; state.rights.holds(ann, &atom) && !state.rights.may_grant(ann, &atom));
+    assert!(rt; !state.rights.holds(bob, &atom));
+    grant(rt, &mut state.rights, &a, &atom, &bob, false, 6);
+}
+
+/// The image's grant at this place is by the one user to the other, with or without the option.
+fn has_grant(rt: &impl Abort, image: &Image, place: usize, by: &str, to: &str, option: bool) {
+    let grant = image.grants.as_slice().get(place).expect(rt, "a grant");
+    assert!(rt; grant.grantor == user(rt, by) && grant.grantee == user(rt, to));
+    assert!(rt; grant.option == option);
+}
+
+/// An option that is revoked after the begin is in the image, as is the grant that falls with it.
+#[test]
+fn an_image_has_the_options_of_its_begin(rt: HostRuntime) {
+    let mut state = optioned_state(&rt, rt.alloc());
+    assert!(rt; state.begin(&rt) == Ok(1));
+    assert!(rt; is_left(&state.step(&rt, 1), 2));
+    revoke_option(&rt, &mut state);
+    let image = state.finish(&rt);
+    assert!(rt; image.grants.len() == 3);
+    has_grant(&rt, &image, 0, "a", "zoe", false);
+    has_grant(&rt, &image, 1, "a", "ann", true);
+    has_grant(&rt, &image, 2, "ann", "bob", false);
+}
+
+/// One that was revoked before is not.
+#[test]
+fn an_image_has_no_option_revoked_before(rt: HostRuntime) {
+    let mut state = optioned_state(&rt, rt.alloc());
+    revoke_option(&rt, &mut state);
+    assert!(rt; state.begin(&rt) == Ok(1));
+    let image = state.finish(&rt);
+    assert!(rt; image.grants.len() == 3);
+    has_grant(&rt, &image, 0, "a", "zoe", false);
+    has_grant(&rt, &image, 1, "a", "ann", false);
+    has_grant(&rt, &image, 2, "a", "bob", false);
 }
 
 /// A capture of nothing has one record.

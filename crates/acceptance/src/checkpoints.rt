@@ -231,6 +231,29 @@ fn revoke(
     plain.revoke(rt, by, to, table);
 }
 
+fn revoke_option(
+    rt: &impl Abort,
+    alloc: Global,
+    system: &mut System,
+    plain: &mut Plain,
+    chance: &mut Chance,
+) {
+    let table = chance.letter(rt, TABLES);
+    let by = actor(rt, plain, chance, table);
+    let to = chance.letter(rt, USERS);
+    let may = plain.has_optioned(by, to, table);
+    let reply = say(
+        rt,
+        alloc,
+        system,
+        by,
+        "REVOKE GRANT OPTION FOR SELECT ON # FROM #",
+        &[table, to],
+    );
+    accepted(rt, plain, reply, may);
+    plain.revoke_option(rt, by, to, table);
+}
+
 /// Whether the row has this digit and this letter.
 fn is(row: &Row, digit: u8, letter: u8) -> bool {
     let values = row.values.as_slice();
@@ -273,13 +296,14 @@ fn change(
     plain: &mut Plain,
     chance: &mut Chance,
 ) {
-    match chance.below(18) {
+    match chance.below(20) {
         0 => create(rt, alloc, system, plain, chance),
         1..=8 => insert(rt, alloc, system, plain, chance),
         9 | 10 => update(rt, alloc, system, plain, chance),
         11 | 12 => delete(rt, alloc, system, plain, chance),
         13 | 14 => grant(rt, alloc, system, plain, chance),
         15 | 16 => revoke(rt, alloc, system, plain, chance),
+        17 | 18 => revoke_option(rt, alloc, system, plain, chance),
         _ => select(rt, alloc, system, plain, chance),
     }
 }

@@ -35,6 +35,8 @@ impl Authority for Nobody {
 
     fn revoke(&mut self, _by: User, _atoms: &[Atom], _whom: &[User]) {}
 
+    fn revoke_option(&mut self, _by: User, _atoms: &[Atom], _whom: &[User]) {}
+
     fn holds(&self, _user: User, _atom: &Atom) -> bool {
         false
     }
@@ -44,6 +46,10 @@ impl Authority for Nobody {
     }
 
     fn has_made(&self, _by: User, _user: User, _atom: &Atom) -> bool {
+        false
+    }
+
+    fn has_optioned(&self, _by: User, _user: User, _atom: &Atom) -> bool {
         false
     }
 
@@ -120,6 +126,12 @@ fn who_is_not_known_holds_nothing(rt: HostRuntime) {
         matches!(
             lack("REVOKE SELECT ON t FROM a"),
             Some(Lack::NoGrant { .. })
+        )
+    );
+    assert!(rt;
+        matches!(
+            lack("REVOKE GRANT OPTION FOR SELECT ON t FROM a"),
+            Some(Lack::NoOptionGiven { .. })
         )
     );
     assert!(rt; matches!(lack("SELECT * FROM s"), Some(Lack::NoTable(_))));

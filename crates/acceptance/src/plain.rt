@@ -141,6 +141,13 @@ impl Plain {
             && grant.to == to)
     }
 
+    pub fn has_optioned(&self, by: u8, to: u8, table: u8) -> bool {
+        self.grants.as_slice().iter().any(|grant| grant.option
+            && grant.table == table
+            && grant.by == by
+            && grant.to == to)
+    }
+
     fn table_mut(&mut self, name: u8) -> Option<&mut PlainTable> {
         self.tables
             .as_mut_slice()
@@ -172,10 +179,8 @@ impl Plain {
         }
     }
 
-    /// Strikes the grants of the table by one user to another, and then each that no earlier one
-    /// allows.
-    pub fn revoke(&mut self, rt: &impl Abort, by: u8, to: u8, table: u8) {
-        self.grants.retain(|grant| !(grant.table == table && grant.by == by && grant.to == to));
+    /// Strikes each grant that no earlier one allows.
+    fn replay(&mut self, rt: &impl Abort) {
         let mut in_force = Vec::new(self.alloc);
         for grant in self.grants.as_slice() {
             let allowed = gives_option(in_force.as_slice(), grant.table, grant.by);
@@ -184,6 +189,23 @@ impl Plain {
             }
         }
         self.grants = in_force;
+    }
+
+    /// Strikes the grants of the table by one user to another, and then each that no earlier one
+    /// allows.
+    pub fn revoke(&mut self, rt: &impl Abort, by: u8, to: u8, table: u8) {
+        self.grants.retain(|grant| !(grant.table == table && grant.by == by && grant.to == to));
+        self.replay(rt);
+    }
+
+    /// Takes the option off these grants, and then strikes each that no earlier one allows.
+    pub fn revoke_option(&mut self, rt: &impl Abort, by: u8, to: u8, table: u8) {
+        for grant in self.grants.as_mut_slice().iter_mut() {
+            if grant.table == table && grant.by == by && grant.to == to {
+                grant.option = false;
+            }
+        }
+        self.replay(rt);
     }
 
     /// How many records a checkpoint begun now has.

@@ -26,6 +26,8 @@ delete\tfrom t
 UPDATE t SET a=1 , b='' WHERE a<=-5
 grant SELECT,update(a,b)on t to u,v with grant option
 revoke insert , delete,update on T from U
+revoke grant option for select on T from a
+REVOKE Grant  Option For UPDATE(b,a) ,insert on t from U,v;
 CHECKPOINT ;
 checkpoints
 EXPORT 012
@@ -42,6 +44,8 @@ DELETE FROM t
 UPDATE t SET a = 1, b = '' WHERE a <= -5
 GRANT SELECT, UPDATE (a, b) ON t TO u, v WITH GRANT OPTION
 REVOKE INSERT, DELETE, UPDATE ON t FROM u
+REVOKE GRANT OPTION FOR SELECT ON t FROM a
+REVOKE GRANT OPTION FOR UPDATE (b, a), INSERT ON t FROM u, v
 CHECKPOINT
 CHECKPOINTS
 EXPORT 12

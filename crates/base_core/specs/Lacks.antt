@@ -1,5 +1,5 @@
 -- The codes of lacks.
-use Rattle.std.specs.Prelude.{ℕ, Bool, nat_le}
+use Rattle.std.specs.Prelude.{ℕ, Bool, ◌||◌, nat_eq, nat_le}
 use Rattle.base_core.specs.declared.lack.Lack.{Lack}
 use Rattle.base_core.specs.declared.lack.Lack.TheVariants as lacks
 
@@ -21,7 +21,8 @@ code_of (lacks.Full what) = 23
 code_of lacks.Busy = 24
 code_of lacks.NoMemory = 25
 code_of lacks.Worn = 26
+code_of (lacks.NoOptionGiven b u a) = 27
 
--- codes 11 to 20
+-- codes 11 to 20, and 27
 abbrev pub is_denial : Lack → Bool
-is_denial lack = nat_le (code_of lack) 20
+is_denial lack = nat_le (code_of lack) 20 || nat_eq (code_of lack) 27

@@ -16,7 +16,7 @@ pub enum What {
 }
 
 /// What is missing where a statement is not carried out. Each leaves everything unchanged. Codes 11
-/// to 20 are denials, those from 21 on are refusals.
+/// to 20 and 27 are denials, 21 to 26 are refusals.
 #[derive(Clone, Copy, PartialEq, Eq)]
 pub enum Lack {
     NoTable(Name),
@@ -38,10 +38,12 @@ pub enum Lack {
     NoMemory,
     /// All turns of the turnstile were drawn.
     Worn,
+    /// No grant in force by the issuer to that user with the option.
+    NoOptionGiven { by: User, to: User, atom: Atom },
 }
 
 impl Lack {
-    /// The code of the lack, from 11 to 26.
+    /// The code of the lack, from 11 to 27.
     pub fn code(&self) -> u8
         ensures { result ≡ code_of self.now }
     {
@@ -62,13 +64,15 @@ impl Lack {
             Lack::Busy => 24,
             Lack::NoMemory => 25,
             Lack::Worn => 26,
+            Lack::NoOptionGiven { .. } => 27,
         }
     }
 
-    /// Whether the lack is a denial: codes 11 to 20.
+    /// Whether the lack is a denial: codes 11 to 20, and 27.
     pub fn is_denial(&self) -> bool
         ensures { result ≡ is_denial self.now }
     {
-        self.code() <= 20
+        let code = self.code();
+        code <= 20 || code == 27
     }
 }

@@ -6,6 +6,8 @@ pub mod SinglesLemmas
 pub mod NumberLemmas
 pub mod GrantLemmas
 pub mod LogLemmas
+pub mod OptionLemmas
 pub mod HistoryLemmas
+pub mod StayLemmas
 pub mod MarkLemmas
 pub mod SameGrant

@@ -8,7 +8,7 @@ use Rattle.base_core.specs.declared.privilege.Atom.{Atom}
 use Rattle.base_core.specs.declared.value.Moment.{Moment}
 use Rattle.grants_core.specs.declared.grant.Grant.{Grant}
 use Rattle.grants_core.specs.declared.log.LoggedGrant.{LoggedGrant}
-use Rattle.grants_core.specs.Content.{names, without, singles}
+use Rattle.grants_core.specs.Content.{names, without, singles, option_off, options_off}
 use Rattle.grants_core.specs.Log.{grants_in, unstruck, logged}
 use Rattle.grants_core.proofs.SinglesLemmas.{length-singles}
 
@@ -34,6 +34,22 @@ unstruck-struck_by by atoms whom (m ∷ ms) =
     elim m.struck as (λ s. grants_in (cond (not (s || names by atoms whom m.grant)) (after s (names by atoms whom m.grant) ∷ left) left) ≡ without by atoms whom (grants_in (cond (not s) (m ∷ filter is_left ms) (filter is_left ms)))) [
       | true ↦ rest
       | false ↦ elim (names by atoms whom m.grant) as (λ n. grants_in (cond (not n) (after false n ∷ left) left) ≡ cond (not n) (m.grant ∷ w) w) [ true ↦ rest | false ↦ ap (λ k. m.grant ∷ k) rest ]
+    ]
+
+-- a grant after a revocation of the option
+abbrev pub unoptioned_by : User → List Atom → List User → LoggedGrant → LoggedGrant
+unoptioned_by by atoms whom m = record m { grant = option_off (names by atoms whom) m.grant }
+
+pub unstruck-unoptioned_by : (by : User) (atoms : List Atom) (whom : List User) (made : List LoggedGrant) → unstruck (map (unoptioned_by by atoms whom) made) ≡ options_off by atoms whom (unstruck made)
+unstruck-unoptioned_by by atoms whom [] = refl
+unstruck-unoptioned_by by atoms whom (m ∷ ms) =
+    let is_left : LoggedGrant → Bool = λ x. not x.struck in
+    let one : LoggedGrant = unoptioned_by by atoms whom m in
+    let left : List LoggedGrant = filter is_left (map (unoptioned_by by atoms whom) ms) in
+    let rest : grants_in left ≡ options_off by atoms whom (unstruck ms) = unstruck-unoptioned_by by atoms whom ms in
+    elim m.struck as (λ s. grants_in (cond (not s) (one ∷ left) left) ≡ options_off by atoms whom (grants_in (cond (not s) (m ∷ filter is_left ms) (filter is_left ms)))) [
+      | true ↦ rest
+      | false ↦ ap (λ k. one.grant ∷ k) rest
     ]
 
 unstruck-logged : (gs : List Grant) → unstruck (map logged gs) ≡ gs

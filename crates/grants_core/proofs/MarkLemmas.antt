@@ -18,11 +18,12 @@ use Rattle.grants_core.specs.declared.grant.Change.TheVariants as change
 use Rattle.base_core.specs.Privileges.{same_atom}
 use Rattle.grants_core.specs.Owners.{owner_of, owns, was_granted, with_owner, with_granted}
 use Rattle.grants_core.specs.Content.{gives, may_grant, to_each, singles}
-use Rattle.grants_core.specs.History.{made_by, grants_of, owners_with, granted_from, granted, is_granted, is_struck, owners_after, unstruck_after, in_force_after}
+use Rattle.grants_core.specs.History.{made_by, grants_of, owners_with, granted_from, granted, is_granted, is_struck, is_unoptioned, owners_after, unstruck_after, left_after, in_force_after}
 use Rattle.grants_core.specs.Marks.{is_marked, creates, grants_on, is_granted_once_created, is_granted_uncreated, AreToSomebody, AreGrantable}
 use Rattle.base_core.proofs.SameLemmas.{same_name-true, same_name-refl, same_atom-true}
 use Rattle.grants_core.proofs.OwnersLemmas.{was_granted-with_owner, owner_of-cons}
 use Rattle.grants_core.proofs.GrantLemmas.{All-filtered, All-valid}
+use Rattle.grants_core.proofs.OptionLemmas.{All-options_off}
 use Rattle.grants_core.proofs.HistoryLemmas.{none_of}
 
 or_false : (b : Bool) → b ≡ (b || false)
@@ -67,6 +68,7 @@ has_entry-after os (change.Create name owner ∷ cs) t =
 has_entry-after os (change.Grant by atoms whom option ∷ cs) t =
     has_entry-after (with_granted atoms os) cs t ∙ ap (λ b. b || list_any (creates t) cs) (has_entry-with_granted atoms os t)
 has_entry-after os (change.Revoke by atoms whom ∷ cs) t = has_entry-after os cs t
+has_entry-after os (change.RevokeOption by atoms whom ∷ cs) t = has_entry-after os cs t
 has_entry-after os (change.Other ∷ cs) t = has_entry-after os cs t
 
 unmarked : (os : List Ownership) (t : Name) → has_entry os t ≡ false → was_granted os t ≡ false
@@ -128,6 +130,7 @@ marked-from_entry os (change.Grant by atoms whom option ∷ cs) t h =
     ∙ ap (λ b. b || rest) (was_granted-granted atoms os t ∙ ap (λ b. was_granted os t || (b && m)) h)
     ∙ or_assoc (was_granted os t) m rest
 marked-from_entry os (change.Revoke by atoms whom ∷ cs) t h = marked-from_entry os cs t h
+marked-from_entry os (change.RevokeOption by atoms whom ∷ cs) t h = marked-from_entry os cs t h
 marked-from_entry os (change.Other ∷ cs) t h = marked-from_entry os cs t h
 
 after_first-skip : (p : Change → Bool) (c : Change) (cs : List Change) → p c ≡ false → after_first p (c ∷ cs) ≡ after_first p cs
@@ -172,6 +175,8 @@ marked-from_none os (change.Grant by atoms whom option ∷ cs) t h =
     ∙ sym (ap (list_any (grants_on t)) (after_first-skip (creates t) (change.Grant by atoms whom option) cs refl))
 marked-from_none os (change.Revoke by atoms whom ∷ cs) t h =
     marked-from_none os cs t h ∙ sym (ap (list_any (grants_on t)) (after_first-skip (creates t) (change.Revoke by atoms whom) cs refl))
+marked-from_none os (change.RevokeOption by atoms whom ∷ cs) t h =
+    marked-from_none os cs t h ∙ sym (ap (list_any (grants_on t)) (after_first-skip (creates t) (change.RevokeOption by atoms whom) cs refl))
 marked-from_none os (change.Other ∷ cs) t h =
     marked-from_none os cs t h ∙ sym (ap (list_any (grants_on t)) (after_first-skip (creates t) change.Other cs refl))
 
@@ -213,6 +218,7 @@ on-from_change : (t : Name) (n m : ℕ) (c : Change) → list_any (is_on t) (gra
 on-from_change t n m (change.Create name owner) h = h
 on-from_change t n m (change.Grant by atoms whom option) h = on-from_singles t n (record { 0 = m }) by atoms whom option h
 on-from_change t n m (change.Revoke by atoms whom) h = h
+on-from_change t n m (change.RevokeOption by atoms whom) h = h
 on-from_change t n m (change.Other) h = h
 
 change-on : (t : Name) (n m : ℕ) (c : Change) → grants_on t c ≡ true → 0 < made_by c → list_any (is_on t) (grants_of n m c) ≡ true
@@ -220,6 +226,7 @@ change-on t n m (change.Create name owner) h k = h
 change-on t n m (change.Grant by atoms [] option) h k = absurd (omega (arith, mul-zero (length atoms)))
 change-on t n m (change.Grant by atoms (u ∷ us) option) h k = singles-on t n (record { 0 = m }) by atoms u us option h
 change-on t n m (change.Revoke by atoms whom) h k = h
+change-on t n m (change.RevokeOption by atoms whom) h k = h
 change-on t n m (change.Other) h k = h
 
 -- a single grant on a table was made by a grant on it
@@ -258,6 +265,7 @@ creation_grants_none : (t : Name) (c : Change) → creates t c ≡ true → gran
 creation_grants_none t (change.Create name owner) h = refl
 creation_grants_none t (change.Grant by atoms whom option) h = absurd (false≢true h)
 creation_grants_none t (change.Revoke by atoms whom) h = refl
+creation_grants_none t (change.RevokeOption by atoms whom) h = refl
 creation_grants_none t (change.Other) h = refl
 
 granted_once_created : (cs : List Change) (t : Name) → is_granted_uncreated cs t ≡ false → list_any (grants_on t) cs ≡ true → is_granted_once_created cs t ≡ true
@@ -301,7 +309,8 @@ none_may before t by (a ∷ more) uncreated ungranted may =
     let Off : Grant → Type 0 = λ g. is_on t g ≡ false in
     let never : list_any (is_on t) (granted before) ≡ false = false_from_ne_true _ (λ on. both_ways _ ungranted (on-from_granted t 0 1 before on)) in
     let off : AllByRecursion Off (in_force_after before) =
-    All-valid Off (owners_after before) (unstruck_after before) (All-filtered Off (λ g. not (is_struck before g)) (granted before) (none_of (is_on t) (granted before) never)) in
+    All-valid Off (owners_after before) (left_after before)
+    (All-options_off Off (is_unoptioned before) (unstruck_after before) (λ g h. h) (All-filtered Off (λ g. not (is_struck before g)) (granted before) (none_of (is_on t) (granted before) never))) in
     or_from (same_name a.table t) _
     (false_from_ne_true _ (λ (same : same_name a.table t ≡ true).
     let no_owner : owns (owners_after before) by a ≡ false = owns_none (owners_after before) t by a same (has_entry-after [] before t ∙ uncreated) in
@@ -315,6 +324,7 @@ grantable_on before (change.Grant by atoms whom option) after t uncreated ungran
     let May : Atom → Type 0 = λ atom. may_grant (owners_after before) (in_force_after before) by atom ≡ true in
     none_may before t by atoms uncreated ungranted (recursion_from_All May atoms (may before after by atoms whom option refl))
 grantable_on before (change.Revoke by atoms whom) after t uncreated ungranted may = refl
+grantable_on before (change.RevokeOption by atoms whom) after t uncreated ungranted may = refl
 grantable_on before (change.Other) after t uncreated ungranted may = refl
 
 any-last : (p : Change → Bool) (cs : List Change) (c : Change) → list_any p cs ≡ false → p c ≡ false → list_any p (cs ++ c ∷ []) ≡ false

@@ -14,8 +14,9 @@ use Rattle.grants_core.specs.declared.grant.Change.{Change}
 use Rattle.grants_core.specs.declared.grant.Change.TheVariants as change
 use Rattle.grants_core.specs.Valid.{valid, IsPart, nothing, with_first, without_first}
 use Rattle.grants_core.specs.Numbers.{IsNumbered}
-use Rattle.grants_core.specs.Content.{to_each, singles}
-use Rattle.grants_core.specs.History.{made_by, made_by_all, grants_of, granted_from, granted, is_struck, owners_after, unstruck_after, in_force_after}
+use Rattle.grants_core.specs.Content.{to_each, singles, option_off}
+use Rattle.grants_core.specs.History.{made_by, made_by_all, grants_of, granted_from, granted, is_struck, is_unoptioned, owners_after, unstruck_after, left_after, in_force_after}
+use Rattle.grants_core.proofs.OptionLemmas.{All-options_off}
 use Rattle.grants_core.proofs.ValidLemmas.{valid-part}
 
 abbrev number_of : Grant → ℕ
@@ -53,6 +54,7 @@ numbers-grants_of : (n m : ℕ) (c : Change) → map number_of (grants_of n m c)
 numbers-grants_of n m (change.Create table owner) = refl
 numbers-grants_of n m (change.Grant by atoms whom option) = numbers-singles n (record { 0 = m }) by atoms whom option
 numbers-grants_of n m (change.Revoke by atoms whom) = refl
+numbers-grants_of n m (change.RevokeOption by atoms whom) = refl
 numbers-grants_of n m (change.Other) = refl
 
 numbers-granted_from : (n m : ℕ) (cs : List Change) → map number_of (granted_from n m cs) ≡ range_with_len n (made_by_all cs)
@@ -135,11 +137,30 @@ IsNumbered-part n part grants of h =
 pub IsNumbered-valid : (n : ℕ) (o : List Ownership) (grants : List Grant) → IsNumbered n grants → IsNumbered n (valid o grants)
 IsNumbered-valid n o grants h = IsNumbered-part n (valid o grants) grants (valid-part o grants) h
 
+rising-options_off : (test : Grant → Bool) (grants : List Grant) → AllPairs Rises grants → AllPairs Rises (map (option_off test) grants)
+rising-options_off test [] h = h
+rising-options_off test (g ∷ gs) h =
+    let off : Grant = option_off test g in
+    AllPairs-cons Rises off (map (option_off test) gs)
+    (All-from_recursion (Rises off) (map (option_off test) gs)
+    (All-options_off (Rises g) test gs (λ k less. less) (recursion_from_All (Rises g) gs (head_pairs g gs h))))
+    (rising-options_off test gs (tail_pairs g gs h))
+
+-- what is numbered is so without its options
+pub IsNumbered-options_off : (n : ℕ) (test : Grant → Bool) (grants : List Grant) → IsNumbered n grants → IsNumbered n (map (option_off test) grants)
+IsNumbered-options_off n test grants h =
+    let Below : Grant → Type 0 = λ g. g.number < n in
+    record {
+      rising = rising-options_off test grants h.rising;
+      below = All-from_recursion Below (map (option_off test) grants) (All-options_off Below test grants (λ g less. less) (recursion_from_All Below grants h.below));
+    }
+
 -- **so are the grants in force**
 pub IsNumbered-in_force : (cs : List Change) → IsNumbered (made_by_all cs) (in_force_after cs)
 IsNumbered-in_force cs =
-    IsNumbered-valid (made_by_all cs) (owners_after cs) (unstruck_after cs)
-    (IsNumbered-filter (made_by_all cs) (λ g. not (is_struck cs g)) (granted cs) (IsNumbered-granted cs))
+    IsNumbered-valid (made_by_all cs) (owners_after cs) (left_after cs)
+    (IsNumbered-options_off (made_by_all cs) (is_unoptioned cs) (unstruck_after cs)
+    (IsNumbered-filter (made_by_all cs) (λ g. not (is_struck cs g)) (granted cs) (IsNumbered-granted cs)))
 
 rising-append : (xs ys : List Grant) → AllPairs Rises xs → AllPairs Rises ys → AllByRecursion (λ x. All (Rises x) ys) xs → AllPairs Rises (xs ++ ys)
 rising-append [] ys h k across = k

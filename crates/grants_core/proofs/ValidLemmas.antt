@@ -156,7 +156,7 @@ pub valid-filter_valid : (o : List Ownership) (p : Grant → Bool) (grants : Lis
 valid-filter_valid o p grants = replay o p [] grants
 
 -- what is found in a part of a list is found in the list
-list_any-part : (q : Grant → Bool) (xs ys : List Grant) → IsPart xs ys → list_any q xs ≡ true → list_any q ys ≡ true
+pub list_any-part : (q : Grant → Bool) (xs ys : List Grant) → IsPart xs ys → list_any q xs ≡ true → list_any q ys ≡ true
 list_any-part q _ _ nothing h = h
 list_any-part q _ _ (with_first {g = g} {xs = xs} {ys = ys} rest) h =
     ⊎_elim (λ (here : q g ≡ true). or_left _ _ here) (λ (there : list_any q xs ≡ true). or_right _ _ (list_any-part q xs ys rest there)) (or_cases _ _ h)
@@ -168,7 +168,7 @@ supported-part o xs ys part g h =
     (λ (by : list_any (λ k. supports k g) xs ≡ true). or_right _ _ (list_any-part (λ k. supports k g) xs ys part by))
     (or_cases _ _ h)
 
-part-both : (xs ys : List Grant) (g : Grant) → IsPart xs ys → IsPart (xs ++ g ∷ []) (ys ++ g ∷ [])
+pub part-both : (xs ys : List Grant) (g : Grant) → IsPart xs ys → IsPart (xs ++ g ∷ []) (ys ++ g ∷ [])
 part-both _ _ g nothing = with_first nothing
 part-both _ _ g (with_first {xs = xs} {ys = ys} rest) = with_first (part-both xs ys g rest)
 part-both xs _ g (without_first {ys = ys} rest) = without_first (part-both xs ys g rest)
@@ -178,7 +178,7 @@ part-more _ _ g nothing = without_first nothing
 part-more _ _ g (with_first {xs = xs} {ys = ys} rest) = with_first (part-more xs ys g rest)
 part-more xs _ g (without_first {ys = ys} rest) = without_first (part-more xs ys g rest)
 
-part-kept_more : (o : List Ownership) (xs ys : List Grant) (g : Grant) → IsPart xs ys → IsPart xs (kept_with o ys g)
+pub part-kept_more : (o : List Ownership) (xs ys : List Grant) (g : Grant) → IsPart xs ys → IsPart xs (kept_with o ys g)
 part-kept_more o xs ys g part =
     elim (is_supported o ys g) as (λ b. IsPart xs (cond b (ys ++ g ∷ []) ys)) [ true ↦ part-more xs ys g part | false ↦ part ]
 

@@ -1,5 +1,5 @@
 -- What an authority contains, what it says of a user, and what each change makes of it.
-use Rattle.std.specs.Prelude.{ℕ, ◌+◌, ◌*◌, Bool, not, ◌&&◌, ◌||◌, List, [], ◌∷◌, ◌++◌, length, filter, count_by}
+use Rattle.std.specs.Prelude.{ℕ, ◌+◌, ◌*◌, Bool, not, ◌&&◌, ◌||◌, List, [], ◌∷◌, ◌++◌, length, map, filter, count_by}
 use Rattle.std.specs.List.{list_any}
 use Rattle.base_core.specs.Users.{same_user}
 use Rattle.base_core.specs.declared.name.Name.{Name}
@@ -36,6 +36,11 @@ may_grant owners grants user atom =
 abbrev pub has_made : List Grant → User → User → Atom → Bool
 has_made grants by user atom = list_any (λ g. same_user g.grantor by && gives user atom g) grants
 
+-- u made an atom to v with the option if such a grant in force by u gives it to v
+abbrev pub has_optioned : List Grant → User → User → Atom → Bool
+has_optioned grants by user atom =
+    list_any (λ g. g.option && same_user g.grantor by && gives user atom g) grants
+
 -- how many of the grants are of the atom
 abbrev pub count_of : List Grant → Atom → ℕ
 count_of grants atom = count_by (λ g. same_atom g.atom atom) grants
@@ -66,6 +71,14 @@ names by atoms whom g =
 abbrev pub without : User → List Atom → List User → List Grant → List Grant
 without by atoms whom grants = filter (λ g. not (names by atoms whom g)) grants
 
+-- the grant, without its option where the test holds; one that has none stays as it is
+abbrev pub option_off : (Grant → Bool) → Grant → Grant
+option_off test g = record g { option = g.option && not (test g) }
+
+-- the grants, those that it names without their option
+abbrev pub options_off : User → List Atom → List User → List Grant → List Grant
+options_off by atoms whom grants = map (option_off (names by atoms whom)) grants
+
 -- the table has this owner
 abbrev pub after_create : Content → Name → User → Content
 after_create c table user = record c { owners = with_owner table user c.owners }
@@ -83,3 +96,9 @@ after_grant c by atoms whom option at = record {
 abbrev pub after_revoke : Content → User → List Atom → List User → Content
 after_revoke c by atoms whom =
     record c { in_force = valid c.owners (without by atoms whom c.in_force) }
+
+-- the options of the named come off first, and the grants themselves stay: those are in force that
+-- would be if the revoked options had never been given
+abbrev pub after_revoke_option : Content → User → List Atom → List User → Content
+after_revoke_option c by atoms whom =
+    record c { in_force = valid c.owners (options_off by atoms whom c.in_force) }

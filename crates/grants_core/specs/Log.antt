@@ -1,4 +1,5 @@
--- The log of grants: each that was made, with whether it was struck.
+-- The log of grants: each that was made, with whether it was struck, and with its option where
+-- that was not revoked.
 use Rattle.std.specs.Prelude.{Bool, false, not, ◌&&◌, ◌==◌, List, map, filter}
 use Rattle.std.specs.Bool.{beq}
 use Rattle.base_core.specs.Users.{same_user}

@@ -20,6 +20,7 @@ abbrev pub creates : Name → Change → Bool
 creates table (change.Create name owner) = same_name name table
 creates table (change.Grant by atoms whom option) = false
 creates table (change.Revoke by atoms whom) = false
+creates table (change.RevokeOption by atoms whom) = false
 creates table change.Other = false
 
 -- whether a change grants an atom of the table, even to nobody
@@ -28,6 +29,7 @@ grants_on table (change.Create name owner) = false
 grants_on table (change.Grant by atoms whom option) =
     list_any (λ a. same_name a.table table) atoms
 grants_on table (change.Revoke by atoms whom) = false
+grants_on table (change.RevokeOption by atoms whom) = false
 grants_on table change.Other = false
 
 -- whether a change grants on the table after the first that creates it

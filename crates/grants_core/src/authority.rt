@@ -2,7 +2,7 @@
 ghost use Rattle.std.specs.Prelude.{◌≡◌, ◌+◌, ◌*◌, ◌^◌, ◌<◌, ◌≤◌, ◌↔◌, true, false, length, All, IsTrue, OnOk, OnErr, IfOk};
 ghost use Rattle.grants_core.specs.Numbers.{IsNumbered};
 ghost use Rattle.grants_core.specs.Owners.{was_granted};
-ghost use Rattle.grants_core.specs.Content.{Content, after_create, after_grant, after_revoke, holds, may_grant, has_made, count_of};
+ghost use Rattle.grants_core.specs.Content.{Content, after_create, after_grant, after_revoke, after_revoke_option, holds, may_grant, has_made, has_optioned, count_of};
 
 use crate::grant::Grant;
 use base_core::{Atom, Moment, Name, NoMemory, User};
@@ -45,6 +45,13 @@ pub trait Authority {
     fn revoke(&mut self, by: User, atoms: &[Atom], whom: &[User])
         ensures { content self.new ≡ after_revoke (content self.old) by atoms.now whom.now };
 
+    /// Takes the option off each grant of the atoms by the one user to the others; the grants
+    /// themselves stay. Afterwards exactly those grants are in force that could have been made
+    /// without these options. Where no grant with the option is named, nothing changes.
+    fn revoke_option(&mut self, by: User, atoms: &[Atom], whom: &[User])
+        ensures { content self.new
+            ≡ after_revoke_option (content self.old) by atoms.now whom.now };
+
     /// Whether the user owns the table or a grant in force gives him the atom.
     fn holds(&self, user: User, atom: &Atom) -> bool
         ensures { result
@@ -58,6 +65,10 @@ pub trait Authority {
     /// Whether a grant of the atom by the one user to the other is in force.
     fn has_made(&self, by: User, user: User, atom: &Atom) -> bool
         ensures { result ≡ has_made (content self.now).in_force by user atom.now };
+
+    /// Whether a grant of the atom by the one user to the other is in force with the option.
+    fn has_optioned(&self, by: User, user: User, atom: &Atom) -> bool
+        ensures { result ≡ has_optioned (content self.now).in_force by user atom.now };
 
     /// Whether the grants of the atom in force are, with so many more, at most `limit`.
     fn room(&self, atom: &Atom, more: u64, limit: u64) -> bool

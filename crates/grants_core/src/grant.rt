@@ -51,5 +51,11 @@ pub enum Change {
         atoms: Sequence<Atom>,
         whom: Sequence<User>,
     },
+    /// Takes the option off the grants that it names, and leaves the grants.
+    RevokeOption {
+        by: User,
+        atoms: Sequence<Atom>,
+        whom: Sequence<User>,
+    },
     Other,
 }

@@ -1,10 +1,10 @@
-//! Lists of grants: what is added, what a revocation takes out, and what is then valid.
+//! Lists of grants: what is added, what a revocation takes out or off, and what is then valid.
 ghost use Rattle.std.specs.Prelude.{◌≡◌, ◌≤◌, ◌^◌, ◌++◌, ◌&&◌, count_by, length, take, OnOk, OnErr};
 ghost use Rattle.std.specs.List.{list_any};
 ghost use Rattle.base_core.specs.Privileges.{same_atom};
 ghost use Rattle.base_core.specs.Users.{same_user};
 ghost use Rattle.grants_core.specs.Valid.{valid, supports, is_supported};
-ghost use Rattle.grants_core.specs.Content.{gives, singles, without};
+ghost use Rattle.grants_core.specs.Content.{gives, singles, without, options_off};
 
 use crate::grant::Grant;
 use crate::owners::Owners;
@@ -39,6 +39,15 @@ pub fn remove_named(grants: &mut Vec<Grant>, by: &User, atoms: &[Atom], whom: &[
     ensures { grants.new.items ≡ without by.now atoms.now whom.now grants.old.items }
 {
     grants.retain(|grant| !grant.is_named(by, atoms, whom));
+}
+
+/// Takes the option off what a revocation by this user of these atoms from these users names.
+pub fn take_named_options(grants: &mut [Grant], by: &User, atoms: &[Atom], whom: &[User])
+    ensures { grants.new ≡ options_off by.now atoms.now whom.now grants.old }
+{
+    for one in grants.iter_mut() {
+        one.option &= !one.is_named(by, atoms, whom);
+    }
 }
 
 // Whether one of them supports the grant.
@@ -102,6 +111,15 @@ pub fn any_made(grants: &[Grant], by: &User, user: &User, atom: &Atom) -> bool
     grants
         .iter()
         .any(|one| one.grantor == *by && one.gives(user, atom))
+}
+
+/// Whether one of them is of the atom, by the one user to the other, with the option.
+pub fn any_optioned(grants: &[Grant], by: &User, user: &User, atom: &Atom) -> bool
+    ensures { result
+        ≡ list_any (λ g. g.option && same_user g.grantor by.now && gives user.now atom.now g)
+        grants.now }
+{
+    grants.iter().any(|one| one.option && one.grantor == *by && one.gives(user, atom))
 }
 
 /// How many of them are of the atom.

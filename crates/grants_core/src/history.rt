@@ -1,12 +1,13 @@
 //! What a list of changes leaves in force.
-ghost use Rattle.std.specs.Prelude.{◌≡◌, ◌+◌, ◌++◌, ◌<◌, ◌↔◌, not, filter, length, All, IsTrue, OnOk, IfOk};
+ghost use Rattle.std.specs.Prelude.{◌≡◌, ◌+◌, ◌++◌, ◌<◌, ◌↔◌, not, filter, map, length, All, IsTrue, OnOk, IfOk};
 ghost use Rattle.std.specs.Cmp.Lexicographic.{pointwise};
 ghost use Rattle.grants_core.specs.Log.{unstruck, same_grant};
-ghost use Rattle.grants_core.specs.History.{owners_with, is_struck_by, grants_of, made_by, in_force_after};
+ghost use Rattle.grants_core.specs.Content.{option_off};
+ghost use Rattle.grants_core.specs.History.{owners_with, is_struck_by, is_unoptioned_by, grants_of, made_by, in_force_after};
 
 use crate::grant::{Change, Grant};
 use crate::grants::keep_valid;
-use crate::log::{LoggedGrant, log_singles, strike, unstruck};
+use crate::log::{LoggedGrant, log_singles, strike, take_options, unstruck};
 use crate::owners::Owners;
 use base_core::{Moment, NoMemory};
 use std::alloc::Global;
@@ -23,7 +24,8 @@ fn apply(
     ensures owners { OnOk result (owners.new ≡ owners_with owners.old change.now) }
     ensures unstruck { OnOk result
         (unstruck made.new.items
-        ≡ filter (λ g. not (is_struck_by moment.0 change.now g)) (unstruck made.old.items)
+        ≡ map (option_off (is_unoptioned_by moment.0 change.now))
+        (filter (λ g. not (is_struck_by moment.0 change.now g)) (unstruck made.old.items))
         ++ grants_of (length made.old.items) moment.0 change.now) }
     ensures made { OnOk result
         (length made.new.items ≡ length made.old.items + made_by change.now) }
@@ -42,6 +44,9 @@ fn apply(
         }
         Change::Revoke { by, atoms, whom } => {
             strike(made, by, atoms.as_slice(), whom.as_slice());
+        }
+        Change::RevokeOption { by, atoms, whom } => {
+            take_options(made, by, atoms.as_slice(), whom.as_slice());
         }
         Change::Other => {}
     }

@@ -1,14 +1,15 @@
 //! Laws of the grants in force, each the contract of a function that does nothing.
-ghost use Rattle.std.specs.Prelude.{◌≡◌, ℕ, ◌+◌, ◌++◌, ◌∷◌, [], Bool, true, false, List, filter, map, length, All, ◌↔◌};
+ghost use Rattle.std.specs.Prelude.{◌≡◌, ℕ, ◌+◌, ◌++◌, ◌∷◌, [], Bool, true, false, ◌&&◌, List, filter, map, length, All, ◌↔◌};
 ghost use Rattle.std.specs.List.{range_with_len};
 ghost use Rattle.base_core.specs.declared.name.Name.{Name};
 ghost use Rattle.base_core.specs.declared.name.User.{User};
 ghost use Rattle.base_core.specs.declared.privilege.Atom.{Atom};
+ghost use Rattle.base_core.specs.Users.{same_user};
 ghost use Rattle.grants_core.specs.declared.grant.Grant.{Grant};
 ghost use Rattle.grants_core.specs.declared.grant.Ownership.{Ownership};
 ghost use Rattle.grants_core.specs.declared.grant.Change.{Change};
 ghost use Rattle.grants_core.specs.Valid.{valid, is_supported, IsPart, IsInOrder, AreSupported};
-ghost use Rattle.grants_core.specs.Content.{may_grant, names, after_create, after_grant, after_revoke};
+ghost use Rattle.grants_core.specs.Content.{holds, may_grant, has_made, names, option_off, options_off, after_create, after_grant, after_revoke, after_revoke_option};
 ghost use Rattle.grants_core.specs.Numbers.{IsNumbered};
 ghost use Rattle.grants_core.specs.History.{granted, made_by_all, is_granted, owners_after, in_force_after, content_after};
 ghost use Rattle.grants_core.specs.Marks.{is_marked, is_granted_once_created, is_granted_uncreated, AreToSomebody, AreGrantable};
@@ -25,6 +26,13 @@ pub fn valid_of_a_part()
 pub fn valid_of_the_valid()
     ensures { (owners : List Ownership) (p : Grant → Bool) (grants : List Grant)
         → valid owners (filter p (valid owners grants)) ≡ valid owners (filter p grants) }
+{}
+
+/// Options may come off the valid grants or off all: the same ones are then valid.
+pub fn valid_without_options()
+    ensures { (owners : List Ownership) (test : Grant → Bool) (grants : List Grant)
+        → valid owners (map (option_off test) (valid owners grants))
+        ≡ valid owners (map (option_off test) grants) }
 {}
 
 /// Of each valid grant, and so of each grant in force, the grantor owns the table, or another such
@@ -77,6 +85,14 @@ pub fn after_a_revocation()
         ≡ after_revoke (content_after changes) by atoms whom }
 {}
 
+/// A revocation of the option leaves in force exactly the valid ones of the grants in force once
+/// the options of those that it names are off.
+pub fn after_an_option_revocation()
+    ensures { (changes : List Change) (by : User) (atoms : List Atom) (whom : List User)
+        → content_after (changes ++ Change.RevokeOption by atoms whom ∷ [])
+        ≡ after_revoke_option (content_after changes) by atoms whom }
+{}
+
 /// Another change leaves everything as it was.
 pub fn after_another_change()
     ensures { (changes : List Change)
@@ -122,4 +138,38 @@ pub fn unnamed_is_needless()
     ensures { (changes : List Change) (by : User) (atoms : List Atom) (whom : List User)
         → (after_revoke (content_after changes) by atoms whom ≡ content_after changes)
         ↔ All (λ g. names by atoms whom g ≡ false) (in_force_after changes) }
+{}
+
+/// A revocation of the option changes nothing exactly where it names no grant in force with the
+/// option.
+pub fn unoptioned_is_needless()
+    ensures { (changes : List Change) (by : User) (atoms : List Atom) (whom : List User)
+        → (after_revoke_option (content_after changes) by atoms whom ≡ content_after changes)
+        ↔ All (λ g. (g.option && names by atoms whom g) ≡ false) (in_force_after changes) }
+{}
+
+/// A revocation of the option takes no grant of the user who revokes it: each stays in force, and
+/// those that it names stay without their option. So whomever he gave a right still holds it.
+pub fn named_keep_the_right()
+    ensures stay { (changes : List Change) (by : User) (atoms : List Atom) (whom : List User)
+        → IsPart (options_off by atoms whom
+        (filter (λ g. same_user g.grantor by) (in_force_after changes)))
+        (in_force_after (changes ++ Change.RevokeOption by atoms whom ∷ [])) }
+    ensures named { (changes : List Change) (by : User) (atoms : List Atom) (whom : List User)
+        → IsPart (map {A = Grant} (λ g. record g { option = false })
+        (filter (names by atoms whom) (in_force_after changes)))
+        (in_force_after (changes ++ Change.RevokeOption by atoms whom ∷ [])) }
+    ensures holds { (changes : List Change) (by : User) (atoms : List Atom) (whom : List User)
+        (user : User) (atom : Atom)
+        → has_made (in_force_after changes) by user atom ≡ true
+        → holds (owners_after (changes ++ Change.RevokeOption by atoms whom ∷ []))
+        (in_force_after (changes ++ Change.RevokeOption by atoms whom ∷ [])) user atom ≡ true }
+{}
+
+/// A revocation of the option takes no more than one of the grants themselves: what is in force
+/// after the latter is in force after the former too.
+pub fn option_takes_no_more()
+    ensures { (changes : List Change) (by : User) (atoms : List Atom) (whom : List User)
+        → IsPart (in_force_after (changes ++ Change.Revoke by atoms whom ∷ []))
+        (in_force_after (changes ++ Change.RevokeOption by atoms whom ∷ [])) }
 {}

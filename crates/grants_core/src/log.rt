@@ -1,6 +1,7 @@
-//! The log of grants: each that was made, with whether it was struck.
+//! The log of grants: each that was made, with whether it was struck, and with its option where
+//! that was not revoked.
 ghost use Rattle.std.specs.Prelude.{◌≡◌, ◌+◌, ◌++◌, length, map, OnOk, OnErr, IfOk};
-ghost use Rattle.grants_core.specs.Content.{singles, without};
+ghost use Rattle.grants_core.specs.Content.{singles, without, options_off};
 ghost use Rattle.grants_core.specs.Log.{unstruck, logged};
 
 use crate::grant::Grant;
@@ -8,7 +9,8 @@ use crate::singles::single_grants;
 use base_core::{Atom, Moment, NoMemory, User};
 use std::alloc::Global;
 
-/// A grant that was made, and whether a later revocation named it.
+/// A grant that was made, and whether a later revocation named it. Its option is gone where a later
+/// revocation of the option named it.
 #[derive(Clone, Copy)]
 pub struct LoggedGrant {
     pub grant: Grant,
@@ -57,6 +59,15 @@ pub fn strike(made: &mut [LoggedGrant], by: &User, atoms: &[Atom], whom: &[User]
 {
     for one in made.iter_mut() {
         one.struck |= one.grant.is_named(by, atoms, whom);
+    }
+}
+
+/// Takes the option off what a revocation by this user of these atoms from these users names.
+pub fn take_options(made: &mut [LoggedGrant], by: &User, atoms: &[Atom], whom: &[User])
+    ensures { unstruck made.new ≡ options_off by.now atoms.now whom.now (unstruck made.old) }
+{
+    for one in made.iter_mut() {
+        one.grant.option &= !one.grant.is_named(by, atoms, whom);
     }
 }
 

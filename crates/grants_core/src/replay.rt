@@ -5,7 +5,8 @@ ghost use Rattle.std.specs.Prelude.{◌≡◌, []};
 use crate::authority::Authority;
 use crate::grant::Grant;
 use crate::grants::{
-    any_gives, any_gives_option, any_made, append, count_of, keep_valid, remove_named,
+    any_gives, any_gives_option, any_made, any_optioned, append, count_of, keep_valid,
+    remove_named, take_named_options,
 };
 use crate::owners::Owners;
 use base_core::{Atom, Moment, Name, NoMemory, User};
@@ -75,6 +76,11 @@ impl Authority for Replay {
         keep_valid(&self.owners, &mut self.in_force);
     }
 
+    fn revoke_option(&mut self, by: User, atoms: &[Atom], whom: &[User]) {
+        take_named_options(&mut self.in_force, &by, atoms, whom);
+        keep_valid(&self.owners, &mut self.in_force);
+    }
+
     fn holds(&self, user: User, atom: &Atom) -> bool {
         self.owners.owns(&user, atom) || any_gives(&self.in_force, &user, atom)
     }
@@ -85,6 +91,10 @@ impl Authority for Replay {
 
     fn has_made(&self, by: User, user: User, atom: &Atom) -> bool {
         any_made(&self.in_force, &by, &user, atom)
+    }
+
+    fn has_optioned(&self, by: User, user: User, atom: &Atom) -> bool {
+        any_optioned(&self.in_force, &by, &user, atom)
     }
 
     fn room(&self, atom: &Atom, more: u64, limit: u64) -> bool {

@@ -30,7 +30,7 @@ any_without : (p : Link → Bool) (before : List Link) (e : Link) (after : List 
 any_without p [] e after h = sym (ap (λ b. b || list_any p after) h)
 any_without p (x ∷ xs) e after h = ap (λ b. p x || b) (any_without p xs e after h)
 
-other_unsupported : (a : ℕ) (e l : Link) → e.atom ≡ a → (l.atom == a) ≡ false → link_supports e l ≡ false
+pub other_unsupported : (a : ℕ) (e l : Link) → e.atom ≡ a → (l.atom == a) ≡ false → link_supports e l ≡ false
 other_unsupported a e l same other = false_from_ne_true _ (λ h. both_ways _ other (eq-eqb l.atom a (sym (supports-own e l h) ∙ same)))
 
 pub falls_others : (o : Option ℕ) (a : ℕ) (xs ys : List Link) → Falls o a xs ys → (l : Link) → (l.atom == a) ≡ false → list_any (λ h. link_supports h l) ys ≡ list_any (λ h. link_supports h l) xs
@@ -100,9 +100,13 @@ module _ (indexed : Indexed) (apart : AreApart indexed) where
         step l true of w h = or_left _ _ (sym (supported_carried xs l upheld.within w (eqb-true l.atom a of)) ∙ h)
         step l false other w h = or_right (is_link_supported owner xs l) _ (ap not other)
 
-    -- **where a privilege's links fell that lost their support, all grants have support**
-    pub supported_over : (old new : List Link) (q : Link → Bool) → ((l : Link) → q l ≡ true → l.atom ≡ a) → AreUpheld indexed owners old → Falls owner a (filter (λ l. not (q l)) old) new → SupportedBut owner new (is_of_another a) → AreSupported owners (grants_of indexed new) (grants_of indexed new)
-    supported_over old new q of_it upheld falls supported =
+    -- **where a privilege's links changed, and those fell that lost their support, all grants have
+    -- support**
+    pub supported_from : (old left new : List Link) → AreUpheld indexed owners old → AllByRecursion (IsWithin indexed) left
+        → AllByRecursion (λ l. is_supported owners (grants_of indexed old) (grant_of indexed l) ≡ true) left
+        → ((l : Link) → (l.atom == a) ≡ false → list_any (λ h. link_supports h l) left ≡ list_any (λ h. link_supports h l) old)
+        → Falls owner a left new → SupportedBut owner new (is_of_another a) → AreSupported owners (grants_of indexed new) (grants_of indexed new)
+    supported_from old left new upheld within_left had_left others falls supported =
         all_over (grant_of indexed) (λ g. is_supported owners (grants_of indexed new) g ≡ true) new
         (all_two (IsWithin indexed) Kept (λ l. is_supported owners (grants_of indexed new) (grant_of indexed l) ≡ true) new (λ l w k. step l (l.atom == a) refl w k) within
         (all_two Had (λ l. (is_link_supported owner new l || is_of_another a l) ≡ true) Kept new (λ l h s. (h, s)) had supported))
@@ -113,21 +117,27 @@ module _ (indexed : Indexed) (apart : AreApart indexed) where
         Kept : Link → Type 0
         Kept l = Had l × ((is_link_supported owner new l || is_of_another a l) ≡ true)
 
-        left : List Link
-        left = filter (λ l. not (q l)) old
-
         within : AllByRecursion (IsWithin indexed) new
-        within = falls_all (IsWithin indexed) owner a left new falls (all_filtered (IsWithin indexed) (λ l. not (q l)) old upheld.within)
+        within = falls_all (IsWithin indexed) owner a left new falls within_left
 
         had : AllByRecursion Had new
-        had = falls_all Had owner a left new falls (all_filtered Had (λ l. not (q l)) old (all_under (grant_of indexed) (λ g. is_supported owners (grants_of indexed old) g ≡ true) old upheld.supported))
+        had = falls_all Had owner a left new falls had_left
 
         step : (l : Link) (t : Bool) → (l.atom == a) ≡ t → IsWithin indexed l → Kept l → is_supported owners (grants_of indexed new) (grant_of indexed l) ≡ true
         step l true of w k =
             supported_carried new l within w (eqb-true l.atom a of)
             ∙ ⊎_elim (λ (is : is_link_supported owner new l ≡ true). is) (λ (other : is_of_another a l ≡ true). absurd (false≢true (sym (ap not of) ∙ other))) (or_cases _ _ k.1)
         step l false other w k =
-            let p : Link → Bool = λ h. link_supports h l in
             ap (λ b. owns owners (user_at indexed l.grantor) (atom_at indexed l.atom) || b)
-            (any_carried new l within w ∙ falls_others owner a left new falls l other ∙ any_filtered p q old (λ h here. other_unsupported a h l (of_it h here) other) ∙ sym (any_carried old l upheld.within w))
+            (any_carried new l within w ∙ falls_others owner a left new falls l other ∙ others l other ∙ sym (any_carried old l upheld.within w))
             ∙ k.0
+
+    pub supported_over : (old new : List Link) (q : Link → Bool) → ((l : Link) → q l ≡ true → l.atom ≡ a) → AreUpheld indexed owners old → Falls owner a (filter (λ l. not (q l)) old) new → SupportedBut owner new (is_of_another a) → AreSupported owners (grants_of indexed new) (grants_of indexed new)
+    supported_over old new q of_it upheld falls supported =
+        let Had : Link → Type 0 = λ l. is_supported owners (grants_of indexed old) (grant_of indexed l) ≡ true in
+        let stays : Link → Bool = λ l. not (q l) in
+        supported_from old (filter stays old) new upheld
+        (all_filtered (IsWithin indexed) stays old upheld.within)
+        (all_filtered Had stays old (all_under (grant_of indexed) (λ g. is_supported owners (grants_of indexed old) g ≡ true) old upheld.supported))
+        (λ l other. any_filtered (λ h. link_supports h l) q old (λ h here. other_unsupported a h l (of_it h here) other))
+        falls supported

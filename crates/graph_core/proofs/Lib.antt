@@ -8,5 +8,6 @@ pub mod NumberLemmas
 pub mod PruningLemmas
 pub mod FallLemmas
 pub mod NamedLemmas
+pub mod OptionLemmas
 pub mod MarkedLemmas
 pub mod SoundLemmas

@@ -86,7 +86,7 @@ revoked-atom o by atom rest whom now new is =
     valid_then o (λ g. not (names by (atom ∷ []) whom g)) (λ g. not (names by rest whom g)) (λ g. not (names by (atom ∷ rest) whom g))
     (λ g. first_atom (same_user by g.grantor) (same_atom atom g.atom) (list_any (λ a. same_atom a g.atom) rest) (list_any (λ u. same_user u g.grantee) whom)) now new is
 
-all_grants : (P : Grant → Type 0) (gs : List Grant) → ((g : Grant) → P g) → AllByRecursion P gs
+pub all_grants : (P : Grant → Type 0) (gs : List Grant) → ((g : Grant) → P g) → AllByRecursion P gs
 all_grants P [] f = tt
 all_grants P (g ∷ gs) f = (f g, all_grants P gs f)
 
@@ -95,7 +95,7 @@ pub without-nobody : (by : User) (atoms : List Atom) (gs : List Grant) → witho
 unfolding names
 without-nobody by atoms gs = none_gone (names by atoms []) gs (all_grants (λ g. names by atoms [] g ≡ false) gs (λ g. and_false (same_user by g.grantor && list_any (λ a. same_atom a g.atom) atoms)))
 
-no_atom : (u w : Bool) → ((u && false) && w) ≡ false
+pub no_atom : (u w : Bool) → ((u && false) && w) ≡ false
 no_atom true w = refl
 no_atom false w = refl
 
@@ -129,18 +129,23 @@ owns_by owners user atom found is = ap (λ (k : Option User). elim k as (λ _. B
     by None = refl
     by (Some owner) = turned_user owner user
 
-pub unnamed_by : (indexed : Indexed) (owners : List Ownership) (by : User) (atoms : List Atom) (whom : List User) (links : List Link) → AreUpheld indexed owners links → IsUserIndex indexed by None → grants_of indexed links ≡ valid owners (without by atoms whom (grants_of indexed links))
+-- where the grantor has no index, or the privilege has none, no grant is named
+pub never_by : (indexed : Indexed) (by : User) (atoms : List Atom) (whom : List User) → IsUserIndex indexed by None → (l : Link) → IsWithin indexed l → names by atoms whom (grant_of indexed l) ≡ false
 unfolding names
-unnamed_by indexed owners by atoms whom links upheld missing =
-    unnamed indexed owners by atoms whom links upheld
-    (λ l w. ap (λ b. (b && list_any (λ a. same_atom a (atom_at indexed l.atom)) atoms) && list_any (λ u. same_user u (user_at indexed l.grantee)) whom) (turned_user by (user_at indexed l.grantor) ∙ missing l.grantor w.grantor))
+never_by indexed by atoms whom missing l w =
+    ap (λ b. (b && list_any (λ a. same_atom a (atom_at indexed l.atom)) atoms) && list_any (λ u. same_user u (user_at indexed l.grantee)) whom) (turned_user by (user_at indexed l.grantor) ∙ missing l.grantor w.grantor)
+
+pub never_atom : (indexed : Indexed) (by : User) (atom : Atom) (whom : List User) → IsAtomIndex indexed atom None → (l : Link) → IsWithin indexed l → names by (atom ∷ []) whom (grant_of indexed l) ≡ false
+unfolding names
+never_atom indexed by atom whom missing l w =
+    ap (λ b. (same_user by (user_at indexed l.grantor) && (b || false)) && list_any (λ u. same_user u (user_at indexed l.grantee)) whom) (same_atom-flip atom (atom_at indexed l.atom) ∙ missing l.atom w.atom)
+    ∙ no_atom (same_user by (user_at indexed l.grantor)) (list_any (λ u. same_user u (user_at indexed l.grantee)) whom)
+
+pub unnamed_by : (indexed : Indexed) (owners : List Ownership) (by : User) (atoms : List Atom) (whom : List User) (links : List Link) → AreUpheld indexed owners links → IsUserIndex indexed by None → grants_of indexed links ≡ valid owners (without by atoms whom (grants_of indexed links))
+unnamed_by indexed owners by atoms whom links upheld missing = unnamed indexed owners by atoms whom links upheld (never_by indexed by atoms whom missing)
 
 pub unnamed_atom : (indexed : Indexed) (owners : List Ownership) (by : User) (atom : Atom) (whom : List User) (links : List Link) → AreUpheld indexed owners links → IsAtomIndex indexed atom None → grants_of indexed links ≡ valid owners (without by (atom ∷ []) whom (grants_of indexed links))
-unfolding names
-unnamed_atom indexed owners by atom whom links upheld missing =
-    unnamed indexed owners by (atom ∷ []) whom links upheld
-    (λ l w. ap (λ b. (same_user by (user_at indexed l.grantor) && (b || false)) && list_any (λ u. same_user u (user_at indexed l.grantee)) whom) (same_atom-flip atom (atom_at indexed l.atom) ∙ missing l.atom w.atom)
-    ∙ no_atom (same_user by (user_at indexed l.grantor)) (list_any (λ u. same_user u (user_at indexed l.grantee)) whom))
+unnamed_atom indexed owners by atom whom links upheld missing = unnamed indexed owners by (atom ∷ []) whom links upheld (never_atom indexed by atom whom missing)
 
 single : (u a w : Bool) → ((u && (a || false)) && (w || false)) ≡ (u && (a && w))
 single true true true = refl
@@ -149,7 +154,7 @@ single true false w = refl
 single false a w = refl
 
 -- what a revocation of one privilege from one user names, by their indices
-named_between : (indexed : Indexed) (by user : User) (atom : Atom) (b : ℕ) (u : Option ℕ) (a : ℕ) → IsUserIndex indexed by (Some b) → IsUserIndex indexed user u → IsAtomIndex indexed atom (Some a) → (l : Link) → IsWithin indexed l → names by (atom ∷ []) (user ∷ []) (grant_of indexed l) ≡ is_between b u a l
+pub named_between : (indexed : Indexed) (by user : User) (atom : Atom) (b : ℕ) (u : Option ℕ) (a : ℕ) → IsUserIndex indexed by (Some b) → IsUserIndex indexed user u → IsAtomIndex indexed atom (Some a) → (l : Link) → IsWithin indexed l → names by (atom ∷ []) (user ∷ []) (grant_of indexed l) ≡ is_between b u a l
 unfolding names
 named_between indexed by user atom b u a by_is user_is atom_is l w =
     single (same_user by (user_at indexed l.grantor)) (same_atom atom (atom_at indexed l.atom)) (same_user user (user_at indexed l.grantee))
@@ -157,7 +162,7 @@ named_between indexed by user atom b u a by_is user_is atom_is l w =
     ∙ ap (λ t. (l.grantor == b) && (t && same_user user (user_at indexed l.grantee))) (same_atom-flip atom (atom_at indexed l.atom) ∙ atom_is l.atom w.atom)
     ∙ ap (λ t. (l.grantor == b) && ((l.atom == a) && t)) (turned_user user (user_at indexed l.grantee) ∙ user_is l.grantee w.grantee)
 
-between-atom : (b : ℕ) (u : Option ℕ) (a : ℕ) (l : Link) → is_between b u a l ≡ true → l.atom ≡ a
+pub between-atom : (b : ℕ) (u : Option ℕ) (a : ℕ) (l : Link) → is_between b u a l ≡ true → l.atom ≡ a
 between-atom b u a l h = eqb-true l.atom a (and_parts _ _ (and_parts _ _ h).1).0
 
 -- **a revocation of one privilege from one user**

@@ -56,7 +56,7 @@ supports-from : (e l : Link) → e.option ≡ true → e.moment.0 < l.moment.0 �
 unfolding goes_to
 supports-from e l option early atom user = and_from _ _ (and_from _ _ option (lt-ltb e.moment.0 l.moment.0 early)) (and_from _ _ (eq-eqb e.atom l.atom atom) (eq-eqb e.grantee l.grantor user))
 
-supports-comes_from : (atom : ℕ) (e l : Link) → e.atom ≡ atom → link_supports e l ≡ true → comes_from e.grantee atom l ≡ true
+pub supports-comes_from : (atom : ℕ) (e l : Link) → e.atom ≡ atom → link_supports e l ≡ true → comes_from e.grantee atom l ≡ true
 unfolding comes_from
 supports-comes_from atom e l same h =
     let parts = supports-parts e l h in
@@ -107,7 +107,7 @@ AreInOrder-filter p (x ∷ xs) h = elim (p x) as (λ b. AreInOrder (cond b (x �
   | false ↦ AreInOrder-filter p xs h.1
 ]
 
-between-parts : (by user a : ℕ) (l : Link) → is_between by (Some user) a l ≡ true → (l.atom ≡ a) × (l.grantee ≡ user)
+pub between-parts : (by user a : ℕ) (l : Link) → is_between by (Some user) a l ≡ true → (l.atom ≡ a) × (l.grantee ≡ user)
 between-parts by user a l h =
     let rest = and_parts _ _ (and_parts _ _ h).1 in
     (eqb-true l.atom a rest.0, eqb-true l.grantee user rest.1)

@@ -8,11 +8,12 @@ use Rattle.base_core.specs.declared.privilege.Atom.{Atom}
 use Rattle.base_core.specs.declared.value.Moment.{Moment}
 use Rattle.grants_core.specs.Owners.{with_owner, with_granted, was_granted}
 use Rattle.grants_core.specs.Valid.{valid, IsInOrder, AreSupported}
-use Rattle.grants_core.specs.Content.{Content, names, without, may_grant, singles}
+use Rattle.grants_core.specs.Content.{Content, names, without, options_off, may_grant, singles}
 use Rattle.grants_core.specs.declared.grant.Grant.{Grant}
 use Rattle.grants_core.specs.declared.grant.Ownership.{Ownership}
 use Rattle.grants_core.proofs.OwnersLemmas.{alike-with_granted, AllByRecursion-append, singles-all}
 use Rattle.grants_core.proofs.ValidLemmas.{AreSupported-more, AreSupported-append, supported-append}
+use Rattle.grants_core.proofs.OptionLemmas.{All-options_off}
 use Rattle.grants_core.proofs.GrantLemmas.{All-implied, All-filtered, All-valid, singles-supported}
 use Rattle.graph_core.specs.Revocation.{IsSound}
 use Rattle.graph_core.proofs.MarkedLemmas.{AreMarked, AreSupported-owners, alike-with_owner, AreMarked-with_owner, AreMarked-with_granted, singles-marked}
@@ -31,6 +32,11 @@ pub AreMarked-revoked : (os : List Ownership) (edges : List Grant) (by : User) (
 AreMarked-revoked os edges by atoms whom h =
     let P : Grant → Type 0 = λ g. was_granted os g.atom.table ≡ true in
     All-valid P os (without by atoms whom edges) (All-filtered P (λ g. not (names by atoms whom g)) edges h)
+
+pub AreMarked-unoptioned : (os : List Ownership) (edges : List Grant) (by : User) (atoms : List Atom) (whom : List User) → AreMarked os edges → AreMarked os (valid os (options_off by atoms whom edges))
+AreMarked-unoptioned os edges by atoms whom h =
+    let P : Grant → Type 0 = λ g. was_granted os g.atom.table ≡ true in
+    All-valid P os (options_off by atoms whom edges) (All-options_off P (names by atoms whom) edges (λ g k. k) h)
 
 IsInOrder-append : (at : Moment) (gs more : List Grant) → IsInOrder gs → AllByRecursion (λ g. g.moment.0 < at.0) gs → AllByRecursion (λ g. g.moment ≡ at) more → IsInOrder more → IsInOrder (gs ++ more)
 IsInOrder-append at [] more h later same ordered = ordered

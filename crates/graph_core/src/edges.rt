@@ -1,12 +1,13 @@
 //! The edges in number order, with an index at each of their sides.
 ghost use Rattle.std.specs.Prelude.{◌≡◌, ◌≤◌, ◌+◌, ◌*◌, ◌^◌, ◌++◌, ◌&&◌, [], length, min, take, drop, OnOk, OnErr, IfOk};
 ghost use Rattle.std.specs.List.{list_any};
-ghost use Rattle.grants_core.specs.Content.{singles, gives, count_of, has_made, without};
+ghost use Rattle.grants_core.specs.Content.{singles, gives, count_of, has_made, has_optioned, without, options_off};
 ghost use Rattle.grants_core.specs.Numbers.{IsNumbered};
 ghost use Rattle.grants_core.specs.Valid.{valid, IsInOrder, AreSupported};
 
 use crate::indices::Indices;
 use crate::linking::{grants_of, links_of, put_grants};
+use crate::options::revoke_option;
 use crate::revocation::revoke;
 use base_core::{Atom, Moment, NoMemory, User};
 use grants_core::{Grant, Owners, single_grants};
@@ -107,6 +108,23 @@ impl Edges {
         }
     }
 
+    /// Whether the one user made an edge of the privilege to the other with the option.
+    pub fn any_optioned_between(&self, by: &User, user: &User, atom: &Atom) -> bool
+        ensures { result ≡ has_optioned self.now.edges by.now user.now atom.now }
+    {
+        let Some(by) = self.indices.user(by) else {
+            return false;
+        };
+        match self.indices.place(user, atom) {
+            Some(place) => {
+                self.links
+                    .first_optioned_between(by, place.user, place.atom)
+                    .is_some()
+            }
+            None => false,
+        }
+    }
+
     /// Adds the single grants of the atoms to the users. On `NoMemory` nothing has changed.
     pub fn add(
         &mut self,
@@ -144,6 +162,21 @@ impl Edges {
         ensures rest { self.new.rest ≡ self.old.rest }
     {
         revoke(owners, &self.indices, &mut self.links, by, atoms, whom);
+    }
+
+    /// Takes the option off the edges of the atoms from the one user to the others, and takes out
+    /// those that lose their support with it. Before, and afterwards, each has it.
+    pub fn revoke_option(&mut self, owners: &Owners, by: &User, atoms: &[Atom], whom: &[User])
+        requires in_order { IsInOrder self.old.edges }
+        requires supported { AreSupported owners.now self.old.edges self.old.edges }
+        ensures in_order { IsInOrder self.new.edges }
+        ensures supported { AreSupported owners.now self.new.edges self.new.edges }
+        ensures valid { self.new.edges
+            ≡ valid owners.now (options_off by.now atoms.now whom.now self.old.edges) }
+        ensures next { self.new.next ≡ self.old.next }
+        ensures rest { self.new.rest ≡ self.old.rest }
+    {
+        revoke_option(owners, &self.indices, &mut self.links, by, atoms, whom);
     }
 
     /// All edges, in number order. `NoMemory` where their copy has no room. Each number is below

@@ -1,6 +1,6 @@
 //! The graph.
 ghost use Rattle.std.specs.Prelude.{◌≡◌, ◌+◌, ◌*◌, ◌^◌, ◌<◌, ◌≤◌, ◌++◌, [], true, false, length, min, take, drop, All, OnOk, OnErr, IfOk};
-ghost use Rattle.grants_core.specs.Content.{after_create, after_grant, after_revoke, may_grant};
+ghost use Rattle.grants_core.specs.Content.{after_create, after_grant, after_revoke, after_revoke_option, may_grant};
 ghost use Rattle.grants_core.specs.Owners.{was_granted};
 
 use crate::edges::Edges;
@@ -128,6 +128,14 @@ impl Authority for Graph {
         self.edges.revoke(&self.owners, &by, atoms, whom);
     }
 
+    fn revoke_option(&mut self, by: User, atoms: &[Atom], whom: &[User])
+        ensures content { self.new.content
+            ≡ after_revoke_option self.old.content by atoms.now whom.now }
+        ensures rest { self.new.rest ≡ self.old.rest }
+    {
+        self.edges.revoke_option(&self.owners, &by, atoms, whom);
+    }
+
     #[inline(always)]
     fn holds(&self, user: User, atom: &Atom) -> bool {
         self.owners.owns(&user, atom) || self.edges.any_gives(&user, atom)
@@ -139,6 +147,10 @@ impl Authority for Graph {
 
     fn has_made(&self, by: User, user: User, atom: &Atom) -> bool {
         self.edges.any_between(&by, &user, atom)
+    }
+
+    fn has_optioned(&self, by: User, user: User, atom: &Atom) -> bool {
+        self.edges.any_optioned_between(&by, &user, atom)
     }
 
     fn room(&self, atom: &Atom, more: u64, limit: u64) -> bool {

@@ -24,7 +24,7 @@
 //! rights.grant(o, &[select], &[a], true, Moment(5))?;
 //! rights.begin();
 //! rights.revoke(o, &[select], &[a]);
-//! rights.capture_step(&mut taken, 10)?                    // 1: o's grant to a, which fell meanwhile
+//! rights.capture_step(&mut taken, 10)?                  // 1: o's grant to a, which fell meanwhile
 //! ```
 //!
 //! # Mechanism
@@ -47,6 +47,10 @@
 //!          2        5       6                     2         5       6
 //! ```
 //!
+//! The option can be revoked alone. Then each edge that is named loses it where it stands, and its
+//! grantee is pruned as above: what he made falls if no edge of an earlier moment gives him the
+//! option. Whatever the user who revokes has made stays.
+//!
 //! That each edge stands by an earlier one, or by the owner, is in the type. It ends all cycles:
 //! users who grant to one another in a circle hold nothing once the edge falls that came first.
 //!
@@ -61,26 +65,28 @@
 //!
 //! A call looks up the index of each user and privilege that it is handed; where one has none, no
 //! edge is his. From there on a revocation goes over links alone. It takes one user after the
-//! other: the links to him go, and he is pruned, before the next has his turn.
+//! other: the links to him go, or lose their option, and he is pruned, before the next has his
+//! turn.
 //!
 //! # Cost
 //!
 //! With n the edges of one privilege (of the system at most 1,024):
 //!
-//! - `holds`, `may_grant`, `has_made` and `room` look the privilege and the user up by hash, and
-//!   then his edges with the logarithm of n. Edges of other tables and grants that fell cost
-//!   nothing.
+//! - `holds`, `may_grant`, `has_made`, `has_optioned` and `room` look the privilege and the user up
+//!   by hash, and then his edges with the logarithm of n. Edges of other tables and grants that
+//!   fell cost nothing.
 //! - `grant` makes its room first, and then looks each edge's users and privilege up, and adds it:
 //!   a move of n ends of 16 bytes at most.
 //! - `revoke` looks up, for each privilege that is named, that and its owner, the grantor, and each
 //!   of the users. An edge that falls costs no look-up by hash, but some searches with the
-//!   logarithm of n. If it is the first of its row, as in a chain, no other end moves; else n at
-//!   most do. It needs no memory and never fails; it calls itself at most as deep as there are
-//!   edges of one privilege.
+//!   logarithm of n. The ends before it in its row move, or those behind it, whichever are fewer; in
+//!   a chain that is one at most. It needs no memory and never fails; it calls itself at most as deep as there are
+//!   edges of one privilege. `revoke_option` does the same, but for the named edges, which stay:
+//!   one walk over the edges to each user named.
 //! - `in_force` goes over all edges, and makes each anew.
 //! - `begin` and `left` are constant, but for an older capture that is given up, and `capture_step`
 //!   makes the grants that it gives. It takes memory for these, and for their links as long as it
-//!   takes; `begin`, `abandon` and `revoke` take none.
+//!   takes; `begin`, `abandon`, `revoke` and `revoke_option` take none.
 //!
 //! An edge takes 57 bytes and two ends. No index is given back: names and privileges that were once
 //! granted keep theirs, whatever falls.
@@ -91,6 +97,7 @@ mod graph;
 mod indices;
 mod key;
 mod linking;
+mod options;
 mod prune;
 mod revocation;
 

@@ -49,8 +49,9 @@ fn revoke_between(
     }
 }
 
-// The index of the user who owns the privilege's table. None where it has no owner, or he has none.
-fn owner_index(owners: &Owners, indices: &Indices, atom: &Atom) -> Option<usize>
+/// The index of the user who owns the privilege's table. None where it has no owner, or he has
+/// none.
+pub fn owner_index(owners: &Owners, indices: &Indices, atom: &Atom) -> Option<usize>
     ensures { (i : ℕ) → i < length indices.now.users
         → owns owners.now (user_at indices.now i) atom.now ≡ is_index result i }
 {

@@ -1,8 +1,9 @@
 -- What callers see of the links, and how store and indexes agree.
-use Rattle.std.specs.Prelude.{◌≡◌, ◌<◌, ℕ, Bool, false, ◌&&◌, ◌==◌, ◌+◌, List, [], ◌∷◌, Option, Some, None, map, filter, count_by}
-use Rattle.std.specs.List.{AllByRecursion}
+use Rattle.std.specs.Prelude.{◌≡◌, ◌<◌, ℕ, Bool, false, not, ◌&&◌, ◌==◌, ◌+◌, List, [], ◌∷◌, Option, Some, None, map, filter, count_by}
+use Rattle.std.specs.List.{AllByRecursion, list_any}
 use Rattle.copyup_core.specs.Holding.{value_at}
 use Rattle.links_core.specs.declared.link.Link.{Link}
+use Rattle.links_core.specs.declared.end.End.{End}
 use Rattle.links_core.specs.Ends.{Held}
 use Rattle.links_core.specs.Listed.{numbers, count}
 
@@ -19,6 +20,14 @@ goes_to user atom l = l.atom == atom && (l.grantee == user)
 -- whether the user made the link, of the privilege
 unfoldable pub comes_from : ℕ → ℕ → Link → Bool
 comes_from user atom l = l.grantor == user && (l.atom == atom)
+
+-- the link, without its option where the test holds; one that has none stays as it is
+abbrev pub link_off : (Link → Bool) → Link → Link
+link_off test l = record l { option = l.option && not (test l) }
+
+-- whether the user made the link, and one of the ends is that of its number
+abbrev pub is_listed_by : ℕ → List End → Link → Bool
+is_listed_by by ends l = l.grantor == by && list_any (λ e. l.number == e.number) ends
 
 -- how many of the links are of the privilege
 abbrev pub count_at : ℕ → List Link → ℕ

@@ -1,12 +1,13 @@
 //! The links in number order, with an index at each of their sides.
-ghost use Rattle.std.specs.Prelude.{◌≡◌, ◌<◌, ◌≤◌, ◌+◌, ◌^◌, ◌++◌, ◌&&◌, ◌==◌, nat_lt, [], length, min, take, drop, find, OnOk, OnErr, IfOk};
+ghost use Rattle.std.specs.Prelude.{◌≡◌, ◌<◌, ◌≤◌, ◌+◌, ◌^◌, ◌++◌, ◌&&◌, ◌==◌, nat_lt, [], length, map, min, take, drop, find, OnOk, OnErr, IfOk};
 ghost use Rattle.std.specs.List.{list_any};
 ghost use Rattle.links_core.specs.Lists.{HasItem, TakesOut};
-ghost use Rattle.links_core.specs.Links.{goes_to, comes_from, count_at, numbered_as, AreNumbered, Rises, AreBelow};
+ghost use Rattle.links_core.specs.Links.{goes_to, comes_from, link_off, count_at, numbered_as, AreNumbered, Rises, AreBelow};
 
-use crate::held::{any_earlier_option, any_option, first_made_by};
+use crate::held::{any_earlier_option, any_option, first_made_by, first_optioned_by};
 use crate::index::{Index, count_of, ends_at, first_at, take_end};
 use crate::link::Link;
+use crate::options::take_options;
 use crate::rooms::{make_rooms, put};
 use crate::walk::all_of;
 use base_core::{Moment, NoMemory};
@@ -112,6 +113,19 @@ impl Links {
         }
     }
 
+    /// The first link of the privilege by the one user to the other that has the option.
+    pub fn first_optioned_between(&self, by: usize, user: usize, atom: usize) -> Option<Link>
+        ensures { result
+            ≡ find (λ l. (l.option && (l.grantor == by)) && goes_to user atom l)
+            self.now.links }
+    {
+        let ends = ends_at(&self.received, atom, user);
+        match first_optioned_by(&self.store, ends, by) {
+            Some(end) => self.store.get(end.number).copied(),
+            None => None,
+        }
+    }
+
     /// Adds these links, which bear the next numbers. On `NoMemory` nothing has changed.
     pub fn add(&mut self, more: &[Link]) -> Result<(), NoMemory>
         requires numbered { AreNumbered self.old.next more.now }
@@ -139,6 +153,19 @@ impl Links {
         take_end(&mut self.received, link.atom, link.grantee, link.number);
         take_end(&mut self.given, link.atom, link.grantor, link.number);
         self.store.remove(link.number);
+    }
+
+    /// Takes the option off each link of the privilege by the one user to the other, and leaves the
+    /// links where they are. A capture that has still to give one gives it as it was when the
+    /// capture began. It takes no memory.
+    pub fn take_options(&mut self, by: usize, user: usize, atom: usize)
+        ensures links { self.new.links
+            ≡ map (link_off (λ l. (l.grantor == by) && goes_to user atom l)) self.old.links }
+        ensures next { self.new.next ≡ self.old.next }
+        ensures rest { self.new.rest ≡ self.old.rest }
+    {
+        let ends = ends_at(&self.received, atom, user);
+        take_options(&mut self.store, ends, by);
     }
 
     /// All links, in number order. `NoMemory` where their copy has no room. Their numbers rise, and

@@ -1,4 +1,4 @@
-//! A row of ends, of which the first goes without a move of the others.
+//! A row of ends, of which one goes by a move of those before it or behind it, whichever are fewer.
 ghost use Rattle.std.specs.Prelude.{◌≡◌, ◌+◌, ◌≤◌, ◌<◌, ◌++◌, ◌∷◌, [], length, take, drop, OnOk};
 
 use crate::end::End;
@@ -96,12 +96,16 @@ impl Row {
         let _ = self.block.insert(self.gone + place, end);
     }
 
-    /// Takes the end at the place out.
+    /// Takes the end at the place out: by a move of the ends before it, where they are no more than
+    /// those behind it, and else of those.
     pub fn remove(&mut self, place: usize)
         requires { place < length self.old.ends }
         ensures { self.new.ends ≡ take place self.old.ends ++ drop (place + 1) self.old.ends }
     {
-        if place == 0 {
+        let ends = self.block.len() - self.gone;
+        if place <= ends / 2 {
+            self.block
+                .copy_within(self.gone..self.gone + place, self.gone + 1);
             self.gone += 1;
         } else {
             self.block.remove(self.gone + place);

@@ -14,7 +14,7 @@ use Rattle.reader_core.specs.declared.statement.Statement.{Statement}
 use Rattle.reader_core.specs.declared.statement.Statement.TheVariants as statements
 use Rattle.tables_core.specs.Contents.{column_of}
 use Rattle.monitor_core.specs.Atoms.{to_update, columns_listed}
-use Rattle.monitor_core.specs.Verdict.{State, Check, require, first_lack, each, takes, column_takes, column_stands, with_filter, columns_of, atoms_at, holds_privilege, holds_grant_option, made_grant, room_for_grants, checks, verdict}
+use Rattle.monitor_core.specs.Verdict.{State, Check, require, first_lack, each, takes, column_takes, column_stands, with_filter, columns_of, atoms_at, holds_privilege, holds_grant_option, made_grant, gave_option, room_for_grants, checks, verdict}
 
 -- a check that finds neither
 abbrev pub Sound : Check → Type 0
@@ -71,6 +71,8 @@ sound s user (statements.Grant privileges table users option) =
     (sound-require _ _ tt, (sound-each privileges (λ p. each (columns_listed p) (column_stands s table)) (λ p. sound-listed s table (columns_listed p)), (sound-each (atoms_at s.tables table privileges) (holds_grant_option s user) (λ atom. sound-require _ _ tt), (sound-require _ _ tt, (sound-each (atoms_at s.tables table privileges) (room_for_grants s users) (λ atom. sound-require _ _ tt), tt)))))
 sound s user (statements.Revoke privileges table users) =
     (sound-require _ _ tt, (sound-each privileges (λ p. each (columns_listed p) (column_stands s table)) (λ p. sound-listed s table (columns_listed p)), (sound-each (atoms_at s.tables table privileges) (λ atom. each users (made_grant s user atom)) (λ atom. sound-each users (made_grant s user atom) (λ to. sound-require _ _ tt)), (sound-require _ _ tt, tt))))
+sound s user (statements.RevokeOption privileges table users) =
+    (sound-require _ _ tt, (sound-each privileges (λ p. each (columns_listed p) (column_stands s table)) (λ p. sound-listed s table (columns_listed p)), (sound-each (atoms_at s.tables table privileges) (λ atom. each users (gave_option s user atom)) (λ atom. sound-each users (gave_option s user atom) (λ to. sound-require _ _ tt)), (sound-require _ _ tt, tt))))
 sound s user statements.Checkpoint = tt
 sound s user statements.Checkpoints = tt
 sound s user (statements.Export number None) = tt

@@ -12,7 +12,7 @@ use Rattle.base_core.specs.declared.condition.Condition.{Condition}
 use Rattle.base_core.specs.declared.privilege.Kind.TheVariants as kinds
 use Rattle.base_core.specs.declared.privilege.Atom.{Atom}
 use Rattle.base_core.specs.declared.lack.Lack.{Lack}
-use Rattle.base_core.specs.declared.lack.Lack.TheVariants.{NoTable, TableExists, NoColumn, NoPrivilege, NoGrantOption, NoGrant, WrongCount, WrongType, Full}
+use Rattle.base_core.specs.declared.lack.Lack.TheVariants.{NoTable, TableExists, NoColumn, NoPrivilege, NoGrantOption, NoGrant, NoOptionGiven, WrongCount, WrongType, Full}
 use Rattle.base_core.specs.declared.lack.What.TheVariants.{Changes, Tables, Grants}
 use Rattle.base_core.specs.declared.limits.Limits.{Limits}
 use Rattle.reader_core.specs.declared.privilege.Privilege.{Privilege}
@@ -90,6 +90,11 @@ holds_grant_option s user atom =
 abbrev pub made_grant : State → User → Atom → User → Check
 made_grant s by atom to =
     require (rights.has_made s.rights.in_force by to atom) (NoGrant by to atom)
+
+-- a grant of the atom by the one to the other is in force with the option
+abbrev pub gave_option : State → User → Atom → User → Check
+gave_option s by atom to =
+    require (rights.has_optioned s.rights.in_force by to atom) (NoOptionGiven by to atom)
 
 -- there are as many values as the table has columns
 abbrev pub count_is_right : State → Name → List Value → Check
@@ -192,6 +197,12 @@ checks s user (statements.Revoke privileges table users) =
     ∷ each (atoms_at s.tables table privileges) (λ atom. each users (made_grant s user atom))
     ∷ room_for_change s
     ∷ []
+checks s user (statements.RevokeOption privileges table users) =
+    table_stands s table
+    ∷ listed_columns_stand s table privileges
+    ∷ each (atoms_at s.tables table privileges) (λ atom. each users (gave_option s user atom))
+    ∷ room_for_change s
+    ∷ []
 checks s user statements.Checkpoint = []
 checks s user statements.Checkpoints = []
 checks s user (statements.Export number None) = []
@@ -211,6 +222,7 @@ is_change (statements.Delete table filter) = true
 is_change (statements.Update table sets filter) = true
 is_change (statements.Grant privileges table users option) = true
 is_change (statements.Revoke privileges table users) = true
+is_change (statements.RevokeOption privileges table users) = true
 is_change statements.Checkpoint = false
 is_change statements.Checkpoints = false
 is_change (statements.Export number only) = false

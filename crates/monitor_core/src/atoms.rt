@@ -1,10 +1,10 @@
 //! The atoms that a statement asks for: the single privileges on a table that its list of
 //! privileges names, and UPDATE alone is the privilege to update each of the table's columns. A
 //! check goes over them in the order written and makes no list of them, so it takes no memory. What
-//! is checked of an atom is an [`AtomCheck`]; the four that GRANT, REVOKE and UPDATE need are here.
+//! is checked of an atom is an [`AtomCheck`]; the five that GRANT, REVOKE and UPDATE need are here.
 ghost use Rattle.std.specs.Prelude.{◌≡◌};
 ghost use Rattle.base_core.specs.declared.privilege.Atom as atom;
-ghost use Rattle.monitor_core.specs.Verdict.{Check, each, holds_privilege, holds_grant_option, room_for_grants, made_grant};
+ghost use Rattle.monitor_core.specs.Verdict.{Check, each, holds_privilege, holds_grant_option, room_for_grants, made_grant, gave_option};
 ghost use Rattle.monitor_core.specs.Atoms.{to_update, atoms_of_one, atoms_of, columns_listed};
 
 use crate::checks::require;
@@ -93,6 +93,22 @@ impl<'a, A: Authority> AtomCheck for MadeGrants<'a, A> {
 
     fn check(&self, atom: Atom) -> Result<(), Lack> {
         self.judge.has_made_each(&self.by, self.users, &atom)
+    }
+}
+
+/// That grants of an atom by the one to each of the users are in force with the option.
+#[derive(Drop)]
+pub struct GivenOptions<'a, A: Authority> {
+    pub judge: &'a Judge<'a, A>,
+    pub by: User,
+    pub users: &'a [User],
+}
+
+impl<'a, A: Authority> AtomCheck for GivenOptions<'a, A> {
+    ghost check_of = { λ c atom. each c.users.now (gave_option c.judge.now c.by atom) };
+
+    fn check(&self, atom: Atom) -> Result<(), Lack> {
+        self.judge.gave_option_to_each(&self.by, self.users, &atom)
     }
 }
 

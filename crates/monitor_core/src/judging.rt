@@ -2,7 +2,7 @@
 //! names, values or users goes over them in the order written. The judge borrows what there is and
 //! keeps nothing.
 ghost use Rattle.std.specs.Prelude.{◌≡◌, nat_lt, Ok, Err, OnOk, IfOk, IfErr};
-ghost use Rattle.monitor_core.specs.Verdict.{columns_of, holds_privilege, each, column_stands, column_takes, table_stands, with_filter, list_stands, room_for_change, listed_columns_stand, atoms_at, holds_grant_option, made_grant, has_room};
+ghost use Rattle.monitor_core.specs.Verdict.{columns_of, holds_privilege, each, column_stands, column_takes, table_stands, with_filter, list_stands, room_for_change, listed_columns_stand, atoms_at, holds_grant_option, made_grant, gave_option, has_room};
 ghost use Rattle.monitor_core.specs.Atoms.{to_update, columns_listed};
 
 mod each_statement;
@@ -117,6 +117,30 @@ impl<A: Authority> Judge<'_, A> {
     {
         for to in users {
             if let Err(lack) = self.has_made(by, to, atom) {
+                return Err(lack);
+            }
+        }
+        Ok(())
+    }
+
+    fn gave_option(&self, by: &User, to: &User, atom: &Atom) -> Result<(), Lack>
+        ensures { result ≡ gave_option self.now by.now atom.now to.now }
+    {
+        let given = self.rights.has_optioned(*by, *to, atom);
+        let Atom { table, kind } = *atom;
+        let lack = Lack::NoOptionGiven {
+            by: *by,
+            to: *to,
+            atom: Atom { table, kind },
+        };
+        require(given, lack)
+    }
+
+    pub fn gave_option_to_each(&self, by: &User, users: &[User], atom: &Atom) -> Result<(), Lack>
+        ensures { result ≡ each users.now (gave_option self.now by.now atom.now) }
+    {
+        for to in users {
+            if let Err(lack) = self.gave_option(by, to, atom) {
                 return Err(lack);
             }
         }

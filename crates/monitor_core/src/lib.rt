@@ -39,8 +39,9 @@
 //! columns, each at most 32. Each question after a right or after room costs what the authority's
 //! answer does (of a plain replay: the grants in force). INSERT and SELECT ask one, DELETE at most
 //! two, UPDATE one for each column of SET and at most one more; GRANT two for each privilege,
-//! however many users there are; and REVOKE one for each privilege and each user, which is at most
-//! 35 times 16, since UPDATE without columns counts for each column of the table.
+//! however many users there are; and REVOKE, of the option too, one for each privilege and each
+//! user, which is at most 35 times 16, since UPDATE without columns counts for each column of the
+//! table.
 #![tactic(auto)]
 
 mod allowed;

@@ -20,7 +20,8 @@ pub fn is_change(statement: &Statement) -> bool
         | Statement::Delete { .. }
         | Statement::Update { .. }
         | Statement::Grant { .. }
-        | Statement::Revoke { .. } => true,
+        | Statement::Revoke { .. }
+        | Statement::RevokeOption { .. } => true,
         Statement::Select { .. }
         | Statement::Checkpoint
         | Statement::Checkpoints
@@ -43,12 +44,14 @@ pub fn is_change(statement: &Statement) -> bool
 ///   CHECKPOINTS; of EXPORT where one table is named.
 /// - `TableExists`: the name of CREATE TABLE is a table's.
 /// - `NoColumn`: the table has no such column: of the list of SELECT, of SET, of WHERE, and of
-///   UPDATE with columns in GRANT and REVOKE.
+///   UPDATE with columns in GRANT and in both forms of REVOKE.
 /// - `NoPrivilege`: the user neither owns the table nor has a grant in force of what is needed:
 ///   INSERT, SELECT, DELETE, or UPDATE of each column of SET, and with WHERE then SELECT.
 /// - `NoGrantOption`: GRANT, where he neither owns the table nor has such a grant with the option.
 /// - `NoGrant`: REVOKE, where no grant by him to that user is in force: only who
 ///   granted revokes (Griffiths and Wade 1976).
+/// - `NoOptionGiven`: REVOKE GRANT OPTION FOR, where no grant by him to that user is in force with
+///   the option.
 /// - `WrongCount`: INSERT with more or fewer values than the table has columns.
 /// - `WrongType`: a column does not take the value that INSERT, SET or WHERE gives for it.
 /// - `Full`: of changes, where as many were accepted as there may be, for a statement that is a

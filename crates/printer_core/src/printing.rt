@@ -1,8 +1,8 @@
 //! Statements as text.
 ghost use Rattle.std.specs.Prelude.{◌≡◌, ◌<◌, ◌≤◌, OnOk, IfOk, IsErrOf, length, string_bytes};
 ghost use Rattle.reader_core.specs.declared.statement.Statement.TheVariants as statements;
-ghost use Rattle.reader_core.specs.Saying.{selection_says, filter_says, option_says, only_says, statement_says};
-ghost use Rattle.reader_core.specs.Forming.{IsSelection, IsWellFormed};
+ghost use Rattle.reader_core.specs.Saying.{selection_says, filter_says, option_says, privileges_from_say, only_says, statement_says};
+ghost use Rattle.reader_core.specs.Forming.{IsSelection, ArePrivileges, AreUsers, IsWellFormed};
 ghost use Rattle.reader_core.specs.Language.{Spells};
 ghost use Rattle.printer_core.specs.Printing.{Prints, canonical};
 
@@ -180,6 +180,25 @@ impl Page {
         Ok(())
     }
 
+    fn privileges_from(
+        &mut self,
+        privileges: &Privileges,
+        table: Name,
+        users: &Distinct<User, MAX_USERS>,
+    ) -> Result<(), NoMemory>
+        ensures written { OnOk result (Prints
+            (privileges_from_say privileges.now table users.now) self.old self.new) }
+        ensures privileges { OnOk result (ArePrivileges privileges.now) }
+        ensures users { OnOk result (AreUsers users.now) }
+    {
+        write_list(self, privileges.as_slice())?;
+        self.keyword(Keyword::On)?;
+        self.name(table)?;
+        self.keyword(Keyword::From)?;
+        write_list(self, users.as_slice())?;
+        Ok(())
+    }
+
     fn revoke(
         &mut self,
         privileges: &Privileges,
@@ -192,11 +211,27 @@ impl Page {
             (IsWellFormed (statements.Revoke privileges.now table users.now)) }
     {
         self.keyword(Keyword::Revoke)?;
-        write_list(self, privileges.as_slice())?;
-        self.keyword(Keyword::On)?;
-        self.name(table)?;
-        self.keyword(Keyword::From)?;
-        write_list(self, users.as_slice())?;
+        self.privileges_from(privileges, table, users)?;
+        Ok(())
+    }
+
+    fn revoke_option(
+        &mut self,
+        privileges: &Privileges,
+        table: Name,
+        users: &Distinct<User, MAX_USERS>,
+    ) -> Result<(), NoMemory>
+        ensures written { OnOk result (Prints
+            (statement_says (statements.RevokeOption privileges.now table users.now))
+            self.old self.new) }
+        ensures well_formed { OnOk result
+            (IsWellFormed (statements.RevokeOption privileges.now table users.now)) }
+    {
+        self.keyword(Keyword::Revoke)?;
+        self.keyword(Keyword::Grant)?;
+        self.keyword(Keyword::Option)?;
+        self.keyword(Keyword::For)?;
+        self.privileges_from(privileges, table, users)?;
         Ok(())
     }
 
@@ -250,6 +285,11 @@ impl Page {
                 table,
                 users,
             } => self.revoke(privileges, *table, users),
+            Statement::RevokeOption {
+                privileges,
+                table,
+                users,
+            } => self.revoke_option(privileges, *table, users),
             Statement::Checkpoint => self.keyword(Keyword::Checkpoint),
             Statement::Checkpoints => self.keyword(Keyword::Checkpoints),
             Statement::Export { number, only } => self.export(*number, *only),

@@ -10,7 +10,7 @@ use Rattle.lexer_core.specs.declared.fault.Code.{Code}
 use Rattle.reader_core.specs.Grammar.{Grammar, End, One, Case, Items, More, Class, Key, Sign, fits, followed_by}
 use Rattle.reader_core.specs.Matches.{TokenWithFault, is_next, Matches, done, one, this, other, item, next, last}
 use Rattle.reader_core.specs.Choices.{Derives, stop, token, left, right, first, further, behind, can_begin, IsApart, IsPredictive, no_token}
-use Rattle.reader_core.specs.Sentences.{statement, finish, optional, filter, grant_option, privilege_item}
+use Rattle.reader_core.specs.Sentences.{statement, finish, optional, filter, grant_option, privileges_from, privilege_item}
 use Rattle.reader_core.proofs.Taking.{key_fits, sign_fits}
 
 -- ---- what follows may be told apart from the grammar
@@ -111,6 +111,9 @@ privilege f e = (key keywords.Select _ refl, tt, (key keywords.Insert _ refl, tt
 granted : IsPredictive (optional grant_option finish) no_token
 granted = (key keywords.With _ refl, ends, ends)
 
+revoked : IsPredictive (privileges_from finish) no_token
+revoked = (privilege _ refl, sign marks.Comma _ refl, (tt, sign marks.Comma _ refl, ends))
+
 pub clear : IsPredictive statement no_token
 clear = (
   key keywords.Create _ refl,
@@ -132,7 +135,7 @@ clear = (
             (privilege _ refl, sign marks.Comma _ refl, (tt, sign marks.Comma _ refl, granted)),
             (
               key keywords.Revoke _ refl,
-              (privilege _ refl, sign marks.Comma _ refl, (tt, sign marks.Comma _ refl, ends)),
+              (key keywords.Grant _ refl, revoked, revoked),
               (
                 key keywords.Checkpoint _ refl,
                 ends,

@@ -5,18 +5,21 @@ use mir.Syntax.{w64}
 use mir.Val.{SFits as FitsSigned}
 use Rattle.base_core.specs.declared.keyword.Keyword.{Keyword}
 use Rattle.base_core.specs.declared.keyword.Keyword.TheVariants as keywords
+use Rattle.base_core.specs.declared.name.Name.{Name}
+use Rattle.base_core.specs.declared.name.User.{User}
 use Rattle.lexer_core.specs.Lexing.{Lexeme, kind_of}
 use Rattle.lexer_core.specs.Lexing as lexemes
 use Rattle.lexer_core.specs.declared.token.TokenKind.TheVariants as kinds
 use Rattle.lexer_core.specs.declared.token.Mark.TheVariants as marks
+use Rattle.reader_core.specs.declared.privilege.Privilege.{Privilege}
 use Rattle.reader_core.specs.declared.statement.Statement.{Statement}
 use Rattle.reader_core.specs.declared.statement.Statement.TheVariants as statements
 use Rattle.reader_core.specs.Grammar.{Grammar, End, One, Case, Items, Key, Sign, AnyName, AtLeastOne}
 use Rattle.reader_core.specs.Matches.{Matches}
 use Rattle.lexer_core.specs.Lexing.{IsProper}
-use Rattle.reader_core.specs.Sentences.{names_rule, comma_separated, privileges_rule, column_item, literal_item, set_item, privilege_item, name_list, optional, filter, selection, from_table, grant_option, only_table, statement, finish}
-use Rattle.reader_core.specs.Saying.{comma_lexeme, listed, user_says, column_says, value_says, value_lexeme, set_says, filter_says, selection_says, privilege_says, option_says, statement_says, IsFinished}
-use Rattle.reader_core.specs.Forming.{IsWellFormed}
+use Rattle.reader_core.specs.Sentences.{names_rule, comma_separated, privileges_rule, column_item, literal_item, set_item, privilege_item, name_list, optional, filter, selection, from_table, grant_option, grant_option_for, privileges_from, only_table, statement, finish}
+use Rattle.reader_core.specs.Saying.{comma_lexeme, listed, user_says, column_says, value_says, value_lexeme, set_says, filter_says, selection_says, privilege_says, option_says, privileges_from_say, statement_says, IsFinished}
+use Rattle.reader_core.specs.Forming.{IsWellFormed, ArePrivileges, AreUsers}
 use Rattle.reader_core.specs.Language.{SaysStatement}
 use Rattle.reader_core.proofs.Fine.{few_if_fine, distinct_if_fine}
 use Rattle.reader_core.proofs.Lines.{says_statement}
@@ -116,21 +119,45 @@ grant_body said m =
       left = w.left;
     }
 
-revoke_body : (said : List Lexeme) → Matches (Items privileges_rule [] privilege_item (One (Key keywords.On) (One AnyName (One (Key keywords.From) (name_list 16 finish))))) (faultless_all said) → Body (lexemes.Key keywords.Revoke ∷ said)
-revoke_body said m =
+-- what is revoked, of which table and from whom
+record Revoked : Type 0 where
+  privileges : List Privilege
+  table : Name
+  users : List User
+
+abbrev revoked_says : Revoked → List Lexeme
+revoked_says r = privileges_from_say r.privileges r.table r.users
+
+abbrev IsWellFormedRevoked : Revoked → Type 0
+IsWellFormedRevoked r = ArePrivileges r.privileges × AreUsers r.users
+
+revoked_front : (said : List Lexeme) → Matches (privileges_from finish) (faultless_all said) → Front revoked_says IsWellFormedRevoked finish said
+revoked_front said m =
     let ps = privileges_front _ said m in
     let o = key_front keywords.On _ ps.rest ps.left in
     let n = name_front _ o.rest o.left in
     let f = key_front keywords.From _ n.rest n.left in
     let us = users_front finish f.rest f.left in
     record {
-      value = statements.Revoke ps.value n.value us.value;
+      value = record { privileges = ps.value; table = n.value; users = us.value };
       rest = us.rest;
-      split = then _ refl (and_then (listed comma_lexeme privilege_says ps.value) (lexemes.Key keywords.On ∷ lexemes.Named n.value ∷ lexemes.Key keywords.From ∷ listed comma_lexeme user_says us.value) us.rest ps.split
-          (then _ o.split (then _ n.split (then _ f.split us.split))));
+      split = and_then (listed comma_lexeme privilege_says ps.value) (lexemes.Key keywords.On ∷ lexemes.Named n.value ∷ lexemes.Key keywords.From ∷ listed comma_lexeme user_says us.value) us.rest ps.split
+          (then _ o.split (then _ n.split (then _ f.split us.split)));
       well_formed = (ps.well_formed, us.well_formed);
       left = us.left;
     }
+
+revoke_body : (said : List Lexeme) → Matches (optional grant_option_for (privileges_from finish)) (faultless_all said) → Body (lexemes.Key keywords.Revoke ∷ said)
+revoke_body said m = elim (case_front (Key keywords.Grant) (lexemes.Key keywords.Grant) _ (privileges_from finish) said (key_only keywords.Grant) m) [
+  | inl p ↦
+      let o = key_front keywords.Option _ p.0 p.2 in
+      let f = key_front keywords.For _ o.rest o.left in
+      let r = revoked_front f.rest f.left in
+      record { value = statements.RevokeOption r.value.privileges r.value.table r.value.users; rest = r.rest; split = then _ refl (then _ p.1 (then _ o.split (then _ f.split r.split))); well_formed = r.well_formed; left = r.left }
+  | inr n ↦
+      let r = revoked_front said n in
+      record { value = statements.Revoke r.value.privileges r.value.table r.value.users; rest = r.rest; split = then _ refl r.split; well_formed = r.well_formed; left = r.left }
+]
 
 -- the number of EXPORT is one of 64 bits
 small : (n : ℕ) (said rest : List Lexeme) → All IsProper said → said ≡ lexemes.Number (pos n) ∷ rest → n < 2 ^ 63

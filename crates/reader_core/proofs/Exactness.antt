@@ -44,6 +44,7 @@ nothing_said line s said says p none =
     begins (statements.Update t xs f) b e = cc
     begins (statements.Grant p t us o) b e = cc
     begins (statements.Revoke p t us) b e = cc
+    begins (statements.RevokeOption p t us) b e = cc
     begins statements.Checkpoint b e = cc
     begins statements.Checkpoints b e = cc
     begins (statements.Export n o) b e = cc

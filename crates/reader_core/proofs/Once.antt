@@ -20,7 +20,7 @@ use Rattle.reader_core.specs.declared.privilege.Privilege.{Privilege}
 use Rattle.reader_core.specs.declared.privilege.Privilege.TheVariants as privileges_of
 use Rattle.reader_core.specs.declared.statement.Statement.{Statement}
 use Rattle.reader_core.specs.declared.statement.Statement.TheVariants as statements
-use Rattle.reader_core.specs.Saying.{comma_lexeme, listed, name_says, names_say, user_says, column_says, value_says, value_lexeme, type_lexeme, comparison_mark, condition_says, set_says, filter_says, selection_says, columns_say, privilege_says, option_says, only_says, statement_says}
+use Rattle.reader_core.specs.Saying.{comma_lexeme, listed, name_says, names_say, user_says, column_says, value_says, value_lexeme, type_lexeme, comparison_mark, condition_says, set_says, filter_says, selection_says, columns_say, privilege_says, option_says, only_says, privileges_from_say, statement_says}
 use Rattle.reader_core.specs.Language.{SaysStatement}
 use Rattle.reader_core.proofs.Whole.{ending, ended}
 
@@ -245,6 +245,22 @@ users_stop : (b : Bool) → Stops comma_lexeme user_says (ending b)
 users_stop true = record { calm = λ v e. cc; shut = λ v e. cc; none = λ y z e. cc }
 users_stop false = record { calm = λ v e. cc; shut = λ v e. cc; none = λ y z e. cc }
 
+same_revoked : (ps qs : List Privilege) (m n : Name) (us vs : List User) (a b : Bool) → privileges_from_say ps m us ++ ending a ≡ privileges_from_say qs n vs ++ ending b → (ps ≡ qs) × (m ≡ n) × (us ≡ vs)
+same_revoked ps qs m n us vs a b f =
+    let l = same_privileges ps qs m n (lexemes.Key keywords.From ∷ listed comma_lexeme user_says us) (lexemes.Key keywords.From ∷ listed comma_lexeme user_says vs) a b f in
+    let behind : on m (lexemes.Key keywords.From ∷ listed comma_lexeme user_says us) ++ ending a ≡ on n (lexemes.Key keywords.From ∷ listed comma_lexeme user_says vs) ++ ending b = l.1 in
+    let g : listed comma_lexeme user_says us ++ ending a ≡ listed comma_lexeme user_says vs ++ ending b = cc in
+    let r = same_list comma_lexeme user_says (λ z. cc) one_user us vs (ending a) (ending b) (users_stop a) (users_stop b) g in
+    (l.0, cc, r.0)
+
+-- no privilege begins with GRANT
+no_option : (ps qs : List Privilege) (m n : Name) (us vs : List User) (a b : Bool) → privileges_from_say ps m us ++ ending a ≡ lexemes.Key keywords.Grant ∷ lexemes.Key keywords.Option ∷ lexemes.Key keywords.For ∷ (privileges_from_say qs n vs ++ ending b) → ⊥
+no_option [] qs m n us vs a b e = cc
+no_option (privileges_of.Select ∷ ps) qs m n us vs a b e = cc
+no_option (privileges_of.Insert ∷ ps) qs m n us vs a b e = cc
+no_option (privileges_of.Delete ∷ ps) qs m n us vs a b e = cc
+no_option (privileges_of.Update columns ∷ ps) qs m n us vs a b e = cc
+
 same_statement : (s t : Statement) (a b : Bool) → statement_says s ++ ending a ≡ statement_says t ++ ending b → s ≡ t
 same_statement (statements.CreateTable m xs) (statements.CreateTable n ys) a b e =
     let f : (listed comma_lexeme column_says xs ++ close ∷ []) ++ ending a ≡ (listed comma_lexeme column_says ys ++ close ∷ []) ++ ending b = cc in
@@ -287,15 +303,19 @@ same_statement (statements.Grant ps m us o) (statements.Grant qs n vs p) a b e =
     let option : o ≡ p = same_option o p a b r.1 in
     cc
 same_statement (statements.Revoke ps m us) (statements.Revoke qs n vs) a b e =
-    let f : (listed comma_lexeme privilege_says ps ++ on m (lexemes.Key keywords.From ∷ listed comma_lexeme user_says us)) ++ ending a ≡ (listed comma_lexeme privilege_says qs ++ on n (lexemes.Key keywords.From ∷ listed comma_lexeme user_says vs)) ++ ending b = cc in
-    let l = same_privileges ps qs m n _ _ a b f in
-    let privileges : ps ≡ qs = l.0 in
-    let behind : on m (lexemes.Key keywords.From ∷ listed comma_lexeme user_says us) ++ ending a ≡ on n (lexemes.Key keywords.From ∷ listed comma_lexeme user_says vs) ++ ending b = l.1 in
-    let table : m ≡ n = cc in
-    let g : listed comma_lexeme user_says us ++ ending a ≡ listed comma_lexeme user_says vs ++ ending b = cc in
-    let r = same_list comma_lexeme user_says (λ z. cc) one_user us vs (ending a) (ending b) (users_stop a) (users_stop b) g in
-    let users : us ≡ vs = r.0 in
+    let r = same_revoked ps qs m n us vs a b (cc) in
+    let privileges : ps ≡ qs = r.0 in
+    let table : m ≡ n = r.1 in
+    let users : us ≡ vs = r.2 in
     cc
+same_statement (statements.RevokeOption ps m us) (statements.RevokeOption qs n vs) a b e =
+    let r = same_revoked ps qs m n us vs a b (cc) in
+    let privileges : ps ≡ qs = r.0 in
+    let table : m ≡ n = r.1 in
+    let users : us ≡ vs = r.2 in
+    cc
+same_statement (statements.Revoke ps m us) (statements.RevokeOption qs n vs) a b e = absurd (no_option ps qs m n us vs a b (cc))
+same_statement (statements.RevokeOption ps m us) (statements.Revoke qs n vs) a b e = absurd (no_option qs ps n m vs us b a (cc))
 same_statement statements.Checkpoint statements.Checkpoint a b e = refl
 same_statement statements.Checkpoints statements.Checkpoints a b e = refl
 same_statement (statements.Export m o) (statements.Export n p) a b e =

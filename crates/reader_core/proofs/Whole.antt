@@ -23,8 +23,8 @@ use Rattle.reader_core.specs.Grammar.{Grammar, Class, Key, Sign, Rule, Items, Mo
 use Rattle.reader_core.specs.Recogniser.{AreFaultless}
 use Rattle.reader_core.specs.Matches.{TokenWithFault, faultless, is_next, Matches, done, one, this, other, item, next, last, IsWhole}
 use Rattle.reader_core.specs.Privileges.{word_of, word_keyword}
-use Rattle.reader_core.specs.Sentences.{comma_separated, names_rule, conditions_rule, privileges_rule, column_item, literal_item, name_item, set_item, condition_item, privilege_item, optional, filter, selection, from_table, grant_option, only_table, statement, finish}
-use Rattle.reader_core.specs.Saying.{comma_lexeme, listed, name_says, names_say, user_says, column_says, value_says, value_lexeme, type_lexeme, comparison_mark, condition_says, set_says, filter_says, selection_says, columns_say, privilege_says, privilege_columns, option_says, only_says, statement_says}
+use Rattle.reader_core.specs.Sentences.{comma_separated, names_rule, conditions_rule, privileges_rule, column_item, literal_item, name_item, set_item, condition_item, privilege_item, optional, filter, selection, from_table, grant_option, grant_option_for, privileges_from, only_table, statement, finish}
+use Rattle.reader_core.specs.Saying.{comma_lexeme, listed, name_says, names_say, user_says, column_says, value_says, value_lexeme, type_lexeme, comparison_mark, condition_says, set_says, filter_says, selection_says, columns_say, privilege_says, privilege_columns, option_says, only_says, privileges_from_say, statement_says}
 use Rattle.reader_core.specs.Forming.{AreNamed, IsSelection, IsWellFormedPrivilege, ArePrivileges, AreUsers, IsWellFormed}
 use Rattle.reader_core.specs.Language.{SaysStatement}
 use Rattle.reader_core.proofs.Taking.{value_fits, type_fits, comparison_fits}
@@ -190,6 +190,20 @@ selection_matches (Some (n ∷ names)) table cs b is h =
     other refl (regrouped (names_say (n ∷ names)) (lexemes.Key keywords.From ∷ lexemes.Named table ∷ filter_says cs) (ending b)
     (names_match (from_table finish) _ (one refl (one refl (filter_matches cs b h))) refl refl (n ∷ names) is))
 
+revoked_matches : (ps : List Privilege) (table : Name) (users : List User) (b : Bool) → ArePrivileges ps → AreUsers users → Matches (privileges_from finish) (faultless_all (privileges_from_say ps table users ++ ending b))
+revoked_matches ps table users b privileged named =
+    regrouped (listed comma_lexeme privilege_says ps) _ (ending b)
+    (privileges_match _ _ (one refl (one refl (one refl (apart (listed comma_lexeme user_says users) (ending b)
+    (users_match finish _ (ends b) (no_comma b) (no_open b) users named))))) refl refl ps privileged)
+
+-- no privilege begins with GRANT
+revoked_only : (ps : List Privilege) (table : Name) (users : List User) (b : Bool) → 0 < length ps → Matches (privileges_from finish) (faultless_all (privileges_from_say ps table users ++ ending b)) → Matches (optional grant_option_for (privileges_from finish)) (faultless_all (privileges_from_say ps table users ++ ending b))
+revoked_only [] table users b some m = absurd (omega (arith, some))
+revoked_only (privileges_of.Select ∷ ps) table users b some m = other refl m
+revoked_only (privileges_of.Insert ∷ ps) table users b some m = other refl m
+revoked_only (privileges_of.Delete ∷ ps) table users b some m = other refl m
+revoked_only (privileges_of.Update columns ∷ ps) table users b some m = other refl m
+
 said_matches : (s : Statement) (b : Bool) → IsWellFormed s → IsWhole statement (kinds_of (statement_says s ++ ending b))
 said_matches (statements.CreateTable table columns) b h =
     this refl (one refl (one refl (one refl (regrouped (listed comma_lexeme column_says columns) (lexemes.Sign marks.Close ∷ []) (ending b)
@@ -207,9 +221,9 @@ said_matches (statements.Grant ps table users o) b h =
     (privileges_match _ _ (one refl (one refl (one refl (regrouped (listed comma_lexeme user_says users) (option_says o) (ending b)
     (users_match (optional grant_option finish) _ (option_matches o b) (option_next o b (Sign marks.Comma) refl refl) (option_next o b bracket refl refl) users h.1))))) refl refl ps h.0)))))))
 said_matches (statements.Revoke ps table users) b h =
-    other refl (other refl (other refl (other refl (other refl (other refl (this refl (regrouped (listed comma_lexeme privilege_says ps) _ (ending b)
-    (privileges_match _ _ (one refl (one refl (one refl (apart (listed comma_lexeme user_says users) (ending b)
-    (users_match finish _ (ends b) (no_comma b) (no_open b) users h.1))))) refl refl ps h.0))))))))
+    other refl (other refl (other refl (other refl (other refl (other refl (this refl (revoked_only ps table users b h.0.0.0 (revoked_matches ps table users b h.0 h.1))))))))
+said_matches (statements.RevokeOption ps table users) b h =
+    other refl (other refl (other refl (other refl (other refl (other refl (this refl (this refl (one refl (one refl (revoked_matches ps table users b h.0 h.1))))))))))
 said_matches statements.Checkpoint b h = other refl (other refl (other refl (other refl (other refl (other refl (other refl (this refl (ends b))))))))
 said_matches statements.Checkpoints b h = other refl (other refl (other refl (other refl (other refl (other refl (other refl (other refl (this refl (ends b)))))))))
 said_matches (statements.Export number only) b h =

@@ -44,6 +44,8 @@ IsWellFormed (statements.Update table sets filter) =
 IsWellFormed (statements.Grant privileges table users option) =
     ArePrivileges privileges × AreUsers users
 IsWellFormed (statements.Revoke privileges table users) = ArePrivileges privileges × AreUsers users
+IsWellFormed (statements.RevokeOption privileges table users) =
+    ArePrivileges privileges × AreUsers users
 IsWellFormed statements.Checkpoint = Unit {0}
 IsWellFormed statements.Checkpoints = Unit {0}
 IsWellFormed (statements.Export number only) = (1 ≤ number) × (number < 2 ^ 63)

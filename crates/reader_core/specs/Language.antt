@@ -9,7 +9,6 @@ use Rattle.lexer_core.specs.declared.fault.Code.TheVariants as codes
 use Rattle.lexer_core.specs.declared.fault.ReadFault.{ReadFault}
 use Rattle.lexer_core.specs.declared.fault.ReadFault.TheVariants as faults
 use Rattle.reader_core.specs.declared.statement.Statement.{Statement}
-use Rattle.reader_core.specs.Grammar.{Sign}
 use Rattle.reader_core.specs.Matches.{IsFault}
 use Rattle.reader_core.specs.Sentences.{statement}
 use Rattle.reader_core.specs.Saying.{statement_says}

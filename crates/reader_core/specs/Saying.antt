@@ -124,8 +124,10 @@ word_says w = lexemes.Key (word_keyword w) ∷ []
 
 -- the columns that UPDATE names, if it does
 abbrev pub privilege_columns : Privilege → Option (List Name)
+privilege_columns privileges_of.Select = None
+privilege_columns privileges_of.Insert = None
+privilege_columns privileges_of.Delete = None
 privilege_columns (privileges_of.Update columns) = columns
-privilege_columns _ = None
 
 -- the word, and then the columns
 abbrev pub privilege_says : Privilege → List Lexeme
@@ -136,6 +138,19 @@ abbrev pub option_says : Bool → List Lexeme
 option_says true =
     lexemes.Key keywords.With ∷ lexemes.Key keywords.Grant ∷ lexemes.Key keywords.Option ∷ []
 option_says false = []
+
+-- GRANT OPTION FOR, or nothing
+abbrev pub option_for_says : Bool → List Lexeme
+option_for_says true =
+    lexemes.Key keywords.Grant ∷ lexemes.Key keywords.Option ∷ lexemes.Key keywords.For ∷ []
+option_for_says false = []
+
+-- the privileges, ON and the table, FROM and the users
+abbrev pub privileges_from_say : List Privilege → Name → List User → List Lexeme
+privileges_from_say privileges table users =
+    listed comma_lexeme privilege_says privileges
+    ++ lexemes.Key keywords.On ∷ lexemes.Named table ∷ lexemes.Key keywords.From
+    ∷ listed comma_lexeme user_says users
 
 -- the number of a checkpoint
 abbrev pub number_says : ℕ → List Lexeme
@@ -171,10 +186,10 @@ statement_says (statements.Grant privileges table users option) =
     ++ lexemes.Key keywords.On ∷ lexemes.Named table ∷ lexemes.Key keywords.To
     ∷ (listed comma_lexeme user_says users ++ option_says option))
 statement_says (statements.Revoke privileges table users) =
-    lexemes.Key keywords.Revoke
-    ∷ (listed comma_lexeme privilege_says privileges
-    ++ lexemes.Key keywords.On ∷ lexemes.Named table ∷ lexemes.Key keywords.From
-    ∷ listed comma_lexeme user_says users)
+    lexemes.Key keywords.Revoke ∷ privileges_from_say privileges table users
+statement_says (statements.RevokeOption privileges table users) =
+    lexemes.Key keywords.Revoke ∷ lexemes.Key keywords.Grant ∷ lexemes.Key keywords.Option
+    ∷ lexemes.Key keywords.For ∷ privileges_from_say privileges table users
 statement_says statements.Checkpoint = lexemes.Key keywords.Checkpoint ∷ []
 statement_says statements.Checkpoints = lexemes.Key keywords.Checkpoints ∷ []
 statement_says (statements.Export number only) =

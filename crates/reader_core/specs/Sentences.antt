@@ -1,5 +1,5 @@
 -- The grammar of statements: each rule is a function of what may follow it.
-use Rattle.std.specs.Prelude.{◌<◌, ℕ, Bool, true, false, List, [], map, Option}
+use Rattle.std.specs.Prelude.{ℕ, Bool, true, false, List, [], map}
 use Rattle.base_core.specs.declared.keyword.Keyword.TheVariants as keywords
 use Rattle.base_core.specs.declared.name.Name.{Name}
 use Rattle.lexer_core.specs.declared.token.TokenKind.{TokenKind}
@@ -111,8 +111,10 @@ privilege_item =
 
 -- what may stand behind a privilege's word
 abbrev pub behind_word : PrivilegeWord → Grammar → Grammar
+behind_word words.Select k = k
+behind_word words.Insert k = k
+behind_word words.Delete k = k
 behind_word words.Update k = optional in_brackets k
-behind_word _ k = k
 
 -- no word twice, so that a fifth privilege is never just one too many
 abbrev pub privileges_rule : Rule
@@ -132,9 +134,18 @@ grant k =
     One (Key keywords.Grant) (privileges_on
     (One (Key keywords.To) (name_list 16 (optional grant_option k))))
 
--- revoke = REVOKE privs ON name FROM users
+-- GRANT OPTION FOR
+abbrev pub grant_option_for : Grammar → Grammar
+grant_option_for k =
+    One (Key keywords.Grant) (One (Key keywords.Option) (One (Key keywords.For) k))
+
+-- privs ON name FROM users
+abbrev pub privileges_from : Grammar → Grammar
+privileges_from k = privileges_on (One (Key keywords.From) (name_list 16 k))
+
+-- revoke = REVOKE [ GRANT OPTION FOR ] privs ON name FROM users
 abbrev pub revoke : Grammar → Grammar
-revoke k = One (Key keywords.Revoke) (privileges_on (One (Key keywords.From) (name_list 16 k)))
+revoke k = One (Key keywords.Revoke) (optional grant_option_for (privileges_from k))
 
 -- checkpoint = CHECKPOINT
 abbrev pub checkpoint : Grammar → Grammar

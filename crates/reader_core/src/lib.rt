@@ -1,9 +1,10 @@
 //! Statements read from lines.
 //!
-//! A [`Statement`] is one of ten: CREATE TABLE, INSERT, SELECT, DELETE, UPDATE, GRANT, REVOKE,
-//! CHECKPOINT, CHECKPOINTS and EXPORT. Its lists keep the limits of the language by their types: 1
-//! to 32 columns, names, values or assignments, at most 32 conditions, 1 to 16 users, and where the
-//! language asks for different names (or, of privileges, for different words) they differ.
+//! A [`Statement`] is one of eleven: CREATE TABLE, INSERT, SELECT, DELETE, UPDATE, GRANT, REVOKE,
+//! REVOKE GRANT OPTION FOR, CHECKPOINT, CHECKPOINTS and EXPORT. Its lists keep the limits of the
+//! language by their types: 1 to 32 columns, names, values or assignments, at most 32 conditions, 1
+//! to 16 users, and where the language asks for different names (or, of privileges, for different
+//! words) they differ.
 //! Contracts see a statement as plain data: names and texts as their bytes, lists as lists, the
 //! number of a checkpoint as a number.
 //!

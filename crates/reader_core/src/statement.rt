@@ -49,6 +49,12 @@ pub enum Statement {
         table: Name,
         users: Distinct<User, MAX_USERS>,
     },
+    /// Takes back the option alone: the users keep the privileges.
+    RevokeOption {
+        privileges: Privileges,
+        table: Name,
+        users: Distinct<User, MAX_USERS>,
+    },
     /// Begins a checkpoint.
     Checkpoint,
     /// Lists the checkpoints.

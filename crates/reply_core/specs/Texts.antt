@@ -46,6 +46,10 @@ abbrev pub about_atom : User → List ℕ → Atom → List ℕ
 about_atom user said atom =
     joined (user.0 ∷ said ∷ kind_text atom.kind ∷ codes " on " ∷ atom.table ∷ [])
 
+-- the same, and another user
+abbrev pub not_given : User → List ℕ → User → Atom → List ℕ
+not_given by said to atom = joined (about_atom by said atom ∷ codes " to " ∷ to.0 ∷ [])
+
 -- what is missing, without the moment
 abbrev pub lack_text : Lack → List ℕ
 lack_text (lacks.NoTable table) = joined (codes "no table " ∷ table ∷ [])
@@ -54,8 +58,7 @@ lack_text (lacks.NoColumn table column) =
     joined (codes "no column " ∷ column ∷ codes " in " ∷ table ∷ [])
 lack_text (lacks.NoPrivilege user atom) = about_atom user (codes " lacks ") atom
 lack_text (lacks.NoGrantOption user atom) = about_atom user (codes " may not grant ") atom
-lack_text (lacks.NoGrant by to atom) =
-    joined (about_atom by (codes " granted no ") atom ∷ codes " to " ∷ to.0 ∷ [])
+lack_text (lacks.NoGrant by to atom) = not_given by (codes " granted no ") to atom
 lack_text (lacks.NoCheckpoint number) = joined (codes "no checkpoint " ∷ decimal number ∷ [])
 lack_text (lacks.NoTableThen table number) =
     joined (codes "no table " ∷ table ∷ codes " at checkpoint " ∷ decimal number ∷ [])
@@ -71,6 +74,8 @@ lack_text (lacks.Full what) = joined (codes "full: " ∷ what_text what ∷ [])
 lack_text lacks.Busy = codes "busy"
 lack_text lacks.NoMemory = codes "no memory"
 lack_text lacks.Worn = codes "worn"
+lack_text (lacks.NoOptionGiven by to atom) =
+    not_given by (codes " granted no option for ") to atom
 
 -- a word, a moment, and what is missing
 abbrev pub stamped : List ℕ → ℕ → Lack → List ℕ

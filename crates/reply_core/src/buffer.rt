@@ -7,9 +7,9 @@ use itoa::Buffer;
 use std::alloc::Global;
 use std::marker::Model;
 
-/// The most bytes of a line but for those of rows and of the records of exports: those of a refusal
+/// The most bytes of a line but for those of rows and of the records of exports: what a lack needs
 /// that names two users, a column and a table of 30 bytes each, at a moment of 20 digits.
-pub const REPLY_BYTES: usize = 180;
+pub const REPLY_BYTES: usize = 191;
 
 /// Room for a text. Contracts see its bytes.
 #[derive(Drop)]

@@ -2,9 +2,9 @@
 ghost use Rattle.std.specs.Prelude.{◌≡◌, ◌≤◌, ◌+◌, ◌++◌, ◌∷◌, [], codes, decimal, length};
 ghost use Rattle.export_core.specs.Record.{field_text};
 ghost use Rattle.export_core.specs.Ticket.{header_line};
-ghost use Rattle.reply_core.specs.Texts.{joined, kind_text, type_text, what_text, about_atom, stamped, lack_text, refusal_text, list_line, checkpoint_line, head_text, reply_text, fault_text};
+ghost use Rattle.reply_core.specs.Texts.{joined, kind_text, type_text, what_text, about_atom, not_given, stamped, lack_text, refusal_text, list_line, checkpoint_line, head_text, reply_text, fault_text};
 ghost use Rattle.reply_core.specs.declared.buffer.TheConstants.{REPLY_BYTES};
-ghost use Rattle.reply_core.specs.declared.wording.TheConstants.{KIND_BYTES, ABOUT_ATOM_BYTES, NO_SELECT_BYTES, LACK_BYTES};
+ghost use Rattle.reply_core.specs.declared.wording.TheConstants.{KIND_BYTES, ABOUT_ATOM_BYTES, NOT_GIVEN_BYTES, NO_SELECT_BYTES, LACK_BYTES};
 
 use crate::buffer::ReplyBuffer;
 use base_core::{Atom, ColType, Kind, Lack, Moment, Name, User, What};
@@ -18,11 +18,14 @@ const KIND_BYTES: usize = 38;
 /// The most bytes of a user, a privilege and its table, without what is said of them.
 const ABOUT_ATOM_BYTES: usize = 102;
 
+/// The most bytes of a user, a privilege, its table, and another user, without what is said of them.
+const NOT_GIVEN_BYTES: usize = 136;
+
 /// The most bytes of a user, SELECT and a table, without what is said of them.
 const NO_SELECT_BYTES: usize = 71;
 
 /// The most bytes of what is missing: it names two users, a privilege and its table.
-const LACK_BYTES: usize = 148;
+const LACK_BYTES: usize = 159;
 
 fn type_text(ty: ColType) -> &'static [u8]
     ensures text { result.now ≡ type_text ty }
@@ -127,12 +130,13 @@ fn push_no_column(text: &mut ReplyBuffer, table: &Name, column: &Name)
     text.push_name(table);
 }
 
-fn push_no_grant(text: &mut ReplyBuffer, by: &User, to: &User, atom: &Atom)
-    requires { length text.old + LACK_BYTES ≤ REPLY_BYTES }
-    ensures text { text.new ≡ text.old ++ lack_text (Lack.NoGrant by.now to.now atom.now) }
-    ensures short { length text.new ≤ length text.old + LACK_BYTES }
+/// A user, what he has not granted, a privilege and its table, and to whom.
+fn push_not_given(text: &mut ReplyBuffer, by: &User, said: &[u8], to: &User, atom: &Atom)
+    requires { length text.old + length said.now + NOT_GIVEN_BYTES ≤ REPLY_BYTES }
+    ensures text { text.new ≡ text.old ++ not_given by.now said.now to.now atom.now }
+    ensures short { length text.new ≤ length text.old + length said.now + NOT_GIVEN_BYTES }
 {
-    push_about_atom(text, by, b" granted no ", atom);
+    push_about_atom(text, by, said, atom);
     text.push(b" to ");
     text.push_name(&to.0);
 }
@@ -185,7 +189,7 @@ fn push_lack(text: &mut ReplyBuffer, lack: &Lack)
         Lack::NoColumn { table, column } => push_no_column(text, table, column),
         Lack::NoPrivilege { user, atom } => push_about_atom(text, user, b" lacks ", atom),
         Lack::NoGrantOption { user, atom } => push_about_atom(text, user, b" may not grant ", atom),
-        Lack::NoGrant { by, to, atom } => push_no_grant(text, by, to, atom),
+        Lack::NoGrant { by, to, atom } => push_not_given(text, by, b" granted no ", to, atom),
         Lack::NoCheckpoint(number) => push_number_in(text, b"no checkpoint ", *number, b""),
         Lack::NoTableThen { table, number } => push_no_table_then(text, table, *number),
         Lack::NoSelectThen { user, table } => push_no_select(text, user, b" lacked", table),
@@ -196,6 +200,9 @@ fn push_lack(text: &mut ReplyBuffer, lack: &Lack)
         Lack::Busy => text.push(b"busy"),
         Lack::NoMemory => text.push(b"no memory"),
         Lack::Worn => text.push(b"worn"),
+        Lack::NoOptionGiven { by, to, atom } => {
+            push_not_given(text, by, b" granted no option for ", to, atom)
+        }
     }
 }
 
@@ -210,7 +217,7 @@ fn push_stamped(text: &mut ReplyBuffer, word: &[u8], at: Moment, lack: &Lack)
 }
 
 fn push_refusal(text: &mut ReplyBuffer, at: Moment, lack: &Lack)
-    requires { length text.old + 180 ≤ REPLY_BYTES }
+    requires { length text.old + 191 ≤ REPLY_BYTES }
     ensures { text.new ≡ text.old ++ refusal_text at.0 lack.now }
 {
     if let Lack::Worn = lack {

@@ -29,8 +29,8 @@
 //! # Cost
 //!
 //! A line costs its bytes once, a turn, and the bytes of its answer. A session takes memory for a
-//! buffer of 65,536 bytes, a line, and a reply, before its first read; then for statements, for the
-//! texts of rows and lists, and for the tokens of a line where none before had so many.
+//! buffer of 65,536 bytes, a line, and a reply, before its first read; then for statements, for
+//! what queries and exports answer, and for the tokens of a line where none before had so many.
 #![tactic(auto)]
 
 mod checkpointing;

@@ -93,6 +93,7 @@ module _ (ts : List (Name × Contents)) (l : Limits) (m : ℕ) (c : Content) (os
       (λ a of_this. may_grant-alike a (ap (owner_of os) of_this ∙ (h table stands ∙ ap (owner_of ps) (sym of_this))))
       (atoms-table table (columns_of ts table) asked))))
   verdict-owners (statements.Revoke asked table users) h = refl
+  verdict-owners (statements.RevokeOption asked table users) h = refl
   verdict-owners statements.Checkpoint h = refl
   verdict-owners statements.Checkpoints h = refl
   verdict-owners (statements.Export number None) h = refl

@@ -16,7 +16,8 @@ use Rattle.grants_core.specs.declared.grant.Ownership.{Ownership}
 use Rattle.grants_core.specs.declared.grant.Change.{Change}
 use Rattle.grants_core.specs.declared.grant.Change.TheVariants as change
 use Rattle.grants_core.specs.Valid.{kept_with, is_supported}
-use Rattle.grants_core.specs.History.{made_by, made_by_all, grants_of, granted_from, granted, in_force_after, owners_after, unstruck_after, is_struck}
+use Rattle.grants_core.specs.Content.{option_off}
+use Rattle.grants_core.specs.History.{made_by, made_by_all, grants_of, granted_from, granted, in_force_after, owners_after, unstruck_after, left_after, is_struck, is_unoptioned}
 use Rattle.grants_core.proofs.SinglesLemmas.{length-singles}
 use Rattle.capture_core.specs.Image.{row_total}
 use Rattle.system_core.specs.Journal.{tables_after}
@@ -50,6 +51,7 @@ row_total-after tables user (statements.Update table sets filter) = total-change
 row_total-after tables user (statements.Select list table filter) = omega arith
 row_total-after tables user (statements.Grant privileges table users option) = omega arith
 row_total-after tables user (statements.Revoke privileges table users) = omega arith
+row_total-after tables user (statements.RevokeOption privileges table users) = omega arith
 row_total-after tables user statements.Checkpoint = omega arith
 row_total-after tables user statements.Checkpoints = omega arith
 row_total-after tables user (statements.Export number only) = omega arith
@@ -66,6 +68,7 @@ length-grants_of : (n m : ℕ) (c : Change) → length (grants_of n m c) ≡ mad
 length-grants_of n m (change.Create table owner) = refl
 length-grants_of n m (change.Grant by atoms whom option) = length-singles n (record { 0 = m }) by atoms whom option
 length-grants_of n m (change.Revoke by atoms whom) = refl
+length-grants_of n m (change.RevokeOption by atoms whom) = refl
 length-grants_of n m change.Other = refl
 
 length-granted : (n m : ℕ) (cs : List Change) → length (granted_from n m cs) ≡ made_by_all cs
@@ -77,6 +80,7 @@ length-granted n m (c ∷ cs) =
 -- no more are in force than were made
 pub in_force-few : (cs : List Change) → length (in_force_after cs) ≤ made_by_all cs
 in_force-few cs =
-    let kept = fold-few (owners_after cs) [] (unstruck_after cs) in
+    let kept = fold-few (owners_after cs) [] (left_after cs) in
+    let left : length (left_after cs) ≡ length (unstruck_after cs) = length-map (unstruck_after cs) (option_off (is_unoptioned cs)) in
     let unstruck = filter-few (λ g. not (is_struck cs g)) (granted cs) in
-    omega (arith, kept, unstruck, length-granted 0 1 cs)
+    omega (arith, kept, left, unstruck, length-granted 0 1 cs)

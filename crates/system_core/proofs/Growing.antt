@@ -13,11 +13,12 @@ use Rattle.grants_core.specs.declared.grant.Change.{Change}
 use Rattle.grants_core.specs.declared.grant.Change.TheVariants as change
 use Rattle.grants_core.specs.Owners.{owner_of, was_granted, with_owner, with_granted}
 use Rattle.grants_core.specs.Valid.{valid}
-use Rattle.grants_core.specs.Content.{Content, without, singles}
+use Rattle.grants_core.specs.Content.{Content, without, names, options_off, singles}
 use Rattle.grants_core.specs.History.{made_by_all, granted, grants_of}
 use Rattle.base_core.proofs.SameLemmas.{same_name-true, same_name-refl}
 use Rattle.grants_core.proofs.OwnersLemmas.{was_granted-with_owner, owner_of-with_owner, owner_of-cons, owner_of-marked, valid-owners, singles-all, AllByRecursion-append}
 use Rattle.grants_core.proofs.GrantLemmas.{All-filtered, All-implied}
+use Rattle.grants_core.proofs.OptionLemmas.{All-options_off}
 use Rattle.grants_core.proofs.HistoryLemmas.{granted_from-append}
 use Rattle.system_core.specs.declared.machine.event.Entry.{Entry}
 use Rattle.monitor_core.specs.Verdict.{is_table}
@@ -50,6 +51,7 @@ abbrev pub creates : Change → Name → Bool
 creates (change.Create table owner) name = same_name table name
 creates (change.Grant by atoms whom option) name = false
 creates (change.Revoke by atoms whom) name = false
+creates (change.RevokeOption by atoms whom) name = false
 creates change.Other name = false
 
 -- the atoms of a grant are of tables
@@ -57,6 +59,7 @@ abbrev pub OnTables : List (Name × Contents) → Change → Type 0
 OnTables tables (change.Create table owner) = Unit {0}
 OnTables tables (change.Grant by atoms whom option) = AllByRecursion (λ a. is_table tables a.table ≡ true) atoms
 OnTables tables (change.Revoke by atoms whom) = Unit {0}
+OnTables tables (change.RevokeOption by atoms whom) = Unit {0}
 OnTables tables change.Other = Unit {0}
 
 -- tables stay, and none is new but for the one that the change creates
@@ -147,6 +150,19 @@ agree-after tables after c d m (change.Revoke by atoms whom) h on ot grows = rec
   owned = λ name stands. h.owned name (grows.old name refl stands);
   fresh = λ name none. h.fresh name (before tables after (change.Revoke by atoms whom) grows name none);
 }
+agree-after tables after c d m (change.RevokeOption by atoms whom) h on ot grows =
+    let Here : Grant → Type 0 = λ g. is_table tables g.atom.table ≡ true in
+    let left : List Grant = options_off by atoms whom d.in_force in
+    record {
+      in_force = ap (λ k. valid c.owners (options_off by atoms whom k)) h.in_force
+          ∙ valid-owners d.owners c.owners left
+          (All-implied Here _ left
+          (λ g stands. owns-alike c.owners d.owners g.grantor g.atom (h.owned g.atom.table stands))
+          (All-options_off Here (names by atoms whom) d.in_force (λ g here. here) on));
+      made = h.made;
+      owned = λ name stands. h.owned name (grows.old name refl stands);
+      fresh = λ name none. h.fresh name (before tables after (change.RevokeOption by atoms whom) grows name none);
+    }
 agree-after tables after c d m change.Other h on ot grows = record {
   in_force = h.in_force;
   made = h.made;
@@ -162,12 +178,14 @@ new_on : (tables : List (Name × Contents)) (n m : ℕ) (c : Change) → OnTable
 new_on tables n m (change.Create table owner) ot = tt
 new_on tables n m (change.Grant by atoms whom option) ot = singles-all (λ g. is_table tables g.atom.table ≡ true) (λ a. is_table tables a.table ≡ true) n (record { 0 = m }) by atoms whom option (λ g q by_user made. q) ot
 new_on tables n m (change.Revoke by atoms whom) ot = tt
+new_on tables n m (change.RevokeOption by atoms whom) ot = tt
 new_on tables n m change.Other ot = tt
 
 stay_on : (tables after : List (Name × Contents)) (c : Change) → ((name : Name) → is_table tables name ≡ true → is_table after name ≡ true) → OnTables tables c → OnTables after c
 stay_on tables after (change.Create table owner) stays ot = tt
 stay_on tables after (change.Grant by atoms whom option) stays ot = All-atoms (λ a. is_table tables a.table ≡ true) (λ a. is_table after a.table ≡ true) atoms (λ a. stays a.table) ot
 stay_on tables after (change.Revoke by atoms whom) stays ot = tt
+stay_on tables after (change.RevokeOption by atoms whom) stays ot = tt
 stay_on tables after change.Other stays ot = tt
 
 pub granted_on : (tables after : List (Name × Contents)) (cs : List Change) (c : Change) → On tables (granted cs) → OnTables tables c → ((name : Name) → is_table tables name ≡ true → is_table after name ≡ true) → On after (granted (cs ++ c ∷ []))

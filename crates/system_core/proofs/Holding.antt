@@ -8,14 +8,17 @@ use Rattle.base_core.specs.declared.value.Moment.{Moment}
 use Rattle.base_core.specs.declared.limits.Limits.{Limits}
 use Rattle.capture_core.specs.Image.{image, records}
 use Rattle.capture_core.specs.declared.progress.Progress.TheVariants.{Left}
-use Rattle.capture_core.specs.Capturing.{InProgress, TellsProgress, taken_off}
+use Rattle.tables_core.specs.Contents.{Database}
+use Rattle.grants_core.specs.declared.grant.Grant.{Grant}
+use Rattle.capture_core.specs.Capturing.{ActiveCapture, InProgress, TellsProgress, in_progress, taken_off}
 use Rattle.capture_core.specs.declared.image.Image.{Image}
 use Rattle.catalogue_core.specs.Kept.{last_eight, number_and_point}
 use Rattle.system_core.specs.declared.machine.event.Entry.{Entry}
 use Rattle.system_core.specs.Journal.{contents, rights_at}
 use Rattle.system_core.specs.Exports.{journal_at}
 use Rattle.system_core.specs.World.{records_at, with_active, IsRising, IsSoundActive}
-use Rattle.system_core.specs.Step.{with_begun, with_left, with_finished}
+use Rattle.system_core.specs.declared.machine.event.Reply.TheVariants.{Finished}
+use Rattle.system_core.specs.Step.{Advances, with_begun, with_left, with_finished}
 use Rattle.system_core.specs.Standing.{Accepted, Checkpointing, after_begin, after_step, as_active, world_of, image_at, IsImageOf, IsComing, KeepsCheckpoints}
 use Rattle.system_core.proofs.Rising.{each-drop, each-front, each-weaker, each-end, rising-drop, rising-front, rising-end}
 use Rattle.system_core.proofs.Imaging.{journal_at-more, image_at-more}
@@ -224,6 +227,28 @@ holds-done chunk k accepted c images i done h = by c.active refl done
     by : (o : Option InProgress) → c.active ≡ o → IsDone k o i → KeepsCheckpoints chunk accepted (after_step k c) (last_eight (images ++ i ∷ []))
     by None is t = absurd t
     by (Some a) is t = subst (λ (j : Image). KeepsCheckpoints chunk accepted (after_step k c) (last_eight (images ++ j ∷ []))) (sym t.1) (holds-finished chunk accepted c images a is h k t.0)
+
+-- the number is that of the checkpoint in progress
+abbrev pub IsNumberOf : ℕ → Option InProgress → Type 0
+IsNumberOf n None = ⊥
+IsNumberOf n (Some a) = n ≡ a.coming.number
+
+abbrev number_in : ℕ → Option (ℕ × Moment × ℕ) → ℕ
+number_in other None = other
+number_in other (Some told) = told.0
+
+pub number-told : (active : Option ActiveCapture) (d : Database) (grants : List Grant) (n : ℕ) (point : Moment) (left : ℕ) → option_map {U = ℕ × Moment × ℕ} (λ (a : ActiveCapture). (a.number, a.point, a.left)) active ≡ Some (n, point, left) → IsNumberOf n (in_progress active d grants)
+number-told None d grants n point left e = cc
+number-told (Some a) d grants n point left e = sym (ap (number_in n) e)
+
+-- the world goes on to one where it is finished
+pub advances-done : (chunk : ℕ) (accepted : Accepted) (c : Checkpointing) (images : List Image) (i : Image) (n : ℕ) → IsDone chunk c.active i → IsNumberOf n c.active → KeepsCheckpoints chunk accepted c images
+    → Advances (world_of chunk accepted c images) (option_map as_active c.active) (Finished n) (world_of chunk accepted (after_step chunk c) (last_eight (images ++ i ∷ [])))
+advances-done chunk accepted c images i n done number h = by c.active refl done number
+  where
+    by : (o : Option InProgress) → c.active ≡ o → IsDone chunk o i → IsNumberOf n o → Advances (world_of chunk accepted c images) (option_map as_active o) (Finished n) (world_of chunk accepted (after_step chunk c) (last_eight (images ++ i ∷ [])))
+    by None is t m = absurd t
+    by (Some a) is t m = (t.0, m, subst (λ (j : Image). world_of chunk accepted (after_step chunk c) (last_eight (images ++ j ∷ [])) ≡ with_finished (world_of chunk accepted c images) (as_active a)) (sym t.1) (finished-world chunk accepted c images a is h chunk t.0))
 
 -- **after it was given up, if one was active**
 pub holds-abandoned : (chunk : ℕ) (accepted : Accepted) (c : Checkpointing) (images : List Image) → KeepsCheckpoints chunk accepted c images → KeepsCheckpoints chunk accepted (after_abandon c) images

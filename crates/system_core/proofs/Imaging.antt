@@ -105,6 +105,7 @@ still tables user (statements.Update table sets filter) name h = in_changed tabl
 still tables user (statements.Select list table filter) name h = h
 still tables user (statements.Grant privileges table users option) name h = h
 still tables user (statements.Revoke privileges table users) name h = h
+still tables user (statements.RevokeOption privileges table users) name h = h
 still tables user statements.Checkpoint name h = h
 still tables user statements.Checkpoints name h = h
 still tables user (statements.Export number only) name h = h

@@ -23,11 +23,12 @@ use Rattle.grants_core.specs.declared.grant.Change.{Change}
 use Rattle.grants_core.specs.Owners.{with_owner}
 use Rattle.grants_core.specs.Content as rights_of
 use Rattle.grants_core.specs.Content.{Content, after_grant}
-use Rattle.grants_core.specs.History.{content_after, owners_after, in_force_after, unstruck_after, granted}
+use Rattle.grants_core.specs.History.{content_after, owners_after, in_force_after, unstruck_after, left_after, is_unoptioned, granted}
 use Rattle.base_core.proofs.SameLemmas.{same_name-true}
 use Rattle.grants_core.proofs.OwnersLemmas.{was_granted-with_owner, owner_of-with_owner}
 use Rattle.grants_core.proofs.GrantLemmas.{All-filtered, All-implied, All-valid}
-use Rattle.grants_core.proofs.HistoryLemmas.{content-create, content-grant, content-revoke, content-other, unstruck-early}
+use Rattle.grants_core.proofs.HistoryLemmas.{content-create, content-grant, content-revoke, content-revoke_option, content-other, left-early}
+use Rattle.grants_core.proofs.OptionLemmas.{All-options_off}
 use Rattle.capture_core.specs.Image.{row_total}
 use Rattle.system_core.specs.declared.machine.event.Entry.{Entry}
 use Rattle.monitor_core.specs.Verdict.{State, checks, verdict, table_stands, room_for_change, holds_grant_option, is_table, columns_of, atoms_at, is_change}
@@ -59,6 +60,7 @@ new at user (statements.Delete table filter) ok = tt
 new at user (statements.Update table sets filter) ok = tt
 new at user (statements.Grant privileges table users option) ok = tt
 new at user (statements.Revoke privileges table users) ok = tt
+new at user (statements.RevokeOption privileges table users) ok = tt
 new at user statements.Checkpoint ok = tt
 new at user statements.Checkpoints ok = tt
 new at user (statements.Export number only) ok = tt
@@ -74,6 +76,7 @@ on_tables at user (statements.Select list table filter) ok = tt
 on_tables at user (statements.Delete table filter) ok = tt
 on_tables at user (statements.Update table sets filter) ok = tt
 on_tables at user (statements.Revoke privileges table users) ok = tt
+on_tables at user (statements.RevokeOption privileges table users) ok = tt
 on_tables at user statements.Checkpoint ok = tt
 on_tables at user statements.Checkpoints ok = tt
 on_tables at user (statements.Export number only) ok = tt
@@ -89,14 +92,16 @@ may at user privileges table users option ok =
 -- what is in force was granted, and earlier than now
 in_force_on : (tables : List (Name × Contents)) (cs : List Change) → On tables (granted cs) → On tables (in_force_after cs)
 in_force_on tables cs h =
-    All-valid (λ g. is_table tables g.atom.table ≡ true) (owners_after cs) (unstruck_after cs) (All-filtered (λ g. is_table tables g.atom.table ≡ true) _ (granted cs) h)
+    let Here : Grant → Type 0 = λ g. is_table tables g.atom.table ≡ true in
+    All-valid Here (owners_after cs) (left_after cs)
+    (All-options_off Here (is_unoptioned cs) (unstruck_after cs) (λ g here. here) (All-filtered Here _ (granted cs) h))
 
 early : (journal : List Entry) → All (λ g. g.moment.0 < length journal + 1) (in_force_after (changes journal))
 early journal =
     let cs : List Change = changes journal in
     All-from_recursion (λ g. g.moment.0 < length journal + 1) (in_force_after cs)
     (All-implied (λ g. g.moment.0 < 1 + length cs) (λ g. g.moment.0 < length journal + 1) (in_force_after cs) (λ g lt. omega (arith, lt, length-changes journal))
-    (All-valid (λ g. g.moment.0 < 1 + length cs) (owners_after cs) (unstruck_after cs) (unstruck-early cs)))
+    (All-valid (λ g. g.moment.0 < 1 + length cs) (owners_after cs) (left_after cs) (left-early cs)))
 
 module _ (limits : Limits) (journal : List Entry) (tables : List (Name × Contents)) (rights : Content) (h : KeepsJournal limits journal tables rights) where
   can : (user : User) (s : Statement) → is_change s ≡ true → verdict_at limits journal user s ≡ Ok tt → CanCarry (contents journal) rights (length journal) user s
@@ -127,6 +132,7 @@ module _ (limits : Limits) (journal : List Entry) (tables : List (Name × Conten
         h.sound.narrow table,
       )
   can user (statements.Revoke privileges table users) change ok = h.sound.narrow table
+  can user (statements.RevokeOption privileges table users) change ok = h.sound.narrow table
   can user (statements.Select list table filter) change ok = cc
   can user statements.Checkpoint change ok = cc
   can user statements.Checkpoints change ok = cc
@@ -172,6 +178,7 @@ room at user (statements.Delete table filter) c ok = in_room at (passed (checks 
 room at user (statements.Update table sets filter) c ok = in_room at (passed (checks at user (statements.Update table sets filter)) ok).1.1.1.1.1.1.1.0
 room at user (statements.Grant privileges table users option) c ok = in_room at (passed (checks at user (statements.Grant privileges table users option)) ok).1.1.1.0
 room at user (statements.Revoke privileges table users) c ok = in_room at (passed (checks at user (statements.Revoke privileges table users)) ok).1.1.1.0
+room at user (statements.RevokeOption privileges table users) c ok = in_room at (passed (checks at user (statements.RevokeOption privileges table users)) ok).1.1.1.0
 room at user (statements.Select list table filter) c ok = cc
 room at user statements.Checkpoint c ok = cc
 room at user statements.Checkpoints c ok = cc
@@ -200,6 +207,7 @@ rights-more limits journal user (statements.Grant privileges table users option)
     content-grant (changes journal) user (atoms_at (contents journal) table privileges) users option (may at user privileges table users option ok)
     ∙ ap (λ m. after_grant (rights_at journal) user (atoms_at (contents journal) table privileges) users option (record { 0 = m })) count
 rights-more limits journal user (statements.Revoke privileges table users) on ok = content-revoke (changes journal) user (atoms_at (contents journal) table privileges) users
+rights-more limits journal user (statements.RevokeOption privileges table users) on ok = content-revoke_option (changes journal) user (atoms_at (contents journal) table privileges) users
 rights-more limits journal user (statements.Insert table values) on ok = content-other (changes journal)
 rights-more limits journal user (statements.Select list table filter) on ok = content-other (changes journal)
 rights-more limits journal user (statements.Delete table filter) on ok = content-other (changes journal)
@@ -277,6 +285,7 @@ module _ (limits : Limits) (journal : List Entry) (tables : List (Name × Conten
   leaves user (statements.Update table sets filter) new_rights ok left = as_before new_rights left
   leaves user (statements.Grant privileges table users option) new_rights ok left = as_before new_rights left
   leaves user (statements.Revoke privileges table users) new_rights ok left = as_before new_rights left
+  leaves user (statements.RevokeOption privileges table users) new_rights ok left = as_before new_rights left
   leaves user statements.Checkpoint new_rights ok left = as_before new_rights left
   leaves user statements.Checkpoints new_rights ok left = as_before new_rights left
   leaves user (statements.Export number only) new_rights ok left = as_before new_rights left

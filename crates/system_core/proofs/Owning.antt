@@ -68,6 +68,7 @@ module _ (os : List Ownership) (tables : List (Name × Contents)) (h : OwnersAre
   owners-after user (statements.Update table sets filter) is_new = λ name. changed (λ o. owner_of os name ≡ option_map (λ t. t.owner) o) tables table (with_updated_rows sets filter) name (λ e. e ∙ sym (same_owner _ (λ t. refl) (table_of tables name))) (h name)
   owners-after user (statements.Grant privileges table users option) is_new = λ name. owner_of-marked (atoms_at tables table privileges) os name ∙ h name
   owners-after user (statements.Revoke privileges table users) is_new = h
+  owners-after user (statements.RevokeOption privileges table users) is_new = h
   owners-after user (statements.Select list table filter) is_new = h
   owners-after user statements.Checkpoint is_new = h
   owners-after user statements.Checkpoints is_new = h

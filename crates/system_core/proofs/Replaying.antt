@@ -25,6 +25,8 @@ alike at others user (statements.Grant privileges table users option) h ok =
     ap (λ (columns : List Column). change.Grant user (atoms_of table columns privileges) users option) (h table (require-Ok _ _ (passed (checks at user (statements.Grant privileges table users option)) ok).0))
 alike at others user (statements.Revoke privileges table users) h ok =
     ap (λ (columns : List Column). change.Revoke user (atoms_of table columns privileges) users) (h table (require-Ok _ _ (passed (checks at user (statements.Revoke privileges table users)) ok).0))
+alike at others user (statements.RevokeOption privileges table users) h ok =
+    ap (λ (columns : List Column). change.RevokeOption user (atoms_of table columns privileges) users) (h table (require-Ok _ _ (passed (checks at user (statements.RevokeOption privileges table users)) ok).0))
 alike at others user (statements.Insert table values) h ok = refl
 alike at others user (statements.Select list table filter) h ok = refl
 alike at others user (statements.Delete table filter) h ok = refl

@@ -28,6 +28,7 @@ turned_away-unworn at (lacks.NoColumn t c) h = refl
 turned_away-unworn at (lacks.NoPrivilege u a) h = refl
 turned_away-unworn at (lacks.NoGrantOption u a) h = refl
 turned_away-unworn at (lacks.NoGrant b u a) h = refl
+turned_away-unworn at (lacks.NoOptionGiven b u a) h = refl
 turned_away-unworn at (lacks.NoCheckpoint n) h = refl
 turned_away-unworn at (lacks.NoTableThen t n) h = refl
 turned_away-unworn at (lacks.NoSelectThen u t) h = refl

@@ -10,7 +10,7 @@ use Rattle.tables_core.specs.Fitting.{ValuesFit, AssignmentsFit}
 use Rattle.grants_core.specs.declared.grant.Change.{Change}
 use Rattle.grants_core.specs.declared.grant.Change.TheVariants as change
 use Rattle.grants_core.specs.Owners.{was_granted}
-use Rattle.grants_core.specs.Content.{Content, may_grant, after_create, after_grant, after_revoke}
+use Rattle.grants_core.specs.Content.{Content, may_grant, after_create, after_grant, after_revoke, after_revoke_option}
 use Rattle.monitor_core.specs.Verdict.{atoms_at, columns_of}
 
 -- the rights after a change, of which the moment before it is given
@@ -19,6 +19,8 @@ rights_after rights moment (change.Create table owner) = after_create rights tab
 rights_after rights moment (change.Grant by atoms whom option) =
     after_grant rights by atoms whom option (record { 0 = moment + 1 })
 rights_after rights moment (change.Revoke by atoms whom) = after_revoke rights by atoms whom
+rights_after rights moment (change.RevokeOption by atoms whom) =
+    after_revoke_option rights by atoms whom
 rights_after rights moment change.Other = rights
 
 -- the most columns of a table
@@ -51,7 +53,12 @@ CanCarry tables rights moment user (statements.Grant privileges table users opti
     × (length (columns_of tables table) ≤ most_columns)
 CanCarry tables rights moment user (statements.Revoke privileges table users) =
     length (columns_of tables table) ≤ most_columns
-CanCarry tables rights moment user _ = ⊥
+CanCarry tables rights moment user (statements.RevokeOption privileges table users) =
+    length (columns_of tables table) ≤ most_columns
+CanCarry tables rights moment user (statements.Select list table filter) = ⊥
+CanCarry tables rights moment user statements.Checkpoint = ⊥
+CanCarry tables rights moment user statements.Checkpoints = ⊥
+CanCarry tables rights moment user (statements.Export number only) = ⊥
 
 -- what a change that found no memory may leave of the rights: a creation may leave an owner of the name
 abbrev pub MayLeave : Content → Change → Content → Type 0
@@ -59,6 +66,7 @@ MayLeave rights (change.Create table owner) new =
     (new ≡ rights) ⊎ (new ≡ after_create rights table owner)
 MayLeave rights (change.Grant by atoms whom option) new = new ≡ rights
 MayLeave rights (change.Revoke by atoms whom) new = new ≡ rights
+MayLeave rights (change.RevokeOption by atoms whom) new = new ≡ rights
 MayLeave rights change.Other new = new ≡ rights
 
 -- a new table has few columns

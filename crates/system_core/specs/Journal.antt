@@ -24,7 +24,13 @@ tables_after tables user (statements.Delete table filter) =
     with_change table (without_chosen_rows filter) tables
 tables_after tables user (statements.Update table sets filter) =
     with_change table (with_updated_rows sets filter) tables
-tables_after tables user _ = tables
+tables_after tables user (statements.Select list table filter) = tables
+tables_after tables user (statements.Grant privileges table users option) = tables
+tables_after tables user (statements.Revoke privileges table users) = tables
+tables_after tables user (statements.RevokeOption privileges table users) = tables
+tables_after tables user statements.Checkpoint = tables
+tables_after tables user statements.Checkpoints = tables
+tables_after tables user (statements.Export number only) = tables
 
 abbrev pub tables_with : List (Name × Contents) → Entry → List (Name × Contents)
 tables_with tables e = tables_after tables e.user e.statement
@@ -36,11 +42,19 @@ contents journal = fold tables_with [] journal
 -- what a user's statement changes of rights, at these tables
 abbrev pub change_of : List (Name × Contents) → User → Statement → Change
 change_of tables user (statements.CreateTable table columns) = change.Create table user
+change_of tables user (statements.Insert table values) = change.Other
+change_of tables user (statements.Select list table filter) = change.Other
+change_of tables user (statements.Delete table filter) = change.Other
+change_of tables user (statements.Update table sets filter) = change.Other
 change_of tables user (statements.Grant privileges table users option) =
     change.Grant user (atoms_at tables table privileges) users option
 change_of tables user (statements.Revoke privileges table users) =
     change.Revoke user (atoms_at tables table privileges) users
-change_of tables user _ = change.Other
+change_of tables user (statements.RevokeOption privileges table users) =
+    change.RevokeOption user (atoms_at tables table privileges) users
+change_of tables user statements.Checkpoint = change.Other
+change_of tables user statements.Checkpoints = change.Other
+change_of tables user (statements.Export number only) = change.Other
 
 -- the changes of rights by entries, of which the first finds these tables
 abbrev pub changes_from : List (Name × Contents) → List Entry → List Change

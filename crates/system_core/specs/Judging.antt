@@ -62,7 +62,15 @@ checkpoint_checks w user (statements.Export number only) =
     ∷ at_point (point_of w number)
     (λ point. export_check (journal_at w.journal point) w.journal number user only)
     ∷ []
-checkpoint_checks w user _ = []
+checkpoint_checks w user statements.Checkpoints = []
+checkpoint_checks w user (statements.CreateTable table columns) = []
+checkpoint_checks w user (statements.Insert table values) = []
+checkpoint_checks w user (statements.Select list table filter) = []
+checkpoint_checks w user (statements.Delete table filter) = []
+checkpoint_checks w user (statements.Update table sets filter) = []
+checkpoint_checks w user (statements.Grant privileges table users option) = []
+checkpoint_checks w user (statements.Revoke privileges table users) = []
+checkpoint_checks w user (statements.RevokeOption privileges table users) = []
 
 -- the verdict on what a user asks of a world
 abbrev pub verdict_of : World → User → Statement → Check

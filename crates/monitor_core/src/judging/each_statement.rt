@@ -4,9 +4,9 @@
 ghost use Rattle.std.specs.Prelude.{◌≡◌, ℕ, ◌∷◌, [], is_ok};
 ghost use Rattle.base_core.specs.declared.name.User.{User};
 ghost use Rattle.reader_core.specs.declared.statement.Statement.TheVariants as statements;
-ghost use Rattle.monitor_core.specs.Verdict.{verdict, first_lack, table_is_new, room_for_change, room_for_table};
+ghost use Rattle.monitor_core.specs.Verdict.{verdict, first_lack, each, atoms_at, table_is_new, table_stands, listed_columns_stand, room_for_change, room_for_table};
 
-use crate::atoms::{HoldsGrantOption, MadeGrants, RoomForGrants};
+use crate::atoms::{AtomCheck, GivenOptions, HoldsGrantOption, MadeGrants, RoomForGrants};
 use crate::checks::{each_takes, is_table, require};
 use crate::judging::Judge;
 use base_core::{Assignment, Atom, Condition, Distinct, Kind, Lack, Name, User, Value, What};
@@ -140,6 +140,32 @@ impl<A: Authority> Judge<'_, A> {
         self.each_atom(&room, table, privileges)
     }
 
+    // What is asked of a revocation, of which the check says what has to be in force of each atom.
+    fn revocation<C: AtomCheck>(
+        &self,
+        in_force: &C,
+        table: Name,
+        privileges: &[Privilege],
+    ) -> Result<(), Lack>
+        ensures { result ≡ first_lack
+            (table_stands self.now table
+            ∷ listed_columns_stand self.now table privileges.now
+            ∷ each (atoms_at self.now.tables table privileges.now) (C.check_of in_force.now)
+            ∷ room_for_change self.now
+            ∷ []) }
+    {
+        if let Err(lack) = self.table_stands(table) {
+            return Err(lack);
+        }
+        if let Err(lack) = self.listed_stand(table, privileges) {
+            return Err(lack);
+        }
+        if let Err(lack) = self.each_atom(in_force, table, privileges) {
+            return Err(lack);
+        }
+        self.room_for_change()
+    }
+
     fn revoke(
         &self,
         user: &User,
@@ -156,16 +182,26 @@ impl<A: Authority> Judge<'_, A> {
             by,
             users,
         };
-        if let Err(lack) = self.table_stands(table) {
-            return Err(lack);
-        }
-        if let Err(lack) = self.listed_stand(table, privileges) {
-            return Err(lack);
-        }
-        if let Err(lack) = self.each_atom(&made, table, privileges) {
-            return Err(lack);
-        }
-        self.room_for_change()
+        self.revocation(&made, table, privileges)
+    }
+
+    fn revoke_option(
+        &self,
+        user: &User,
+        privileges: &[Privilege],
+        table: Name,
+        users: &[User],
+    ) -> Result<(), Lack>
+        ensures { result ≡ verdict self.now user.now
+            (statements.RevokeOption privileges.now table users.now) }
+    {
+        let by = *user;
+        let given = GivenOptions {
+            judge: self,
+            by,
+            users,
+        };
+        self.revocation(&given, table, privileges)
     }
 
     /// The table that an export is limited to stands.
@@ -214,6 +250,11 @@ impl<A: Authority> Judge<'_, A> {
                 table,
                 users,
             } => self.revoke(user, privileges.as_slice(), *table, users.as_slice()),
+            Statement::RevokeOption {
+                privileges,
+                table,
+                users,
+            } => self.revoke_option(user, privileges.as_slice(), *table, users.as_slice()),
             Statement::Checkpoint | Statement::Checkpoints => Ok(()),
             Statement::Export { number: _, only } => self.export(only),
         }

@@ -6,8 +6,8 @@ ghost use Rattle.lexer_core.specs.declared.token.Mark.TheVariants as marks;
 ghost use Rattle.reader_core.specs.Grammar.{Items};
 ghost use Rattle.reader_core.specs.Cursor.{Reads};
 ghost use Rattle.reader_core.specs.Privileges.{word_of};
-ghost use Rattle.reader_core.specs.Sentences.{optional, name_list, selection, in_brackets, behind_word, privileges_rule, privilege_item, filter, grant_option, only_table};
-ghost use Rattle.reader_core.specs.Saying.{comma_lexeme, listed, names_say, name_says, user_says, selection_says, columns_say, privilege_columns, privilege_says, filter_says, option_says, only_says};
+ghost use Rattle.reader_core.specs.Sentences.{optional, name_list, selection, in_brackets, behind_word, privileges_rule, privilege_item, filter, grant_option, grant_option_for, only_table};
+ghost use Rattle.reader_core.specs.Saying.{comma_lexeme, listed, names_say, name_says, user_says, selection_says, columns_say, privilege_columns, privilege_says, filter_says, option_says, option_for_says, only_says};
 ghost use Rattle.reader_core.specs.Forming.{IsWellFormedPrivilege, ArePrivileges};
 
 use crate::parsing::list::list;
@@ -136,6 +136,28 @@ impl Reader<'_> {
             return Ok(false);
         }
         self.with_grant_option()?;
+        Ok(true)
+    }
+
+    fn grant_option_for(&mut self) -> Result<(), ReadFault>
+        ensures { Reads grant_option_for (λ _. lexemes.Key keywords.Grant
+            ∷ lexemes.Key keywords.Option ∷ lexemes.Key keywords.For ∷ [])
+            result self.old self.new }
+    {
+        self.keyword(Keyword::Grant)?;
+        self.keyword(Keyword::Option)?;
+        self.keyword(Keyword::For)?;
+        Ok(())
+    }
+
+    /// Whether GRANT OPTION FOR comes.
+    pub fn option_for(&mut self) -> Result<bool, ReadFault>
+        ensures { Reads (optional grant_option_for) option_for_says result self.old self.new }
+    {
+        if !self.at_keyword(Keyword::Grant) {
+            return Ok(false);
+        }
+        self.grant_option_for()?;
         Ok(true)
     }
 

@@ -118,11 +118,19 @@ impl Reader<'_> {
         ensures well_formed { IfOk result IsWellFormed }
     {
         self.keyword(Keyword::Revoke)?;
+        let option_alone = self.option_for()?;
         let privileges = self.privileges(alloc)?;
         self.keyword(Keyword::On)?;
         let table = self.name()?;
         self.keyword(Keyword::From)?;
         let users = self.users(alloc)?;
+        if option_alone {
+            return Ok(Statement::RevokeOption {
+                privileges,
+                table,
+                users,
+            });
+        }
         Ok(Statement::Revoke {
             privileges,
             table,

@@ -2,7 +2,7 @@
 ghost use Rattle.std.specs.Prelude.{◌≡◌, ◌⊎◌, ◌+◌, ◌<◌, ◌≤◌, ◌^◌, None, false, length, OnOk, OnErr};
 ghost use Rattle.tables_core.specs.Contents.{empty_table, with_row, without_chosen_rows, with_updated_rows, with_change, table_of};
 ghost use Rattle.grants_core.specs.Owners.{was_granted};
-ghost use Rattle.grants_core.specs.Content.{after_create, after_grant, after_revoke};
+ghost use Rattle.grants_core.specs.Content.{after_create, after_grant, after_revoke, after_revoke_option};
 ghost use Rattle.reader_core.specs.declared.statement.Statement.TheVariants as statements;
 ghost use Rattle.monitor_core.specs.Verdict.{columns_of, atoms_at};
 ghost use Rattle.system_core.specs.Journal.{tables_after, change_of};
@@ -82,7 +82,7 @@ fn revoke(
     user: User,
     privileges: &Privileges,
     table: Name,
-    users: &[User],
+    users: &Distinct<User, MAX_USERS>,
 ) -> Result<(), NoMemory>
     requires { length (columns_of tables.now.tables table) ≤ most_columns }
     ensures ok { OnOk result (rights.new.content
@@ -92,7 +92,29 @@ fn revoke(
     ensures grants_due { rights.new.rest ≡ rights.old.rest }
 {
     let atoms = atoms_of(alloc, table, columns_of(tables, table), privileges)?;
-    rights.revoke(user, &atoms, users);
+    rights.revoke(user, &atoms, users.as_slice());
+    Ok(())
+}
+
+#[inline(never)]
+fn revoke_option(
+    alloc: Global,
+    tables: &Tables,
+    rights: &mut Graph,
+    user: User,
+    privileges: &Privileges,
+    table: Name,
+    users: &Distinct<User, MAX_USERS>,
+) -> Result<(), NoMemory>
+    requires { length (columns_of tables.now.tables table) ≤ most_columns }
+    ensures ok { OnOk result (rights.new.content
+        ≡ after_revoke_option rights.old.content user
+        (atoms_at tables.now.tables table privileges.now) users.now) }
+    ensures err { OnErr result (rights.new.content ≡ rights.old.content) }
+    ensures grants_due { rights.new.rest ≡ rights.old.rest }
+{
+    let atoms = atoms_of(alloc, table, columns_of(tables, table), privileges)?;
+    rights.revoke_option(user, &atoms, users.as_slice());
     Ok(())
 }
 
@@ -144,26 +166,22 @@ pub fn carry_out(
             table,
             users,
             option,
-        } => {
-            grant(
-                alloc, tables, rights, moment, *user, privileges, *table, users, *option,
-            )
-        }
+        } => grant(
+            alloc, tables, rights, moment, *user, privileges, *table, users, *option,
+        ),
         Statement::Revoke {
             privileges,
             table,
             users,
-        } => {
-            revoke(
-                alloc,
-                tables,
-                rights,
-                *user,
-                privileges,
-                *table,
-                users.as_slice(),
-            )
-        }
-        _ => unreachable!(),
+        } => revoke(alloc, tables, rights, *user, privileges, *table, users),
+        Statement::RevokeOption {
+            privileges,
+            table,
+            users,
+        } => revoke_option(alloc, tables, rights, *user, privileges, *table, users),
+        Statement::Select { .. }
+        | Statement::Checkpoint
+        | Statement::Checkpoints
+        | Statement::Export { .. } => unreachable!(),
     }
 }

@@ -65,7 +65,22 @@ fn change_of(alloc: Global, tables: &Tables, entry: &Entry) -> Result<Change, No
             atoms: atoms_at(alloc, tables, *table, privileges)?,
             whom: copied(alloc, users.as_slice())?,
         }),
-        _ => Ok(Change::Other),
+        Statement::RevokeOption {
+            privileges,
+            table,
+            users,
+        } => Ok(Change::RevokeOption {
+            by: entry.user,
+            atoms: atoms_at(alloc, tables, *table, privileges)?,
+            whom: copied(alloc, users.as_slice())?,
+        }),
+        Statement::Insert { .. }
+        | Statement::Select { .. }
+        | Statement::Delete { .. }
+        | Statement::Update { .. }
+        | Statement::Checkpoint
+        | Statement::Checkpoints
+        | Statement::Export { .. } => Ok(Change::Other),
     }
 }
 

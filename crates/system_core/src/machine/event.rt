@@ -68,12 +68,12 @@ pub enum Reply {
     },
     /// The export was allowed; its records are to be taken from the ticket.
     Export(Ticket),
-    /// Something is missing: lacks 11 to 20. Nothing changed.
+    /// Something is missing: lacks 11 to 20, and 27. Nothing changed.
     Denied {
         at: Moment,
         lack: Lack,
     },
-    /// Something does not fit, or is full: lacks from 21 on. Nothing changed.
+    /// Something does not fit, or is full: lacks 21 to 26. Nothing changed.
     Refused {
         at: Moment,
         lack: Lack,

@@ -111,9 +111,9 @@ impl System {
         self.ledger.journal()
     }
 
-    /// The accepted changes, each as what it changes of rights: the privileges of GRANT and REVOKE as
-    /// atoms in the order written, UPDATE without columns as that of every column that the table then
-    /// had. `NoMemory` where a request for memory was refused.
+    /// The accepted changes, each as what it changes of rights: the privileges of GRANT, and of both
+    /// forms of REVOKE, as atoms in the order written, UPDATE without columns as that of every column
+    /// that the table then had. `NoMemory` where a request for memory was refused.
     pub fn changes(&self) -> Result<Vec<Change>, NoMemory>
         ensures { IfOk result (λ found. found.items ≡ changes self.now.journal) }
     {

@@ -1,7 +1,7 @@
-use Rattle.std.proofs.Common.{◌+◌, ◌++◌, ◌∙◌, [], take, drop, ap, refl, sym, arith}
+use Rattle.std.proofs.Common.{◌≡◌, ◌-◌, ◌+◌, ◌++◌, ◌∙◌, [], take, drop, length, length-drop, ap, refl, sym, arith}
 use Rattle.links_core.specs.Ends.{Held}
-use Rattle.links_core.proofs.RowLemmas.{spliced_behind, one_more_gone}
-use Rattle.links_core.proofs.row.Row.remove.Goals.{then-place-eq0, else-place-eq0}
+use Rattle.links_core.proofs.RowLemmas.{spliced_behind, moved_up}
+use Rattle.links_core.proofs.row.Row.remove.Goals.{then-place-ends, else-place-ends}
 use Rattle.links_core.proofs.row.Row.remove.Goals as goal
 
 pub returns : goal.returns
@@ -10,12 +10,12 @@ returns c =
     let gone = c.self.inside.gone in
     let place = c.args.place in
     c.trim.ensures
-    ∙ elim c.if-place-eq0.branch [
-      | then-place-eq0 w ↦
-          ap (λ (h : Held). h.ends) w.self-is ∙ one_more_gone items gone (gone + 1) refl
-          ∙ ap (λ n. take n (drop gone items) ++ drop (n + 1) (drop gone items)) (sym w.if-place-eq0.true)
+    ∙ elim c.if-place-ends.branch [
+      | then-place-ends w ↦
+          ap (λ (h : Held). h.ends) w.self-is ∙ ap (drop (gone + 1)) w.copy_within.ensures.items
+          ∙ moved_up items gone place ((gone + place) - gone) (gone + 1) ((gone + 1) + ((gone + place) - gone)) (omega arith) refl (omega arith) (let many = ap (λ (h : Held). length h.ends) c.self.view_is in let some = c.requires in let most = c.self.invariant in omega (arith, many, some, most, length-drop gone items))
           ∙ ap (λ (h : Held). take place h.ends ++ drop (place + 1) h.ends) c.self.view_is
-      | else-place-eq0 w ↦
+      | else-place-ends w ↦
           ap (λ (h : Held). h.ends) w.self-is ∙ ap (drop gone) w.remove.ensures.by_index.2
           ∙ spliced_behind items [] gone place (place + 1) (gone + place) ((gone + place) + 1) (let long = c.self.inside.block.ok.0 in let most = c.self.invariant in omega (arith, long, most)) refl (omega arith)
           ∙ ap (λ (h : Held). take place h.ends ++ drop (place + 1) h.ends) c.self.view_is

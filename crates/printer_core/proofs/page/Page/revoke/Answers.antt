@@ -2,4 +2,4 @@ use Rattle.printer_core.proofs.Writing.{then}
 use Rattle.printer_core.proofs.page.Page.revoke.Goals as goal
 
 pub returns-clause-written : goal.returns-clause-written
-returns-clause-written c = then c.in_ok-keyword.ensures (then (rw c.as_slice.ensures.items at c.in_ok-write_list.ensures.written) (then c.in_ok-keyword-2.ensures (then c.in_ok-name.ensures (then c.in_ok-keyword-3.ensures ((rw c.as_slice-2.ensures.items at c.in_ok-write_list-2.ensures.written))))))
+returns-clause-written c = then c.in_ok-keyword.ensures c.in_ok-privileges_from.ensures.written

@@ -1,0 +1,17 @@
+use Rattle.std.proofs.Common.{sym, subst, refl, List}
+use Rattle.grants_core.specs.declared.grant.Grant.{Grant}
+use Rattle.graph_core.proofs.MarkedLemmas.{AreMarked}
+use Rattle.graph_core.proofs.SoundLemmas.{AreMarked-unoptioned, same_content}
+use Rattle.graph_core.proofs.graph.GraphAuthority.revoke_option.Goals as goal
+
+pub invariant_of-self : goal.invariant_of-self
+invariant_of-self c =
+    let Marked : List Grant → Type 0 = λ k. AreMarked c.self.inside.owners k in
+    record {
+      in_order = c.revoke_option.ensures.in_order;
+      supported = c.revoke_option.ensures.supported;
+      marked = subst Marked (sym c.revoke_option.ensures.valid) (AreMarked-unoptioned c.self.inside.owners c.self.inside.edges.edges c.args.by c.args.atoms.now c.args.whom.now c.self.invariant.marked);
+    }
+
+pub returns-clause-content : goal.returns-clause-content
+returns-clause-content c = rw (← c.self.view_is) (same_content _ _ _ _ _ _ refl c.revoke_option.ensures.valid c.revoke_option.ensures.next)
