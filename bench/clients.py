@@ -1,8 +1,9 @@
 """What one client makes the others wait for, and what it takes of a server's memory. See clients.sh.
 
 Over TCP it prints how long an EXPORT takes beside a million grants, by users with and without rights, and how long
-another session then waits at most; how much memory a server has when clients ask for rows and don't read; how soon
-the first record of a large EXPORT comes; and how long another session waits at most while a large image is freed.
+another session then waits at most; the same of tables of 32 columns, by users who may select none, one or all of
+them; how much memory a server has when clients ask for rows and don't read; how soon the first record of a large
+EXPORT comes; and how long another session waits at most while a large image is freed.
 """
 import contextlib
 import subprocess
@@ -12,7 +13,7 @@ import time
 
 from pauses import Session, free_port, row
 
-TABLES, GRANTEES = 1_024, 1_000
+TABLES, GRANTEES, COLUMNS = 1_024, 1_000, 32
 READERS, WIDE_ROWS, WIDTH = 14, 50_000, 1_000
 ROWS = 900_000
 ROUNDS = 5
@@ -90,6 +91,15 @@ def export(session, line):
     return first, 1e3 * (time.perf_counter() - start)
 
 
+def timed(others, port, user, line):
+    """Says how long an EXPORT takes, the median of some rounds, and another session waits meanwhile."""
+    session, took = Session(port, user), []
+    waited = others.during(lambda: took.extend(export(session, line) for _ in range(ROUNDS)))
+    first, last = sorted(took)[ROUNDS // 2]
+    print(f"{user}: {line}: first line {first:.1f} ms, last {last:.1f} ms, another waits at most {waited:.1f} ms")
+    session.client.close()
+
+
 def exports(program):
     with served(program, 4) as (_, port):
         ann = Session(port, "ann")
@@ -102,11 +112,23 @@ def exports(program):
         print(f"{TABLES:,} tables of {GRANTEES:,} grants: another session waits at most "
             f"{others.during(lambda: time.sleep(2)):.1f} ms")
         for user, line in (("eve", "EXPORT 1"), ("u5", "EXPORT 1"), ("eve", "EXPORT 1 ONLY t5"), ("u5", "EXPORT 1 ONLY t5")):
-            session, took = Session(port, user), []
-            waited = others.during(lambda: took.extend(export(session, line) for _ in range(ROUNDS)))
-            first, last = sorted(took)[ROUNDS // 2]
-            print(f"{user}: {line}: first line {first:.1f} ms, last {last:.1f} ms, another waits at most {waited:.1f} ms")
-            session.client.close()
+            timed(others, port, user, line)
+        others.end()
+
+
+def wide_exports(program):
+    """A right is looked up for each column of each table."""
+    names = ", ".join(f"c{n} INTEGER" for n in range(COLUMNS))
+    with served(program, 4) as (_, port):
+        ann = Session(port, "ann")
+        for table in range(TABLES):
+            grants = [f"GRANT SELECT (c{COLUMNS - 1}) ON t{table} TO one", f"GRANT SELECT ON t{table} TO each"]
+            say(ann, [f"CREATE TABLE t{table} ({names})", *grants])
+        checkpoint(ann)
+        others = Waits(port)
+        print(f"{TABLES:,} tables of {COLUMNS} columns:")
+        for user in ("eve", "one", "each", "ann"):
+            timed(others, port, user, "EXPORT 1")
         others.end()
 
 
@@ -147,6 +169,7 @@ def large_images(program):
 
 def main():
     exports(sys.argv[1])
+    wide_exports(sys.argv[1])
     unread(sys.argv[1])
     large_images(sys.argv[1])
 

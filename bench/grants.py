@@ -1,4 +1,4 @@
-"""What GRANT and REVOKE cost by what falls, and statements of a grantee beside other grants. See grants.sh."""
+"""What GRANT, REVOKE and an audit cost, and statements of a grantee beside other grants. See grants.sh."""
 import os
 import statistics
 import subprocess
@@ -14,6 +14,8 @@ REVOKE = ("own", "REVOKE", "u0")
 REVOKE_OPTION = ("own", "REVOKE GRANT OPTION FOR", "u0")
 REVOKE_BEHIND = ("u0", "REVOKE", "u1")
 COLUMNS = [f"c{n}" for n in range(32)]
+# One privilege: SELECT alone is that on each of the columns.
+ONE = "SELECT (c7)"
 ROUNDS = 5
 BATCH = 20_000
 
@@ -71,15 +73,15 @@ def cycle(count):
     """Each user of a circle to the next three."""
     edges = [("own", "u0")]
     edges += [(f"u{n}", f"u{(n + step) % count}") for n in range(count) for step in (1, 2, 3)]
-    return edges, "SELECT"
+    return edges, ONE
 
 
 def star(count):
-    return [("own", "u0")] + [("u0", f"u{n + 1}") for n in range(count)], "SELECT"
+    return [("own", "u0")] + [("u0", f"u{n + 1}") for n in range(count)], ONE
 
 
 SHAPES = {
-    "chain of 1,023": chain(1_023, "SELECT"),
+    "chain of 1,023": chain(1_023, ONE),
     "cycle of 256, each to the next three": cycle(256),
     "star of 1,000": star(1_000),
     "32 columns by a chain of 1,000": chain(1_000, "UPDATE"),
@@ -112,7 +114,7 @@ def theirs(place, edges, privilege, revocation):
     (user, folder), work = place
     by, revoke, whom = revocation
     names = sorted({name for edge in edges for name in edge})
-    listed = privilege if privilege == "SELECT" else f"{privilege} ({', '.join(COLUMNS)})"
+    listed = privilege if privilege == ONE else f"{privilege} ({', '.join(COLUMNS)})"
     script = ["SET client_min_messages = warning;", "CREATE SCHEMA IF NOT EXISTS s;"]
     script += ["GRANT ALL ON SCHEMA s TO PUBLIC;", "SET search_path = s;"]
     script += [f"CREATE ROLE {name};" for name in names]
@@ -156,6 +158,20 @@ def one_of_many(program):
         print(f"GRANT and REVOKE of one, {32 * others:,} in force: {1e6 * took / BATCH:,.2f} us the pair", flush=True)
 
 
+def columns(program):
+    """A SELECT of one column and of all 32 from a table with one row, by its owner and by a grantee."""
+    script = Script(program)
+    script.done([f"own: CREATE TABLE t ({', '.join(f'{name} INTEGER' for name in COLUMNS)})",
+        f"own: INSERT INTO t VALUES ({', '.join('0' for _ in COLUMNS)})", "own: GRANT SELECT ON t TO bob"])
+    for listed in ("c31", "*"):
+        times = []
+        for user in ("own", "bob"):
+            lines = [f"{user}: SELECT {listed} FROM t"] * BATCH
+            times.append(1e6 * min(script.send(lines)[0] for _ in range(3)) / BATCH)
+        print("SELECT {} of 32 columns: {:.3f} us by the owner, {:.3f} by a grantee".format(listed, *times), flush=True)
+    script.close()
+
+
 def beside(program, tables, fallen):
     """What a grantee's statements cost beside 1,000 grants on each of so many tables, in force or fallen."""
     script = Script(program)
@@ -183,9 +199,40 @@ def beside(program, tables, fallen):
     print(f"beside {1_000 * tables:>9,} grants {what}: {found} us; {each:,.0f} bytes a grant", flush=True)
 
 
+def many_changes(tables):
+    """On each table 1,000 grants to different users, each behind an INSERT, and one in ten is revoked."""
+    for table in range(tables):
+        yield f"own: CREATE TABLE t{table} (x INTEGER)"
+        for user in range(1_000):
+            yield f"own: INSERT INTO t{table} VALUES ({user})"
+            yield f"own: GRANT SELECT ON t{table} TO u{user}"
+            if user % 10 == 0:
+                yield f"own: REVOKE SELECT ON t{table} FROM u{user}"
+
+
+def audits(program, tables):
+    """What an audit adds to a script of so many tables."""
+    times = {}
+    with tempfile.TemporaryFile("w+") as script:
+        script.writelines(f"{line}\n" for line in many_changes(tables))
+        for audited in ([], ["--audit"]):
+            rounds = []
+            for _ in range(3):
+                script.seek(0)
+                start = time.perf_counter()
+                subprocess.run([program, "run", *audited], stdin=script, stdout=subprocess.DEVNULL, check=True)
+                rounds.append(time.perf_counter() - start)
+            times[bool(audited)] = min(rounds)
+    print(f"an audit of {2_101 * tables:,} changes, {1_000 * tables:,} of them grants: {times[True] - times[False]:.2f} s "
+        f"(the script {times[False]:.2f})", flush=True)
+
+
 def main():
+    for tables in (47, 475):
+        audits(sys.argv[1], tables)
     shapes(sys.argv[1])
     one_of_many(sys.argv[1])
+    columns(sys.argv[1])
     for tables in (0, 10, 100, 1_000):
         beside(sys.argv[1], tables, False)
     for tables in (10, 100):

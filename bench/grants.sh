@@ -1,6 +1,6 @@
 #!/usr/bin/env bash
-# GRANT and REVOKE over chains, cycles and stars of users, beside PostgreSQL where it is installed; and what
-# statements of a grantee cost beside up to a million other grants.
+# What an audit costs; GRANT and REVOKE over chains, cycles and stars of users, beside PostgreSQL where it is
+# installed; and what statements of a grantee cost beside up to a million other grants.
 set -eu
 here=$(cd "$(dirname "$0")" && pwd)
 "$here/../sysr" --help > /dev/null

@@ -12,31 +12,60 @@ import tempfile
 LINES = 20_000
 ROWS = 2_000
 TIMES = 20
-TABLE = "CREATE TABLE t (a TEXT, b INTEGER)"
+COLUMNS = 32
+
+
+def by(user, statements):
+    return [f"{user}: {statement}" for statement in statements]
 
 
 def filled(rows):
     """A table of so many rows (TEXT of 10 bytes, INTEGER)."""
-    return [TABLE] + [f"INSERT INTO t VALUES ('{n:010}', {n})" for n in range(rows)]
+    table = ["CREATE TABLE t (a TEXT, b INTEGER)"]
+    return by("ann", table + [f"INSERT INTO t VALUES ('{n:010}', {n})" for n in range(rows)])
+
+
+def shared(rows, privilege):
+    """The same, of which bob has a privilege, and a finished checkpoint: each line takes 16 records."""
+    grant = [f"GRANT {privilege} ON t TO bob", "CHECKPOINT"]
+    return filled(rows) + by("ann", grant + ["CHECKPOINTS"] * (rows // 16 + 1))
+
+
+def wide():
+    """A table of one row and 32 columns, which bob may select."""
+    table = [f"CREATE TABLE t ({', '.join(f'c{n} INTEGER' for n in range(COLUMNS))})"]
+    row = [f"INSERT INTO t VALUES ({', '.join('0' for _ in range(COLUMNS))})", "GRANT SELECT ON t TO bob"]
+    return by("ann", table + row)
 
 
 def kinds():
     """Of each kind its name, the statements before, those that are counted, and by how many a count is divided."""
-    before = filled(ROWS)
-    yield "INSERT, a statement", [TABLE], filled(LINES)[1:], LINES
-    yield "SELECT of one row of 2,000, a statement", before, ["SELECT a FROM t WHERE b = 1000"] * TIMES, TIMES
-    yield "SELECT of all rows, a row", before, ["SELECT * FROM t"] * TIMES, TIMES * ROWS
-    yield "UPDATE of one row of 2,000, a statement", before, ["UPDATE t SET b = 1000 WHERE b = 1000"] * TIMES, TIMES
-    yield "UPDATE of all rows to a number, a row", before, ["UPDATE t SET b = 7"] * TIMES, TIMES * ROWS
-    yield "UPDATE of all rows to a text, a row", before, ["UPDATE t SET a = 'another'"] * TIMES, TIMES * ROWS
-    yield "DELETE of all rows, a row", before, ["DELETE FROM t"], ROWS
+    before, one = filled(ROWS), "SELECT a FROM t WHERE b = 1000"
+    yield "INSERT, a statement", filled(0), filled(LINES)[1:], LINES
+    yield "SELECT from no row, a statement", filled(0), by("ann", ["SELECT a FROM t WHERE b < 0"] * TIMES), TIMES
+    for name, statement, parts in (
+        ("SELECT of one row of 2,000, a statement", one, 1),
+        ("SELECT of all rows, a row", "SELECT * FROM t", ROWS),
+        ("UPDATE of one row of 2,000, a statement", "UPDATE t SET b = 1000 WHERE b = 1000", 1),
+        ("UPDATE of all rows to a number, a row", "UPDATE t SET b = 7", ROWS),
+        ("UPDATE of all rows to a text, a row", "UPDATE t SET a = 'another'", ROWS),
+    ):
+        yield name, before, by("ann", [statement] * TIMES), TIMES * parts
+    yield "DELETE of all rows, a row", before, by("ann", ["DELETE FROM t"]), ROWS
+    yield "EXPORT by the owner, a row", shared(ROWS, "SELECT"), by("ann", ["EXPORT 1"] * TIMES), TIMES * ROWS
+    yield "EXPORT by a grantee, a row", shared(ROWS, "SELECT"), by("bob", ["EXPORT 1"] * TIMES), TIMES * ROWS
+    yield "EXPORT cut to a column, a row", shared(ROWS, "SELECT (a)"), by("bob", ["EXPORT 1"] * TIMES), TIMES * ROWS
+    yield "SELECT by a grantee, of one row of 2,000", shared(ROWS, "SELECT"), by("bob", [one] * TIMES), TIMES
+    for user in ("ann", "bob"):
+        for listed in ("c31", "*"):
+            yield f"{user}: SELECT {listed} of 32 columns", wide(), by(user, [f"SELECT {listed} FROM t"] * TIMES), TIMES
 
 
 def instructions(program, statements, work):
     """The instructions of one run over these statements."""
     script = os.path.join(work, "script")
     with open(script, "w") as lines:
-        lines.writelines(f"ann: {statement}\n" for statement in statements)
+        lines.writelines(f"{statement}\n" for statement in statements)
     words = ["valgrind", "--tool=callgrind", f"--callgrind-out-file={os.path.join(work, 'counts')}", program, "run"]
     with open(script, "rb") as given:
         ran = subprocess.run(words, stdin=given, stdout=subprocess.DEVNULL, stderr=subprocess.PIPE, text=True)

@@ -4,8 +4,8 @@ Nothing refuses a request for memory here, so no line may tell of memory, howeve
 server that gives up at some size would be seen. The script has all tables that there may be, some of 32 columns;
 20,000 rows in one of them, and texts of 1,024 bytes; updates of two and of seven columns; replies of more
 than 10,000 rows; checkpoints of more than 1,000 records, and lists of eight; and exports of all tables, by
-their owner and by users who may select some. The owner, `own`, grants SELECT to `bob`, and he to `eve` where he may.
-The seed is fixed, so each run plays the same.
+their owner and by users who may select some columns of some. The owner, `own`, grants SELECT to `bob`, and he to `eve`
+where he may. The seed is fixed, so each run plays the same.
 """
 import random
 
@@ -14,6 +14,7 @@ from rights import GRANT, REVOKE, REVOKE_OPTION
 
 CHUNK = 64
 ROWS = 20_000
+WIDTHS = (1, 2, 3, 7, 8, 32)
 # No text of the script has these words.
 OF_MEMORY = (b"no memory", b"reply lost", b"export cut", b"abandoned")
 
@@ -47,7 +48,7 @@ class Chance:
         """All tables that there may be, and one more."""
         self.model.create("own", "big", [("n", "INTEGER"), ("t", "TEXT")])
         for n in range(1, TABLES + 1):
-            width = self.random.choice((1, 2, 3, 7, 8, 32)) if n < 60 else 1
+            width = self.random.choice(WIDTHS) if n < 60 else 1
             columns = [(f"c{at}", self.random.choice(("INTEGER", "TEXT"))) for at in range(width)]
             self.model.create("own", f"t{n}", columns)
             if n % 200 == 0:
@@ -88,11 +89,13 @@ class Chance:
             model.export(user, number, pick.choice((name, name, "t999")))
 
     def turn_right(self, name):
-        """Grants SELECT, or takes it or its option back."""
-        by, to = self.random.choice((("own", "bob"), ("own", "bob"), ("bob", "eve")))
-        kind = self.random.choice((GRANT, GRANT, REVOKE, REVOKE_OPTION))
-        option = kind == GRANT and self.random.random() < 0.7
-        self.model.change_rights(kind, by, name, [("SELECT", None)], [to], option)
+        """Grants SELECT of all columns or of some, or takes it or its option back."""
+        pick, names = self.random, self.model.tables[name].names
+        by, to = pick.choice((("own", "bob"), ("own", "bob"), ("bob", "eve")))
+        kind = pick.choice((GRANT, GRANT, REVOKE, REVOKE_OPTION))
+        option = kind == GRANT and pick.random() < 0.7
+        columns = pick.choice((None, pick.sample(names, pick.randint(1, len(names)))))
+        self.model.change_rights(kind, by, name, [("SELECT", columns)], [to], option)
 
     def large(self):
         """Statements that go over the table with many rows, or over all tables."""
@@ -136,4 +139,6 @@ def has_sizes(given, wanted):
         and any(line.count(" TEXT") + line.count(" INTEGER") == 32 for line in given)
         and any(1024 * "x" in line for line in given)
         and len(tables) > 1000
+        and any(line.count(",c") not in WIDTHS for line in tables)
+        and any(line in ("table,big,n", "table,big,t") for line in wanted)
     )

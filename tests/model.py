@@ -36,6 +36,15 @@ def where(filters):
     return f" WHERE {conditions}" if filters else ""
 
 
+def to_select(columns):
+    return [f"SELECT({column})" for column in columns]
+
+
+def to_choose(filters):
+    """What is needed to choose rows by these conditions: to select each column, in the order written."""
+    return to_select(name for name, _, _ in filters)
+
+
 def as_written(privileges):
     return ", ".join(f"{word} ({', '.join(listed)})" if listed else word for word, listed in privileges)
 
@@ -111,7 +120,8 @@ class Model:
     def select(self, user, name, listed, filters):
         table = self.tables[name]
         statement = f"SELECT {', '.join(listed) or '*'} FROM {name}{where(filters)}"
-        if self.denied(user, statement, self.not_held(user, name, "SELECT")):
+        needed = [*to_select(listed or table.names), *to_choose(filters)]
+        if self.denied(user, statement, self.not_held(user, name, *needed)):
             return
         places = [table.names.index(column) for column in listed or table.names]
         rows = [record("row", [table.rows[at][place] for place in places]) for at in table.chosen(filters)]
@@ -121,7 +131,7 @@ class Model:
         table = self.tables[name]
         listed = ", ".join(f"{column} = {literal(value)}" for column, value in sets)
         statement = f"UPDATE {name} SET {listed}{where(filters)}"
-        needed = [*(f"UPDATE({column})" for column, _ in sets), *["SELECT"][:len(filters)]]
+        needed = [*(f"UPDATE({column})" for column, _ in sets), *to_choose(filters)]
         if self.denied(user, statement, self.not_held(user, name, *needed)):
             return
         changed = {table.names.index(column): value for column, value in sets}
@@ -132,7 +142,7 @@ class Model:
     def delete(self, user, name, filters):
         table = self.tables[name]
         statement = f"DELETE FROM {name}{where(filters)}"
-        if self.denied(user, statement, self.not_held(user, name, "DELETE", *["SELECT"][:len(filters)])):
+        if self.denied(user, statement, self.not_held(user, name, "DELETE", *to_choose(filters))):
             return
         gone = set(table.chosen(filters))
         table.rows = [row for at, row in enumerate(table.rows) if at not in gone]
@@ -184,13 +194,14 @@ class Model:
         self.say(user, "CHECKPOINTS", [f"checkpoints {len(lines)} @{self.moment}", *lines])
 
     def exported(self, user, kept, name):
-        """What an export has of a table."""
+        """What an export has of a table: what is in the columns that he might select then and may select now."""
         columns, rows = kept["image"][name]
-        if not self.holds(user, name, "SELECT", kept["point"]):
-            return [f"withheld,{name},point"]
-        if not self.holds(user, name, "SELECT"):
-            return [f"withheld,{name},now"]
-        return [record("table", [name, *columns]), *(record("row", row) for row in rows)]
+        then = [self.holds(user, name, right, kept["point"]) for right in to_select(columns)]
+        shown = [held and self.holds(user, name, right) for held, right in zip(then, to_select(columns))]
+        if not any(shown):
+            return [f"withheld,{name},{'now' if any(then) else 'point'}"]
+        cut = [record("row", itertools.compress(row, shown)) for row in rows]
+        return [record("table", [name, *itertools.compress(columns, shown)]), *cut]
 
     def export(self, user, number, only=None):
         statement = f"EXPORT {number}" + (f" ONLY {only}" if only else "")

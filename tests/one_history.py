@@ -50,6 +50,7 @@ void *realloc(void *old, size_t size) {
 """
 
 USERS = ("ann", "bob", "dan", "eve")
+COLUMNS = ("x", "y")
 SESSIONS = 8
 STATEMENTS = 100
 
@@ -104,7 +105,7 @@ class Client:
 
     def statement(self):
         pick, table = self.random, "t" + self.random.choice((self.user, *USERS))
-        right = pick.choice(("SELECT", "SELECT", "INSERT", "DELETE", "UPDATE (x)", "SELECT, UPDATE"))
+        right = pick.choice(("SELECT", "SELECT (x)", "SELECT (y)", "INSERT", "DELETE", "UPDATE (x)", "SELECT, UPDATE"))
         option = pick.choice(("", " WITH GRANT OPTION"))
         others = ", ".join(pick.sample(USERS, pick.choice((1, 1, 2))))
         where = pick.choice(("", f" WHERE x < {pick.randint(0, 9)}", f" WHERE y = {self.text()}"))
@@ -162,6 +163,15 @@ def is_of_memory(reply):
     return reply[0].endswith(": no memory")
 
 
+def query(columns, table):
+    return f"SELECT {', '.join(columns)} FROM {table}"
+
+
+def selected(answers, moment, user, table):
+    """The columns that the user might select at the moment, by the answers to queries."""
+    return [column for column in COLUMNS if answers[moment, user, query([column], table)][0].startswith("rows ")]
+
+
 class History:
     """What all clients were told, by moments."""
 
@@ -193,10 +203,11 @@ class History:
     def looks(self):
         """What has to be asked for the exports: the moment, who asks, and what."""
         for user, reply in self.exports:
-            _, number, _, point, at = reply[0].replace("@", "").split()
+            _, _, _, point, at = reply[0].replace("@", "").split()
             for owner, table in self.tables_at(int(point)):
-                asked = f"SELECT * FROM {table}"
-                yield from ((int(point), owner, asked), (int(point), user, asked), (int(at), user, asked))
+                yield int(point), owner, query(COLUMNS, table)
+                for asked in (query([column], table) for column in COLUMNS):
+                    yield from ((int(point), owner, asked), (int(point), user, asked), (int(at), user, asked))
 
     def script(self):
         """Lines for `sysr run`, and for each the moment at which it stands and the statement."""
@@ -210,14 +221,12 @@ class History:
         _, number, _, point, at = reply[0].replace("@", "").split()
         told = [reply[0]]
         for owner, table in self.tables_at(int(point)):
-            asked = f"SELECT * FROM {table}"
-            then, now = answers[int(point), user, asked], answers[int(at), user, asked]
-            if then[0].startswith("denied"):
-                told.append(f"withheld,{table},point")
-            elif now[0].startswith("denied"):
-                told.append(f"withheld,{table},now")
+            then, now = (selected(answers, moment, user, table) for moment in (int(point), int(at)))
+            shown = [column for column in then if column in now]
+            if shown:
+                told += [",".join(["table", table, *shown]), *answers[int(point), owner, query(shown, table)][1:]]
             else:
-                told += [f"table,{table},x,y", *answers[int(point), owner, asked][1:]]
+                told.append(f"withheld,{table},{'now' if then else 'point'}")
         return [*told, f"end {number}"]
 
 

@@ -25,7 +25,7 @@ RIGHTS = ["o: SELECT * FROM t", *(f"{user}: SELECT * FROM t" for user in "abcd")
     *(f"{by}: REVOKE{option} SELECT, INSERT ON t FROM {to}" for option in ("", " GRANT OPTION FOR")
         for by, to in ("oa", "ob", "ac", "bc", "cd"))]
 
-# The examples, how many records their checkpoint has, of which a step takes one, and the lines behind them.
+# The examples, how many steps their checkpoint takes, and the lines behind them.
 SCRIPTS = {
     "first_run": (0, ["ann: SELECT * FROM pay"]),
     "repeated_grants": (0, RIGHTS),
@@ -35,6 +35,8 @@ SCRIPTS = {
         "o: EXPORT 1", "u: EXPORT 1"]),
     "option_in_image": (3, ["a: SELECT * FROM t", "b: SELECT * FROM t", "a: GRANT SELECT, INSERT ON t TO z",
         "o: REVOKE GRANT OPTION FOR SELECT, INSERT ON t FROM a", "b: EXPORT 1", "z: EXPORT 1"]),
+    "column_exports": (1, ["bob: SELECT name FROM pay", "bob: SELECT wage FROM pay", "ann: EXPORT 1", "bob: EXPORT 1",
+        "ann: REVOKE SELECT (wage), INSERT ON pay FROM bob"]),
     "folding_and_quotes": (0, ["ann: SELECT * FROM pay"]),
 }
 
@@ -91,18 +93,18 @@ class Script:
             for given in range(1, len(told)):
                 yield [*self.full[:at], [*told[:given], "export cut: no memory"], *self.full[at + 1:]]
 
-    def given_up(self, records):
+    def given_up(self, steps):
         """What may be written where a step of the checkpointer was refused: the checkpoint is never there."""
         begun = next(at for at, told in enumerate(self.full) if told[0].startswith("checkpoint 1 begun @"))
         without = self.without(begun)
         without[begun] = self.full[begun]
-        for at in range(begun, begun + records):
+        for at in range(begun, begun + steps):
             yield [*without[:at], [*without[at], "checkpoint 1 abandoned"], *without[at + 1:]]
 
-    def outputs(self, records):
+    def outputs(self, steps):
         """Each output that may stand, as lines."""
         told = [self.full, *(answer for at in range(len(self.lines)) for answer in self.lacking(at))]
-        told += self.given_up(records) if records else []
+        told += self.given_up(steps) if steps else []
         return {tuple(line for reply in answer for line in reply) for answer in told}
 
 
@@ -129,14 +131,14 @@ class Requests:
 
 
 def each_request(program, check, requests):
-    for name, (records, behind) in SCRIPTS.items():
+    for name, (steps, behind) in SCRIPTS.items():
         words, given, wanted = example(name)
         probes = [line for line in [*behind, f"{given[0].split(':')[0]}: CHECKPOINTS"] for _ in range(2)]
         script = Script(program, words, [*given, *probes])
         whole = [line for reply in script.full for line in reply]
         audited = wanted.pop() if wanted[-1].startswith("audit") else whole[-1]
         check(f"{name}: without a refusal", whole[:len(wanted)] == wanted and whole[-1] == audited, whole)
-        allowed, ended, seen = script.outputs(records), 0, set()
+        allowed, ended, seen = script.outputs(steps), 0, set()
         played = functools.partial(script.run, script.lines)
         for request, status, lines, err in requests.one_by_one(played):
             if status == 1:
@@ -180,14 +182,16 @@ def calls_again(check, calls, requests):
 
 
 def tickets_are_cheap(check, calls, requests):
-    """A ticket takes as many requests for a table of 300 rows as for one of 3."""
-    def made(rows, tickets):
-        (status, *_), count = requests.counted(functools.partial(calls.run, str(rows), str(tickets)))
-        check(f"{tickets} tickets of {rows} rows", status == 0, status)
+    """A ticket and its first record take as many requests for a table of 300 rows as for one of 3, by its owner and by
+    a user who holds SELECT of one column of two."""
+    def made(user, rows, tickets):
+        (status, *_), count = requests.counted(functools.partial(calls.run, str(rows), str(tickets), user))
+        check(f"{tickets} tickets of {rows} rows for {user}", status == 0, status)
         return count
 
-    few, many = (made(rows, 9) - made(rows, 0) for rows in (3, 300))
-    check("requests of tickets", few == many and few > 0, (few, many))
+    for user in ("ann", "bob"):
+        few, many = (made(user, rows, 9) - made(user, rows, 0) for rows in (3, 300))
+        check(f"requests of tickets for {user}", few == many and few > 0, (few, many))
 
 
 def played(program, check, preloaded, work):

@@ -9,15 +9,21 @@ import collections
 
 GRANT, REVOKE, REVOKE_OPTION = "GRANT", "REVOKE", "REVOKE GRANT OPTION FOR"
 
-# An atom is a table and one right on it, as `UPDATE(x)`.
+# An atom is a table and one right on it, as `INSERT` or `SELECT(x)`.
 Change = collections.namedtuple("Change", "moment kind by atoms whom option")
 Grant = collections.namedtuple("Grant", "moment by atom to option")
 
 
+BY_COLUMN = ("SELECT", "UPDATE")
+
+
 def atoms_of(table, columns, privileges):
-    """What privileges are on a table of these columns: words, each with columns or None."""
+    """What privileges are on a table of these columns: words, each with columns or None.
+
+    Without columns SELECT and UPDATE are those on each of the table's, in its order.
+    """
     for word, listed in privileges:
-        rights = [f"UPDATE({column})" for column in listed or columns] if word == "UPDATE" else [word]
+        rights = [f"{word}({column})" for column in listed or columns] if word in BY_COLUMN else [word]
         yield from ((table, right) for right in rights)
 
 

@@ -136,13 +136,15 @@ def two_users(program, check):
     check("listens", server.listening == f"listening on {server.port}\n".encode(), server.listening)
     ann, bob = Session(server, "ann"), Session(server, "bob")
     said = [ann.welcome, bob.welcome]
-    said += [ann.ask(line) for line in ("CREATE TABLE pay (wage INTEGER)", "INSERT INTO pay VALUES (5)")]
-    said += [bob.ask("DELETE FROM pay"), ann.ask("GRANT SELECT, DELETE ON pay TO bob"), ann.ask("CHECKPOINT")]
-    said += [*ann.settled(), bob.ask("DELETE FROM pay")]
+    table = "CREATE TABLE pay (name TEXT, wage INTEGER)"
+    said += [ann.ask(line) for line in (table, "INSERT INTO pay VALUES ('Bo', 5)")]
+    said += [bob.ask("DELETE FROM pay"), ann.ask("GRANT SELECT (wage), DELETE ON pay TO bob"), ann.ask("CHECKPOINT")]
+    said += [*ann.settled(), bob.ask("SELECT name FROM pay"), bob.ask("DELETE FROM pay")]
     export = bob.export(1)
     said += [ann.end(), bob.end()]
     wanted = ["welcome ann\n", "welcome bob\n", "done @1\n", "done @2\n", "denied @2: bob lacks DELETE on pay\n",
-        "done @3\n", "checkpoint 1 begun @3\n", "finished,1,3\n", "done @4\n", "", ""]
+        "done @3\n", "checkpoint 1 begun @3\n", "finished,1,3\n", "denied @3: bob lacks SELECT(name) on pay\n",
+        "done @4\n", "", ""]
     check("two users", said == wanted, said)
     told = ["export 1 point 3 @4\n", "table,pay,wage\n", "row,5\n", "end 1\n"]
     check("an export over TCP", export == told, export)
@@ -292,11 +294,13 @@ def chunk_is_kept(program, check):
 
 
 def many(program, check):
-    """Eight clients at once, by four workers: each is welcomed, and each change is done once, in one order."""
-    server, answers = Server(program, 8, workers=4), [""] * 8
+    """Eight clients at once, by four workers: each is welcomed, and each change is done once, in one order. Each has
+    made a grant, and an audit finds them."""
+    server, answers = Server(program, 8, workers=4, more=["--audit"]), [""] * 8
 
     def client(n):
         lines = f"USER u{n}\nCREATE TABLE t{n} (x INTEGER)\n" + 200 * f"INSERT INTO t{n} VALUES (1)\n"
+        lines += f"GRANT SELECT ON t{n} TO v\n"
         with contextlib.suppress(OSError):
             answers[n] = talk(server, lines)
 
@@ -308,16 +312,16 @@ def many(program, check):
     welcome = [text.split("\n")[0] for text in answers]
     check("each is welcomed", welcome == [f"welcome u{n}" for n in range(8)], welcome)
     moments = sorted(int(at) for text in answers for at in re.findall(r"done @(\d+)\n", text))
-    check("each change once", moments == list(range(1, 8 * 201 + 1)), moments[:10])
+    check("each change once", moments == list(range(1, 8 * 202 + 1)), moments[:10])
     rise = all(found == sorted(found, key=int) for found in (re.findall(r"@(\d+)", text) for text in answers))
     check("moments rise in a session", rise, answers)
     ended = server.end()
-    check("many: the end", ended == (0, b"served 8\n", []), ended)
+    check("many: the end", ended == (0, b"served 8\naudit ok 8\n", []), ended)
 
 
 def chain(program, check):
-    """As many grants as may be in force, each by the one before, fall in a worker's thread."""
-    server = Server(program, 1026)
+    """As many grants as may be in force, each by the one before, fall in a worker's thread; an audit finds none in force."""
+    server = Server(program, 1026, more=["--audit"])
     own = Session(server, "own")
     answers = [own.ask("CREATE TABLE t (x INTEGER)")]
     own.end()
@@ -329,11 +333,11 @@ def chain(program, check):
     check("a chain stands", answers == [f"done @{m}\n" for m in range(1, 1026)], answers[-3:])
     seen = talk(server, "USER own\nREVOKE SELECT ON t FROM u0\nGRANT SELECT ON t TO u1\nREVOKE SELECT ON t FROM u1\n"
         "REVOKE SELECT ON t FROM u1\nREVOKE GRANT OPTION FOR SELECT ON t FROM u1\n")
-    wanted = ("welcome own\ndone @1026\ndone @1027\ndone @1028\ndenied @1028: own granted no SELECT on t to u1\n"
-        "denied @1028: own granted no option for SELECT on t to u1\n")
+    wanted = ("welcome own\ndone @1026\ndone @1027\ndone @1028\ndenied @1028: own granted no SELECT(x) on t to u1\n"
+        "denied @1028: own granted no option for SELECT(x) on t to u1\n")
     check("a chain falls", seen == wanted, seen)
     ended = server.end()
-    check("a chain: the end", ended == (0, b"served 1026\n", []), ended)
+    check("a chain: the end", ended == (0, b"served 1026\naudit ok 0\n", []), ended)
 
 
 TESTS = (two_users, first_lines, misuse, asked_by_clients, large_checkpoints, chunk_is_kept, many, chain)

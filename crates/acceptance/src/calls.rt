@@ -1,4 +1,5 @@
-//! Limits and events of the core that no script has, and the calls of it that the program does not make.
+//! Limits and events of the core that no script has, and the calls of it that the program does not
+//! make.
 use base_core::{Limits, Name, User};
 use reader_core::read;
 use reply_core::reply_text;
@@ -108,15 +109,15 @@ o: UPDATE t SET x = 'a'
 o: UPDATE t SET x = 1
     refused @2: full: changes
 b: GRANT SELECT ON t TO c
-    denied @2: b may not grant SELECT on t
+    denied @2: b may not grant SELECT(n) on t
 o: GRANT SELECT ON t TO b
     refused @2: full: changes
 o: REVOKE SELECT ON t FROM b
-    denied @2: o granted no SELECT on t to b
+    denied @2: o granted no SELECT(n) on t to b
 o: REVOKE SELECT ON t FROM a
     refused @2: full: changes
 o: REVOKE GRANT OPTION FOR SELECT ON t FROM b
-    denied @2: o granted no option for SELECT on t to b
+    denied @2: o granted no option for SELECT(n) on t to b
 o: REVOKE GRANT OPTION FOR SELECT ON t FROM a
     refused @2: full: changes
 ";
@@ -130,6 +131,90 @@ fn full(rt: HostRuntime) {
         checkpoints: 1,
     };
     play(&rt, rt.alloc(), limits, FULL, 2);
+}
+
+/// Each column's SELECT has its own room. Of a list that has no room for one column no grant is
+/// made.
+const FULL_COLUMNS: &str = "\
+o: CREATE TABLE t (n TEXT, x INTEGER)
+    done @1
+o: GRANT SELECT (x) ON t TO a
+    done @2
+o: GRANT SELECT ON t TO b
+    refused @2: full: grants
+b: SELECT n FROM t
+    denied @2: b lacks SELECT(n) on t
+o: GRANT SELECT (n), UPDATE (x) ON t TO b
+    done @3
+b: SELECT n FROM t
+    rows 0 @3
+o: GRANT SELECT (n) ON t TO a
+    refused @3: full: grants
+o: REVOKE SELECT (x) ON t FROM a
+    done @4
+o: GRANT SELECT (x, n) ON t TO a
+    refused @4: full: grants
+o: GRANT SELECT (x) ON t TO b
+    done @5
+b: SELECT * FROM t
+    rows 0 @5
+";
+
+#[test]
+fn full_columns(rt: HostRuntime) {
+    let limits = Limits {
+        changes: 10,
+        tables: 1,
+        grants: 1,
+        checkpoints: 1,
+    };
+    play(&rt, rt.alloc(), limits, FULL_COLUMNS, 5);
+}
+
+/// Of the checks of a statement that names columns the first that fails is answered: the columns of
+/// the list and then of WHERE, SELECT of each of them in the same order, and the types of WHERE.
+const COLUMNS: &str = "\
+o: CREATE TABLE t (n TEXT, x INTEGER, y INTEGER)
+    done @1
+o: GRANT SELECT (x), DELETE, UPDATE (y) ON t TO a
+    done @2
+a: SELECT y, z FROM t WHERE w = 1
+    denied @2: no column z in t
+a: SELECT y FROM t WHERE n = 1 AND w = 1
+    denied @2: no column w in t
+a: SELECT x, y, n FROM t WHERE n = 1
+    denied @2: a lacks SELECT(y) on t
+a: SELECT * FROM t WHERE y = 1
+    denied @2: a lacks SELECT(n) on t
+a: SELECT y FROM t WHERE n = 1
+    denied @2: a lacks SELECT(y) on t
+a: SELECT x FROM t WHERE x = 'a' AND y = 'a' AND n = 1
+    denied @2: a lacks SELECT(y) on t
+a: SELECT x FROM t WHERE x = 'a'
+    refused @2: column x takes INTEGER
+a: SELECT x FROM t WHERE x = 1
+    rows 0 @2
+b: DELETE FROM t WHERE y = 1
+    denied @2: b lacks DELETE on t
+a: DELETE FROM t WHERE x = 'a' AND y = 'a' AND n = 1
+    denied @2: a lacks SELECT(y) on t
+a: DELETE FROM t WHERE x = 'a'
+    refused @2: column x takes INTEGER
+a: UPDATE t SET y = 'a', n = 1 WHERE y = 1
+    denied @2: a lacks UPDATE(n) on t
+a: UPDATE t SET y = 'a' WHERE y = 1
+    denied @2: a lacks SELECT(y) on t
+a: UPDATE t SET y = 'a' WHERE x = 'a'
+    refused @2: column y takes INTEGER
+a: UPDATE t SET y = 1 WHERE x = 'a'
+    refused @2: column x takes INTEGER
+a: UPDATE t SET y = 1 WHERE x = 1
+    done @3
+";
+
+#[test]
+fn columns_in_order(rt: HostRuntime) {
+    play(&rt, rt.alloc(), Limits::full(), COLUMNS, 3);
 }
 
 /// The number of a checkpoint that was given up is not used again.

@@ -27,10 +27,11 @@ fn user(rt: &impl Abort, name: &str) -> User {
     User(named(rt, name))
 }
 
+/// SELECT of the one column of the table.
 fn select_of(rt: &impl Abort, table: &str) -> Atom {
     Atom {
         table: named(rt, table),
-        kind: Kind::Select,
+        kind: Kind::Select(named(rt, "x")),
     }
 }
 

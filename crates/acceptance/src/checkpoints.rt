@@ -1,8 +1,9 @@
 //! A system beside plain vectors: changes, checkpoints, steps and exports by chance, told to both.
 use crate::chance::Chance;
-use crate::plain::{CHUNK, Noted, Plain, PlainGrant, PlainTable, USERS, numeral};
+use crate::columns::{compare_rows, some_privilege, some_query};
+use crate::plain::{CHUNK, Noted, Plain, PlainTable, USERS, numeral};
 use crate::slow::Slow;
-use base_core::{Lack, Moment, Name, Row, User, Value};
+use base_core::{Lack, Moment, Name, User};
 use export_core::{NoGate, Ticket};
 use reader_core::read;
 use std::alloc::Global;
@@ -189,22 +190,15 @@ fn grant(
     let by = actor(rt, plain, chance, table);
     let to = chance.letter(rt, USERS);
     let option = chance.below(3) > 0;
-    let may = plain.may_grant(by, table);
-    let pattern = if option {
-        "GRANT SELECT ON # TO # WITH GRANT OPTION"
-    } else {
-        "GRANT SELECT ON # TO #"
-    };
-    let reply = say(rt, alloc, system, by, pattern, &[table, to]);
+    let given = some_privilege(chance);
+    let may = plain.may_grant(by, table, given.columns);
+    let end = if option { " WITH GRANT OPTION" } else { "" };
+    let pattern = format!(in alloc; "GRANT {} ON # TO #{end}", given.written);
+    let pattern = pattern.expect(rt, "memory");
+    let reply = say(rt, alloc, system, by, pattern.as_str(), &[table, to]);
     accepted(rt, plain, reply, may);
     if may {
-        let grant = PlainGrant {
-            table,
-            by,
-            to,
-            option,
-        };
-        plain.grants.push(grant).expect(rt, "memory");
+        plain.grant(rt, table, given.columns, by, to, option);
     }
 }
 
@@ -218,17 +212,15 @@ fn revoke(
     let table = chance.letter(rt, TABLES);
     let by = actor(rt, plain, chance, table);
     let to = chance.letter(rt, USERS);
-    let may = plain.has_made(by, to, table);
-    let reply = say(
-        rt,
-        alloc,
-        system,
-        by,
-        "REVOKE SELECT ON # FROM #",
-        &[table, to],
-    );
+    let named = some_privilege(chance);
+    let may = plain.has_made(by, to, table, named.columns);
+    let pattern = format!(in alloc; "REVOKE {} ON # FROM #", named.written);
+    let pattern = pattern.expect(rt, "memory");
+    let reply = say(rt, alloc, system, by, pattern.as_str(), &[table, to]);
     accepted(rt, plain, reply, may);
-    plain.revoke(rt, by, to, table);
+    if may {
+        plain.revoke(rt, by, to, table, named.columns);
+    }
 }
 
 fn revoke_option(
@@ -241,49 +233,29 @@ fn revoke_option(
     let table = chance.letter(rt, TABLES);
     let by = actor(rt, plain, chance, table);
     let to = chance.letter(rt, USERS);
-    let may = plain.has_optioned(by, to, table);
-    let reply = say(
-        rt,
-        alloc,
-        system,
-        by,
-        "REVOKE GRANT OPTION FOR SELECT ON # FROM #",
-        &[table, to],
-    );
+    let named = some_privilege(chance);
+    let may = plain.has_optioned(by, to, table, named.columns);
+    let pattern = format!(in alloc; "REVOKE GRANT OPTION FOR {} ON # FROM #", named.written);
+    let pattern = pattern.expect(rt, "memory");
+    let reply = say(rt, alloc, system, by, pattern.as_str(), &[table, to]);
     accepted(rt, plain, reply, may);
-    plain.revoke_option(rt, by, to, table);
-}
-
-/// Whether the row has this digit and this letter.
-fn is(row: &Row, digit: u8, letter: u8) -> bool {
-    let values = row.values.as_slice();
-    match (values.first(), values.last()) {
-        (Some(Value::Int(number)), Some(Value::Text(text))) => {
-            let same_text = text.as_bytes() == [letter].as_slice();
-            same_text && *number == digit as i64 - b'0' as i64
-        }
-        _ => false,
-    }
-}
-
-/// The rows of a table as it is now.
-fn compare_rows(rt: &impl Abort, found: &[Row], wanted: &[(u8, u8)]) {
-    assert!(rt; found.len() == wanted.len());
-    for (row, plain) in found.iter().zip(wanted) {
-        assert!(rt; is(row, plain.0, plain.1));
+    if may {
+        plain.revoke_option(rt, by, to, table, named.columns);
     }
 }
 
 fn select(rt: &impl Abort, alloc: Global, system: &mut System, plain: &Plain, chance: &mut Chance) {
     let user = chance.letter(rt, USERS);
     let name = chance.letter(rt, TABLES);
-    match say(rt, alloc, system, user, "SELECT k, s FROM #", &[name]) {
+    let query = some_query(chance);
+    let may = plain.may_select(user, name, query.needed);
+    match say(rt, alloc, system, user, query.written, &[name]) {
         Reply::Rows { rows, .. } => {
-            assert!(rt; plain.may_select(user, name));
+            assert!(rt; may);
             let table = plain.table(name).expect(rt, "a table");
-            compare_rows(rt, rows.as_slice(), table.rows.as_slice());
+            compare_rows(rt, rows.as_slice(), query.columns, table.rows.as_slice());
         }
-        Reply::Denied { .. } => assert!(rt; !plain.may_select(user, name)),
+        Reply::Denied { .. } => assert!(rt; !may),
         _ => panic!(rt; "neither rows nor denied"),
     }
 }

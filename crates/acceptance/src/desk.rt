@@ -85,8 +85,8 @@ fn close(rt: &impl Abort, desk: Desk, first: Pass, second: Pass, mut passes: Vec
     system
 }
 
-/// Who met a note sees what its giver had seen, and the number of a checkpoint that was given up is not
-/// used again through another pass.
+/// Who met a note sees what its giver had seen, and the number of a checkpoint that was given up is
+/// not used again through another pass.
 #[test]
 fn freshness(rt: HostRuntime) {
     let mut said = Vec::new(rt.alloc());

@@ -27,8 +27,8 @@ fn comes_true<R: Clock>(rt: &R, flag: &AtomicBool) -> bool {
     false
 }
 
-/// A gate that holds an export before its second record, or a checkpoint with one record left, until
-/// another session was answered.
+/// A gate that holds an export before its second record, or a checkpoint with one record left,
+/// until another session was answered.
 #[derive(Drop)]
 struct Held<'a, R> {
     rt: &'a R,

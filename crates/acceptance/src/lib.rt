@@ -1,7 +1,7 @@
-//! Tests of what no clause says and no session of the built program shows: how often streams are called
-//! and where they fail, limits and events that no script has, the calls that the program does not make,
-//! and what happens at once. They stand in a crate above the libraries so that none of these is proved once more for its
-//! tests. There is nothing here but tests.
+//! Tests of what no clause says and no session of the built program shows: how often streams are
+//! called and where they fail, limits and events that no script has, the calls that the program
+//! does not make, and what happens at once. They stand in a crate above the libraries so that none
+//! of these is proved once more for its tests. There is nothing here but tests.
 #![tactic(auto)]
 
 #[cfg(test)]
@@ -12,6 +12,8 @@ mod captures;
 mod chance;
 #[cfg(test)]
 mod checkpoints;
+#[cfg(test)]
+mod columns;
 #[cfg(test)]
 mod desk;
 #[cfg(test)]

@@ -1,5 +1,5 @@
-//! What no clause says: that calls answer at all, that those who wait are woken, and that passes come
-//! back. And what a caller can tell by a mark and a fixed part.
+//! What no clause says: that calls answer at all, that those who wait are woken, and that passes
+//! come back. And what a caller can tell by a mark and a fixed part.
 ghost use Rattle.std.specs.Prelude.{◌≡◌, ◌<◌, Some, IfSome};
 
 use std::sync::Wait;
@@ -59,7 +59,8 @@ fn two_turns_answer(rt: HostRuntime) {
     assert!(rt; tally.entries() == [0, 0].as_slice());
 }
 
-/// The numbers of two turns that are not entered, between which the second pass met the first's note.
+/// The numbers of two turns that are not entered, between which the second pass met the first's
+/// note.
 fn two_numbers<R: Wait>(
     rt: &R,
     turnstile: &Turnstile<Tally>,

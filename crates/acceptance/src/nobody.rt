@@ -37,6 +37,10 @@ impl Authority for Nobody {
 
     fn revoke_option(&mut self, _by: User, _atoms: &[Atom], _whom: &[User]) {}
 
+    fn owns(&self, _user: User, _table: Name) -> bool {
+        false
+    }
+
     fn holds(&self, _user: User, _atom: &Atom) -> bool {
         false
     }

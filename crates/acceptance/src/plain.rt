@@ -10,7 +10,7 @@ pub const CHUNK: u64 = 3;
 /// So many checkpoints are kept.
 const KEPT: usize = 8;
 
-/// A table of numbers and texts. A row is a digit and a letter.
+/// A table of the columns k and s, of numbers and of texts. A row is a digit and a letter.
 #[derive(Drop)]
 pub struct PlainTable {
     pub name: u8,
@@ -18,21 +18,23 @@ pub struct PlainTable {
     pub rows: Vec<(u8, u8)>,
 }
 
-/// A grant of SELECT.
+/// A grant of SELECT on a column.
 #[derive(Clone, Copy)]
 pub struct PlainGrant {
     pub table: u8,
+    pub column: u8,
     pub by: u8,
     pub to: u8,
     pub option: bool,
 }
 
-/// A table at a checkpoint's point: its records as an export tells them, and who could select.
+/// A table at a checkpoint's point: its rows, and who could select its numbers and its texts.
 #[derive(Drop)]
 struct NotedTable {
     name: u8,
-    records: Vec<u8>,
-    readers: Vec<u8>,
+    rows: Vec<(u8, u8)>,
+    number_readers: Vec<u8>,
+    text_readers: Vec<u8>,
 }
 
 /// A checkpoint: the moment at which it was begun, how many records are left, and what it has.
@@ -74,29 +76,69 @@ pub fn numeral(rt: &impl Abort, alloc: Global, number: u64) -> Vec<u8> {
     text
 }
 
-/// Whether one of the grants gives the table to the user.
-fn gives(grants: &[PlainGrant], table: u8, user: u8) -> bool {
-    grants
-        .iter()
-        .any(|grant| grant.table == table && grant.to == user)
+/// Whether one of the grants gives the column of the table to the user.
+fn gives(grants: &[PlainGrant], table: u8, column: u8, user: u8) -> bool {
+    grants.iter().any(|grant| grant.table == table && grant.column == column && grant.to == user)
 }
 
-/// Whether one of the grants gives the table to the user with the option.
-fn gives_option(grants: &[PlainGrant], table: u8, user: u8) -> bool {
-    grants.iter().any(|grant| grant.table == table && grant.to == user && grant.option)
+/// Whether one of the grants gives the column of the table to the user with the option.
+fn gives_option(grants: &[PlainGrant], table: u8, column: u8, user: u8) -> bool {
+    grants.iter().any(|grant| grant.option
+        && grant.table == table
+        && grant.column == column
+        && grant.to == user)
 }
 
-/// The records of a table in an export.
-fn records(rt: &impl Abort, alloc: Global, table: &PlainTable) -> Vec<u8> {
-    let mut text = Vec::new(alloc);
-    append(rt, &mut text, b"table,");
-    append(rt, &mut text, &[table.name]);
-    append(rt, &mut text, b",k,s\n");
-    for row in table.rows.as_slice() {
-        append(rt, &mut text, b"row,");
-        append(rt, &mut text, &[row.0, b',', row.1, b'\n']);
+/// Whether one of the grants of the column of the table is by the one user to the other.
+fn is_made(grants: &[PlainGrant], table: u8, column: u8, by: u8, to: u8) -> bool {
+    grants.iter().any(|grant| grant.table == table
+        && grant.column == column
+        && grant.by == by
+        && grant.to == to)
+}
+
+/// Whether one of these has the option.
+fn is_optioned(grants: &[PlainGrant], table: u8, column: u8, by: u8, to: u8) -> bool {
+    grants.iter().any(|grant| grant.option
+        && grant.table == table
+        && grant.column == column
+        && grant.by == by
+        && grant.to == to)
+}
+
+/// A record of what is in front, with the number, the text, or both.
+fn record(
+    rt: &impl Abort,
+    text: &mut Vec<u8>,
+    front: &[u8],
+    numbers: bool,
+    texts: bool,
+    row: (u8, u8),
+) {
+    append(rt, text, front);
+    if numbers {
+        append(rt, text, &[b',', row.0]);
     }
-    text
+    if texts {
+        append(rt, text, &[b',', row.1]);
+    }
+    append(rt, text, b"\n");
+}
+
+/// The records of a table in an export, with the numbers, the texts, or both.
+fn records(rt: &impl Abort, text: &mut Vec<u8>, table: &NotedTable, numbers: bool, texts: bool) {
+    append(rt, text, b"table,");
+    record(rt, text, &[table.name], numbers, texts, (b'k', b's'));
+    for row in table.rows.as_slice() {
+        record(rt, text, b"row", numbers, texts, *row);
+    }
+}
+
+/// Why a table is withheld.
+fn withheld(rt: &impl Abort, text: &mut Vec<u8>, table: &NotedTable, why: &[u8]) {
+    append(rt, text, b"withheld,");
+    append(rt, text, &[table.name]);
+    append(rt, text, why);
 }
 
 impl Plain {
@@ -127,25 +169,38 @@ impl Plain {
         }
     }
 
-    pub fn may_select(&self, user: u8, table: u8) -> bool {
-        self.owns(user, table) || gives(self.grants.as_slice(), table, user)
+    /// Whether the user may select each of the columns.
+    pub fn may_select(&self, user: u8, table: u8, columns: &[u8]) -> bool {
+        let grants = self.grants.as_slice();
+        self.owns(user, table)
+            || columns
+                .iter()
+                .all(|column| gives(grants, table, *column, user))
     }
 
-    pub fn may_grant(&self, user: u8, table: u8) -> bool {
-        self.owns(user, table) || gives_option(self.grants.as_slice(), table, user)
+    /// Whether he may grant SELECT on each of them.
+    pub fn may_grant(&self, user: u8, table: u8, columns: &[u8]) -> bool {
+        let grants = self.grants.as_slice();
+        self.owns(user, table)
+            || columns
+                .iter()
+                .all(|column| gives_option(grants, table, *column, user))
     }
 
-    pub fn has_made(&self, by: u8, to: u8, table: u8) -> bool {
-        self.grants.as_slice().iter().any(|grant| grant.table == table
-            && grant.by == by
-            && grant.to == to)
+    /// Whether the one user has granted each of them to the other.
+    pub fn has_made(&self, by: u8, to: u8, table: u8, columns: &[u8]) -> bool {
+        let grants = self.grants.as_slice();
+        columns
+            .iter()
+            .all(|column| is_made(grants, table, *column, by, to))
     }
 
-    pub fn has_optioned(&self, by: u8, to: u8, table: u8) -> bool {
-        self.grants.as_slice().iter().any(|grant| grant.option
-            && grant.table == table
-            && grant.by == by
-            && grant.to == to)
+    /// Whether he has granted each of them with the option.
+    pub fn has_optioned(&self, by: u8, to: u8, table: u8, columns: &[u8]) -> bool {
+        let grants = self.grants.as_slice();
+        columns
+            .iter()
+            .all(|column| is_optioned(grants, table, *column, by, to))
     }
 
     fn table_mut(&mut self, name: u8) -> Option<&mut PlainTable> {
@@ -179,29 +234,55 @@ impl Plain {
         }
     }
 
+    /// Enters a grant of each of the columns.
+    pub fn grant(
+        &mut self,
+        rt: &impl Abort,
+        table: u8,
+        columns: &[u8],
+        by: u8,
+        to: u8,
+        option: bool,
+    ) {
+        for column in columns {
+            let grant = PlainGrant {
+                table,
+                column: *column,
+                by,
+                to,
+                option,
+            };
+            self.grants.push(grant).expect(rt, "memory");
+        }
+    }
+
     /// Strikes each grant that no earlier one allows.
     fn replay(&mut self, rt: &impl Abort) {
         let mut in_force = Vec::new(self.alloc);
         for grant in self.grants.as_slice() {
-            let allowed = gives_option(in_force.as_slice(), grant.table, grant.by);
-            if allowed || self.owns(grant.by, grant.table) {
+            let given = gives_option(in_force.as_slice(), grant.table, grant.column, grant.by);
+            if given || self.owns(grant.by, grant.table) {
                 in_force.push(*grant).expect(rt, "memory");
             }
         }
         self.grants = in_force;
     }
 
-    /// Strikes the grants of the table by one user to another, and then each that no earlier one
+    /// Strikes the grants of the columns by one user to another, and then each that no earlier one
     /// allows.
-    pub fn revoke(&mut self, rt: &impl Abort, by: u8, to: u8, table: u8) {
-        self.grants.retain(|grant| !(grant.table == table && grant.by == by && grant.to == to));
+    pub fn revoke(&mut self, rt: &impl Abort, by: u8, to: u8, table: u8, columns: &[u8]) {
+        self.grants.retain(|grant| !(grant.table == table
+            && grant.by == by
+            && grant.to == to
+            && columns.contains(&grant.column)));
         self.replay(rt);
     }
 
     /// Takes the option off these grants, and then strikes each that no earlier one allows.
-    pub fn revoke_option(&mut self, rt: &impl Abort, by: u8, to: u8, table: u8) {
+    pub fn revoke_option(&mut self, rt: &impl Abort, by: u8, to: u8, table: u8, columns: &[u8]) {
         for grant in self.grants.as_mut_slice().iter_mut() {
-            if grant.table == table && grant.by == by && grant.to == to {
+            let is_named = grant.table == table && columns.contains(&grant.column);
+            if is_named && grant.by == by && grant.to == to {
                 grant.option = false;
             }
         }
@@ -217,14 +298,22 @@ impl Plain {
         records.max(1)
     }
 
-    fn readers(&self, rt: &impl Abort, table: u8) -> Vec<u8> {
+    fn readers(&self, rt: &impl Abort, table: u8, columns: &[u8]) -> Vec<u8> {
         let mut readers = Vec::new(self.alloc);
         for user in USERS {
-            if self.may_select(*user, table) {
+            if self.may_select(*user, table, columns) {
                 readers.push(*user).expect(rt, "memory");
             }
         }
         readers
+    }
+
+    fn rows_of(&self, rt: &impl Abort, table: &PlainTable) -> Vec<(u8, u8)> {
+        let mut rows = Vec::new(self.alloc);
+        for row in table.rows.as_slice() {
+            rows.push(*row).expect(rt, "memory");
+        }
+        rows
     }
 
     fn noted_tables(&self, rt: &impl Abort) -> Vec<NotedTable> {
@@ -232,8 +321,9 @@ impl Plain {
         for table in self.tables.as_slice() {
             let noted = NotedTable {
                 name: table.name,
-                records: records(rt, self.alloc, table),
-                readers: self.readers(rt, table.name),
+                rows: self.rows_of(rt, table),
+                number_readers: self.readers(rt, table.name, b"k"),
+                text_readers: self.readers(rt, table.name, b"s"),
             };
             assert!(rt; tables.push(noted).is_ok());
         }
@@ -269,18 +359,19 @@ impl Plain {
             .find(|noted| noted.number == number)
     }
 
-    /// What an export of the checkpoint tells the user now of one of its tables.
+    /// What an export of the checkpoint tells the user now of one of its tables: the columns that
+    /// he could select then and may select now, if there are such.
     fn told(&self, rt: &impl Abort, text: &mut Vec<u8>, table: &NotedTable, user: u8) {
-        if !table.readers.as_slice().contains(&user) {
-            append(rt, text, b"withheld,");
-            append(rt, text, &[table.name]);
-            append(rt, text, b",point\n");
-        } else if !self.may_select(user, table.name) {
-            append(rt, text, b"withheld,");
-            append(rt, text, &[table.name]);
-            append(rt, text, b",now\n");
+        let numbers_then = table.number_readers.as_slice().contains(&user);
+        let texts_then = table.text_readers.as_slice().contains(&user);
+        let numbers = numbers_then && self.may_select(user, table.name, b"k");
+        let texts = texts_then && self.may_select(user, table.name, b"s");
+        if numbers || texts {
+            records(rt, text, table, numbers, texts);
+        } else if numbers_then || texts_then {
+            withheld(rt, text, table, b",now\n");
         } else {
-            append(rt, text, &table.records);
+            withheld(rt, text, table, b",point\n");
         }
     }
 

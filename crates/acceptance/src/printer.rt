@@ -26,7 +26,9 @@ delete\tfrom t
 UPDATE t SET a=1 , b='' WHERE a<=-5
 grant SELECT,update(a,b)on t to u,v with grant option
 revoke insert , delete,update on T from U
+grant select(A, b), delete on T to u
 revoke grant option for select on T from a
+revoke Select ( b , a ) , update(A) on T from u
 REVOKE Grant  Option For UPDATE(b,a) ,insert on t from U,v;
 CHECKPOINT ;
 checkpoints
@@ -44,7 +46,9 @@ DELETE FROM t
 UPDATE t SET a = 1, b = '' WHERE a <= -5
 GRANT SELECT, UPDATE (a, b) ON t TO u, v WITH GRANT OPTION
 REVOKE INSERT, DELETE, UPDATE ON t FROM u
+GRANT SELECT (a, b), DELETE ON t TO u
 REVOKE GRANT OPTION FOR SELECT ON t FROM a
+REVOKE SELECT (b, a), UPDATE (a) ON t FROM u
 REVOKE GRANT OPTION FOR UPDATE (b, a), INSERT ON t FROM u, v
 CHECKPOINT
 CHECKPOINTS
@@ -60,7 +64,8 @@ fn printed(rt: HostRuntime) {
     }
 }
 
-/// Behind each comma of a line the canonical text has a blank. With it the first of these has 4,096 bytes.
+/// Behind each comma of a line the canonical text has a blank. With it the first of these has 4,096
+/// bytes.
 #[test]
 fn too_long_to_print(rt: HostRuntime) {
     for (length, fault) in [(987, None), (988, Some(PrintFault::TooLong))] {

@@ -9,7 +9,9 @@ const USERS: &[u8] = b"abcd";
 
 const TABLES: &[u8] = b"tv";
 
-const CHANGES: u64 = 400;
+const COLUMNS: &[u8] = b"xy";
+
+const CHANGES: u64 = 800;
 
 /// Numbers by chance, the same ones for the same seed.
 #[derive(Drop)]
@@ -36,11 +38,13 @@ impl Chance {
         User(self.name(rt, USERS))
     }
 
+    /// Mostly SELECT of a column, so that many grants have to do with each other.
     fn atom(&mut self, rt: &impl Abort) -> Atom {
-        let kind = if self.next() % 2 == 0 {
-            Kind::Select
+        let column = self.name(rt, COLUMNS);
+        let kind = if self.next() % 4 == 0 {
+            Kind::Update(column)
         } else {
-            Kind::Update(self.name(rt, b"c"))
+            Kind::Select(column)
         };
         Atom {
             table: self.name(rt, TABLES),
@@ -70,13 +74,14 @@ pub fn grant<A: Authority>(
 }
 
 /// What is answered of two users and an atom.
-fn answers<A: Authority>(rights: &A, by: &User, user: &User, atom: &Atom) -> [bool; 5] {
+fn answers<A: Authority>(rights: &A, by: &User, user: &User, atom: &Atom) -> [bool; 6] {
+    let owns = rights.owns(*user, atom.table);
     let holds = rights.holds(*user, atom);
     let may_grant = rights.may_grant(*user, atom);
     let has_made = rights.has_made(*by, *user, atom);
     let has_optioned = rights.has_optioned(*by, *user, atom);
     let room = rights.room(atom, 1, 5);
-    [holds, may_grant, has_made, has_optioned, room]
+    [owns, holds, may_grant, has_made, has_optioned, room]
 }
 
 /// Both have the same grants in force, of which it says how many there are.

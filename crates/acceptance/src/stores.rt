@@ -1,5 +1,5 @@
-//! What no clause says: that calls which take memory succeed, how much room a store takes, and how many
-//! items a step copies.
+//! What no clause says: that calls which take memory succeed, how much room a store takes, and how
+//! many items a step copies.
 use crate::chance::Chance;
 use base_core::{NoMemory, Twin};
 use copyup_core::{PushFault, Sieve, Store};
@@ -156,8 +156,8 @@ fn a_step_copies_one_item(rt: HostRuntime) {
     assert!(rt; copies.get() == 1);
 }
 
-/// What a store should hold, in plain vectors: its items, those that a capture has still to give, and those
-/// that it gave.
+/// What a store should hold, in plain vectors: its items, those that a capture has still to give,
+/// and those that it gave.
 #[derive(Drop)]
 struct Plain {
     items: Vec<(u64, Item)>,

@@ -1,11 +1,12 @@
-//! How often the streams of `std` are called, and that they take and give what is long, which no clause
-//! can say.
+//! How often the streams of `std` are called, and that they take and give what is long, which no
+//! clause can say.
 use base_core::{Broken, Sink, Source, StdSink, StdSource, write_all};
 use std::alloc::Global;
 use std::io::{self, BufWriter, ErrorKind};
 use std::process::Abort;
 
-/// A stream whose reads and writes, or flushes, may be broken. It is at its end, and counts its calls.
+/// A stream whose reads and writes, or flushes, may be broken. It is at its end, and counts its
+/// calls.
 #[derive(Drop)]
 struct Counted {
     is_broken: bool,
@@ -64,7 +65,8 @@ fn a_read_is_one_call(rt: HostRuntime) {
     }
 }
 
-/// Writes these bytes through a buffer for two: what came of it, and how often the writer was called.
+/// Writes these bytes through a buffer for two: what came of it, and how often the writer was
+/// called.
 fn write(
     rt: &impl Abort,
     alloc: Global,
@@ -84,8 +86,8 @@ fn a_failed_write_is_made_once(rt: HostRuntime) {
     assert!(rt; broken == (Err(Broken), 1) && nothing == (Ok(()), 0));
 }
 
-/// Flushes a byte that waits in a buffer: what came of it, how often the writer was called and flushed,
-/// and how many bytes wait.
+/// Flushes a byte that waits in a buffer: what came of it, how often the writer was called and
+/// flushed, and how many bytes wait.
 fn flush(rt: &impl Abort, alloc: Global, writer: Counted) -> (Result<(), Broken>, [usize; 3]) {
     let writer = BufWriter::with_capacity(alloc, 2, writer).expect(rt, "memory");
     let mut sink = StdSink::new(writer);
@@ -107,7 +109,8 @@ fn a_flush_is_one_call(rt: HostRuntime) {
 
 const LONG: usize = 2_000_000;
 
-/// A stream gives and takes as much as is asked for at once: no error is made up where there is much.
+/// A stream gives and takes as much as is asked for at once: no error is made up where there is
+/// much.
 #[test]
 fn long_reads_and_writes_are_one_call(rt: HostRuntime) {
     let bytes = vec![in rt.alloc(); b'x'; LONG].expect(&rt, "memory");

@@ -24,25 +24,25 @@ pub same_user-refl : (a : User) → same_user a a ≡ true
 same_user-refl a = same_name-refl a.0
 
 pub same_kind-true : (a b : Kind) → same_kind a b ≡ true → a ≡ b
-same_kind-true Select Select h = refl
+same_kind-true (Select a) (Select b) h = ap Select (same_name-true a b h)
 same_kind-true Insert Insert h = refl
 same_kind-true Delete Delete h = refl
 same_kind-true (Update a) (Update b) h = ap Update (same_name-true a b h)
-same_kind-true Select Insert h = cc
-same_kind-true Select Delete h = cc
-same_kind-true Select (Update b) h = cc
-same_kind-true Insert Select h = cc
+same_kind-true (Select a) Insert h = cc
+same_kind-true (Select a) Delete h = cc
+same_kind-true (Select a) (Update b) h = cc
+same_kind-true Insert (Select b) h = cc
 same_kind-true Insert Delete h = cc
 same_kind-true Insert (Update b) h = cc
-same_kind-true Delete Select h = cc
+same_kind-true Delete (Select b) h = cc
 same_kind-true Delete Insert h = cc
 same_kind-true Delete (Update b) h = cc
-same_kind-true (Update a) Select h = cc
+same_kind-true (Update a) (Select b) h = cc
 same_kind-true (Update a) Insert h = cc
 same_kind-true (Update a) Delete h = cc
 
 pub same_kind-refl : (a : Kind) → same_kind a a ≡ true
-same_kind-refl Select = refl
+same_kind-refl (Select a) = same_name-refl a
 same_kind-refl Insert = refl
 same_kind-refl Delete = refl
 same_kind-refl (Update a) = same_name-refl a

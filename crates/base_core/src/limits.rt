@@ -7,7 +7,8 @@ pub struct Limits {
     /// Accepted changes.
     pub changes: u64,
     pub tables: u64,
-    /// Grants in force of one privilege of one table, each column's UPDATE by itself.
+    /// Grants in force of one privilege of one table, the SELECT and UPDATE of each column by
+    /// themselves.
     pub grants: u64,
     /// Checkpoints begun.
     pub checkpoints: u64,

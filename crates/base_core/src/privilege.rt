@@ -5,7 +5,8 @@ use crate::name::Name;
 /// What a privilege allows (Griffiths and Wade 1976, section 2).
 #[derive(Clone, Copy, PartialEq, Eq)]
 pub enum Kind {
-    Select,
+    /// To select this column.
+    Select(Name),
     Insert,
     Delete,
     /// To update this column.

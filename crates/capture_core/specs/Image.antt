@@ -1,5 +1,5 @@
 -- What is kept of tables and rights at one point, and what it says of a user.
-use Rattle.std.specs.Prelude.{ℕ, ◌+◌, Bool, ◌||◌, List, length, map, sum_by, max, find}
+use Rattle.std.specs.Prelude.{ℕ, ◌+◌, Bool, ◌||◌, List, [], length, map, sum_by, max, find}
 use Rattle.std.specs.List.{list_any}
 use Rattle.std.specs.Option.{option_map_or}
 use Rattle.std.specs.Prelude.{false}
@@ -8,7 +8,7 @@ use Rattle.base_core.specs.Users.{same_user}
 use Rattle.base_core.specs.declared.name.Name.{Name}
 use Rattle.base_core.specs.declared.name.User.{User}
 use Rattle.base_core.specs.declared.privilege.Atom.{Atom}
-use Rattle.base_core.specs.declared.privilege.Kind.TheVariants.{Select}
+use Rattle.base_core.specs.declared.value.Column.{Column}
 use Rattle.base_core.specs.declared.value.Moment.{Moment}
 use Rattle.tables_core.specs.Contents.{Contents}
 use Rattle.grants_core.specs.Content.{Content, gives}
@@ -45,13 +45,14 @@ row_total tables = sum_by (λ t. length t.1.rows) tables
 abbrev pub records : List (Name × Contents) → Content → ℕ
 records tables rights = max (row_total tables + length rights.in_force) 1
 
--- SELECT of a table
-abbrev pub to_select : Name → Atom
-to_select table = record { table = table; kind = Select }
-
 -- whether a table of this name stands in the image
 abbrev pub has : Image → Name → Bool
 has image name = list_any (λ t. same_name name t.name) image.tables
+
+-- the columns of the table of this name, and none where no such table stands there
+abbrev pub columns_in : Image → Name → List Column
+columns_in image name =
+    option_map_or (λ t. t.columns) (find (λ t. same_name name t.name) image.tables) []
 
 -- whether the user owns the atom's table there
 unfoldable pub owns_in_image : Image → User → Atom → Bool

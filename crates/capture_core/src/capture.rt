@@ -118,9 +118,9 @@ impl Capture {
 
     /// Takes `k` records off those that are left, or all where they are no more, and tells how many
     /// are left then. With none left the capture has ended, and the image is handed out. `Idle`
-    /// where none is active: then nothing has changed, and no memory was asked for. Tables and rights
-    /// must be those of `begin`, as they and the steps changed them, so that no more is due than is
-    /// left.
+    /// where none is active: then nothing has changed, and no memory was asked for. Tables and
+    /// rights must be those of `begin`, as they and the steps changed them, so that no more is due
+    /// than is left.
     ///
     /// `NoMemory` where a request for memory was refused: then as many records are left as before,
     /// and the same image is to come.

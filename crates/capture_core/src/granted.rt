@@ -1,17 +1,16 @@
 //! The grants of an image.
 ghost use Rattle.std.specs.Prelude.{◌≡◌, ◌↔◌, ◌⊎◌, ◌<◌, ◌+◌, ◌++◌, ◌||◌, [], length, get_or, map, take, drop, IsTrue, IfOk, OnOk, OnErr};
 ghost use Rattle.std.specs.List.{list_any};
-ghost use Rattle.base_core.specs.Words.{same_name};
-ghost use Rattle.base_core.specs.declared.name.Name.{Name as names};
+ghost use Rattle.base_core.specs.declared.privilege.Atom.{Atom as atoms};
 ghost use Rattle.indexmap.specs.IndexSet.{contains_by};
-ghost use Rattle.capture_core.specs.Image.{to_select};
 ghost use Rattle.grants_core.specs.Content as rights;
+ghost use Rattle.grants_core.specs.Keys.{same_key};
 ghost use Rattle.capture_core.specs.Marks as marks;
 ghost use Rattle.capture_core.specs.Marks.{grant_mark};
 
-use base_core::{Atom, Kind, Name, NoMemory, User};
+use base_core::{Atom, Name, NoMemory, User};
 use grants_core::Grant;
-use graph_core::Graph;
+use graph_core::{Graph, Key};
 use indexmap::IndexSet;
 use std::alloc::Global;
 use std::marker::Model;
@@ -24,10 +23,10 @@ const GRANTEES: u32 = 65_536;
 
 /// Grants in the order of their numbers. Contracts see the list.
 ///
-/// Beside each stands a small number, its mark, of which the name of its grantee makes the upper half and
-/// that of its table the lower. Grants that are not looked for mostly differ in it, so a look-up over many
-/// grants reads 4 bytes of each in place of 144. Where a mark found no memory, it and the later ones are
-/// missing.
+/// Beside each stands a small number, its mark, of which the name of its grantee makes the upper
+/// half and that of its table the lower. Grants that are not looked for mostly differ in it, so a
+/// look-up over many grants reads 4 bytes of each in place of 144. Where a mark found no memory, it
+/// and the later ones are missing.
 #[derive(Drop)]
 pub struct Grants {
     grants: Vec<Grant>,
@@ -96,7 +95,8 @@ fn any_marked(marked: &[u32], grants: &[Grant], user: &User, atom: &Atom) -> boo
     false
 }
 
-// Whether the mark at a place, if there is one, is of another grantee than the one of whom marks begin here.
+// Whether the mark at a place, if there is one, is of another grantee than the one of whom marks
+// begin here.
 fn is_of_another(marked: &[u32], at: usize, first: u32) -> bool
     ensures { IsTrue result → ((at < length marked.now)
         × ((get_or marked.now at 0 < first) ⊎ (first + 65535 < get_or marked.now at 0))) }
@@ -107,32 +107,30 @@ fn is_of_another(marked: &[u32], at: usize, first: u32) -> bool
     }
 }
 
-// The table of the grant is put among those that it gives the user SELECT of, if it does.
-fn add_given(given: &mut IndexSet<Name>, grant: &Grant, user: &User) -> Result<(), NoMemory>
-    ensures { OnOk result ((table : names) → contains_by (same_name table) given.new
-        ≡ (contains_by (same_name table) given.old
-        || rights.gives user.now (to_select table) grant.now)) }
+// The privilege of the grant is put among those given to the user, if the grant is to him.
+fn add_given(given: &mut IndexSet<Key>, grant: &Grant, user: &User) -> Result<(), NoMemory>
+    ensures { OnOk result ((atom : atoms) → contains_by (same_key (record { 0 = atom })) given.new
+        ≡ (contains_by (same_key (record { 0 = atom })) given.old
+        || rights.gives user.now atom grant.now)) }
 {
-    let own = Atom {
-        table: grant.atom.table,
-        kind: Kind::Select,
-    };
-    if grant.gives(user, &own) {
-        given.insert(grant.atom.table)?;
+    if grant.grantee == *user {
+        let Atom { table, kind } = grant.atom;
+        given.insert(Key(Atom { table, kind }))?;
     }
     Ok(())
 }
 
-// The tables of which one of the grants gives the user SELECT.
-fn given_tables(
+// The privileges that one of the grants gives the user.
+fn given_privileges(
     alloc: Global,
     marked: &[u32],
     grants: &[Grant],
     user: &User,
-) -> Result<IndexSet<Name>, NoMemory>
+) -> Result<IndexSet<Key>, NoMemory>
     requires { marked.now ≡ map grant_mark (take (length marked.now) grants.now) }
-    ensures { IfOk result (λ given. (table : names) → contains_by (same_name table) given
-        ≡ list_any (rights.gives user.now (to_select table)) grants.now) }
+    ensures { IfOk result (λ given. (atom : atoms)
+        → contains_by (same_key (record { 0 = atom })) given
+        ≡ list_any (rights.gives user.now atom) grants.now) }
 {
     let first = part_of(user.0.as_bytes()) * GRANTEES;
     let mut given = IndexSet::new(alloc);
@@ -152,7 +150,7 @@ fn any_gives(grants: &[Grant], user: &User, atom: &Atom) -> bool
 }
 
 impl Grants {
-    ghost use Rattle.base_core.specs.declared.name.Name.{Name as names};
+    ghost use Rattle.base_core.specs.declared.privilege.Atom.{Atom as atoms};
 
     /// No grants. It takes no memory.
     pub(crate) fn new(alloc: Global) -> Grants
@@ -193,17 +191,18 @@ impl Grants {
             || any_gives(&self.grants[self.marks.len()..], user, atom)
     }
 
-    /// The tables of which one of them gives the user SELECT. `NoMemory` where a request for memory
-    /// was refused.
-    pub fn tables_given(&self, alloc: Global, user: &User) -> Result<IndexSet<Name>, NoMemory>
-        ensures { IfOk result (λ given. (table : names) → contains_by (same_name table) given
-            ≡ list_any (rights.gives user.now (to_select table)) self.now) }
+    /// The privileges that one of them gives the user. `NoMemory` where a request for memory was
+    /// refused.
+    pub fn privileges_given(&self, alloc: Global, user: &User) -> Result<IndexSet<Key>, NoMemory>
+        ensures { IfOk result (λ given. (atom : atoms)
+            → contains_by (same_key (record { 0 = atom })) given
+            ≡ list_any (rights.gives user.now atom) self.now) }
     {
-        given_tables(alloc, &self.marks, &self.grants, user)
+        given_privileges(alloc, &self.marks, &self.grants, user)
     }
 
-    /// Takes the next `count` grants of the capture, or all that are left. `NoMemory` where a request
-    /// for memory was refused: then these grants and the rights are as before.
+    /// Takes the next `count` grants of the capture, or all that are left. `NoMemory` where a
+    /// request for memory was refused: then these grants and the rights are as before.
     pub(crate) fn take(&mut self, rights: &mut Graph, count: u64) -> Result<(), NoMemory>
         ensures content { rights.new.content ≡ rights.old.content }
         ensures items { OnOk result (self.new ≡ self.old ++ take count rights.old.rest) }

@@ -50,6 +50,17 @@ impl Image {
             .any(|table| name == table.name)
     }
 
+    /// The columns of the table of this name at the point, and none where no such table stood. It
+    /// takes no memory.
+    pub fn columns(&self, name: Name) -> &[Column]
+        ensures { result.now ≡ images.columns_in self.now name }
+    {
+        match self.table(name) {
+            Some(table) => table.columns.as_slice(),
+            None => &[],
+        }
+    }
+
     /// Whether the user owned the atom's table at the point. It takes no memory.
     #[tactic(auto, unfolding(crate::specs::Image::owns_in_image))]
     pub fn owns(&self, user: &User, atom: &Atom) -> bool

@@ -10,9 +10,9 @@
 //! A [`Capture`] stands for the number of checkpoints begun so far and, while one is active, for
 //! what was taken of it. With what the tables and the rights have still to give, that is the image
 //! to come. The one contract: [`Capture::begin`] fixes the image to come as that of the tables and
-//! rights at that call, no later change or step changes it, and the step that ends the capture gives
-//! it. One capture is active at a time, and a number is never used again, that of a capture that was
-//! given up neither. An image answers what stood at its point and what a user held there
+//! rights at that call, no later change or step changes it, and the step that ends the capture
+//! gives it. One capture is active at a time, and a number is never used again, that of a capture
+//! that was given up neither. An image answers what stood at its point and what a user held there
 //! ([`Image::has`], [`Image::holds`]); [`images_tell_the_same`] says that these are the answers of
 //! the tables and the grants themselves. `specs/Image.antt`, `specs/Filling.antt` and
 //! `specs/Capturing.antt` have the definitions.
@@ -49,12 +49,14 @@
 //!
 //! # Cost
 //!
-//! `begin` and `active` are constant. `abandon` goes over the grants that had still to be taken, and
-//! hands what was taken to the caller. A step of k copies k rows and grants at most, and goes on
-//! over the tables that become whole with them; with a table goes a copy of its columns. `has` and
-//! `owns` go over the image's tables, and `holds` over these and over the marks of its grants, of 4
-//! bytes each; so does `tables_given` of the grants. Only `step` takes memory, as much as the image has at the end: room for the rows of a table, and for the grants, is made at
-//! once, so that no long list is moved as it grows.
+//! `begin` and `active` are constant. `abandon` goes over the grants that had still to be taken,
+//! and hands what was taken to the caller. A step of k copies k rows and grants at most, and goes
+//! on over the tables that become whole with them; with a table goes a copy of its columns. `has`
+//! and `owns` go over the image's tables, and `holds` over these and over the marks of its grants,
+//! of 4 bytes each. `privileges_given` of the grants goes over the marks too, and takes memory for
+//! what it gives. Of a capture only `step` takes memory, as much as the image has at the end: room
+//! for the rows of a table, and for the grants, is made at once, so that no long list is moved as
+//! it grows.
 #![tactic(auto)]
 
 mod active;

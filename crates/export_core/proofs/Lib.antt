@@ -1,10 +1,12 @@
 mod CsvLaw
 mod Fields
+mod Cutting
 mod PlainNames
 mod Places
 mod Giving
 mod WalkLemmas
 mod Alone
+mod Uncut
 mod Issuing
 mod Listing
 mod WorkedExamples

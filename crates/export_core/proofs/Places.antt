@@ -1,5 +1,5 @@
 -- Items of lists by their places.
-use Rattle.std.proofs.Common.{◌≡◌, ℕ, zero, suc, ◌+◌, ◌-◌, ◌<◌, ◌≤◌, Bool, true, false, cond, nat_lt, get_or, subst, MatchOption, IfSome, length, List, [], ◌∷◌, ◌++◌, take, drop, map, Option, Some, None, refl, sym, ap, ◌∙◌, arith, zero-add, append-nil}
+use Rattle.std.proofs.Common.{◌≡◌, ℕ, zero, suc, ◌+◌, ◌-◌, ◌<◌, ◌≤◌, Bool, true, false, cond, nat_lt, get_or, subst, MatchOption, length, List, [], ◌∷◌, ◌++◌, take, drop, map, Option, Some, None, refl, sym, ap, ◌∙◌, arith, zero-add, append-nil}
 use Rattle.std.specs.List.{slice_get, flat_map, zip, find, position, position_or_len}
 use Rattle.std.specs.Option.{option_to_list}
 use Rattle.std.proofs.lemmas.Bool.Decides.{nat_tests}
@@ -132,8 +132,3 @@ MatchOption-some o P Q x is holds = subst (λ v. MatchOption v P Q) (sym is) hol
 pub MatchOption-each : {X : Type 0} (o : Option X) (P : Type 0) (Q : X → Type 0) → P → ((x : X) → Q x) → MatchOption o P Q
 MatchOption-each None P Q p q = p
 MatchOption-each (Some x) P Q p q = q x
-
--- what holds of an item where there is one
-pub IfSome-matched : {X : Type 0} (o : Option X) (P : Type 0) (Q R : X → Type 0) → ((x : X) → Q x → R x) → MatchOption o P Q → IfSome o R
-IfSome-matched None P Q R weaker m = tt
-IfSome-matched (Some x) P Q R weaker m = weaker x m

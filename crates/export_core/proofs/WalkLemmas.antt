@@ -88,7 +88,7 @@ module _ (t : Inside) (way : IsUnderWay t) where
 
 -- each table is told in a line at least
 pub told-some : (pair : TableImage × Judgement) → 0 < length (told_of pair)
-told-some (table, Listed) = omega arith
+told-some (table, Listed marks) = omega arith
 told-some (table, WithheldThen) = omega arith
 told-some (table, WithheldNow) = omega arith
 

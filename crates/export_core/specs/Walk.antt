@@ -1,34 +1,42 @@
--- How the fields of a ticket stand for an export on its way.
-use Rattle.std.specs.Prelude.{◌≡◌, ℕ, ◌+◌, ◌<◌, ◌≤◌, true, if◌then◌else◌, List, [], ◌∷◌, ◌++◌, length, map, take, drop, zip, flat_map, slice_get, None, MatchOption}
+-- How tables are judged, and how the fields of a ticket stand for an export on its way.
+use Rattle.std.specs.Prelude.{◌≡◌, ℕ, ◌+◌, ◌<◌, ◌≤◌, Bool, true, if◌then◌else◌, List, [], ◌∷◌, ◌++◌, length, map, take, drop, zip, flat_map, slice_get, None, MatchOption, codes}
 use Rattle.std.specs.Arc.{arc_value}
-use Rattle.base_core.specs.declared.name.Name.{Name}
 use Rattle.base_core.specs.declared.name.User.{User}
 use Rattle.base_core.specs.declared.value.Moment.{Moment}
 use Rattle.grants_core.specs.Content.{Content}
 use Rattle.capture_core.specs.declared.image.Image.{Image}
 use Rattle.capture_core.specs.declared.image.TableImage.{TableImage}
-use Rattle.export_core.specs.Export.{told, end_line, held_then, holds_now}
+use Rattle.export_core.specs.Export.{holds_now, held, is_any, listed_lines, withheld_line, end_line}
+use Rattle.export_core.specs.Marks.{both}
 use Rattle.export_core.specs.Ticket.{Exporting}
 use Rattle.export_core.specs.declared.judgement.Judgement.{Judgement}
 use Rattle.export_core.specs.declared.judgement.Judgement.TheVariants.{Listed, WithheldThen, WithheldNow}
 use Rattle.export_core.specs.declared.walk.Walk.TheInside.{Inside}
 
--- how a table is judged by the rights at the request alone
-abbrev pub by_rights : Content → User → Name → Judgement
-by_rights now user table = if holds_now now user table then Listed else WithheldNow
+-- of each column of a table, whether the user holds SELECT of it by the rights at the request
+abbrev pub by_rights : Content → User → TableImage → List Bool
+by_rights now user t = map (λ c. holds_now now user t.name c.name) t.columns
 
--- how it is judged in the end, where the rights at the request judge it so
-abbrev pub settled : Image → User → TableImage × Judgement → Judgement
+-- how a table is judged in the end, where the rights at the request mark its columns so
+abbrev pub settled : Image → User → TableImage × List Bool → Judgement
 settled image user pair =
-    if held_then image user pair.0.name then pair.1 else WithheldThen
+    let could = held image user pair.0.name pair.0.columns in
+    let marks = both could pair.1 in
+    if is_any marks then Listed marks else if is_any could then WithheldNow else WithheldThen
+
+-- what is told of a table that is judged so
+abbrev pub told : Judgement → TableImage → List (List ℕ)
+told (Listed marks) t = listed_lines marks t
+told WithheldThen t = withheld_line t.name (codes "point") ∷ []
+told WithheldNow t = withheld_line t.name (codes "now") ∷ []
 
 -- a table and how it was judged
 abbrev pub told_of : TableImage × Judgement → List (List ℕ)
 told_of pair = told pair.1 pair.0
 
--- an export that was asked for: of these tables of the image, from the first on, each judged so by
--- the rights at the request
-abbrev pub asked : Image → User → Moment → ℕ → List Judgement → Exporting
+-- an export that was asked for: of these tables of the image, from the first on, the columns of
+-- each marked so by the rights at the request
+abbrev pub asked : Image → User → Moment → ℕ → List (List Bool) → Exporting
 asked image user at first now = record {
   number = image.number;
   point = image.point;

@@ -1,15 +1,17 @@
 //! An export that was asked for, before its first record.
 ghost use Rattle.std.specs.Prelude.{◌≡◌, [], IsOk, IfOk};
 
-use crate::judgement::{Judgement, settled};
+use crate::judgement::settled;
+use crate::marks::Marks;
 use crate::walk::Walk;
 use base_core::{Moment, NoMemory, User};
 use capture_core::Image;
 use std::marker::Model;
 use std::sync::Arc;
 
-/// What was asked for, with how its tables are judged by the rights at the request. What the image
-/// says of them is judged when the walk begins. Contracts see the export, of which nothing was given.
+/// What was asked for, with the columns of its tables marked by the rights at the request. What the
+/// image says of them is judged when the walk begins. Contracts see the export, of which nothing
+/// was given.
 #[derive(Drop)]
 pub(crate) struct Asked {
     pub(crate) image: Arc<Image>,
@@ -17,8 +19,8 @@ pub(crate) struct Asked {
     pub(crate) at: Moment,
     /// Where the export's tables begin among those of the image.
     pub(crate) first: usize,
-    /// One for each of the export's tables.
-    pub(crate) by_rights: Vec<Judgement>,
+    /// For each of the export's tables, of which columns the user holds SELECT by these rights.
+    pub(crate) by_rights: Vec<Marks>,
 }
 
 impl Model for Asked {

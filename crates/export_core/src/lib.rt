@@ -1,26 +1,29 @@
 //! Exports: what a user is told of a checkpoint, record by record.
 //!
-//! An export goes over the tables of a checkpoint's [`Image`](capture_core::Image) in the order of their
-//! creation. A table is listed, with its columns and its rows, where the user held SELECT of it at the
-//! checkpoint's point, by the owners and grants captured there, and holds it at the request, by those in
-//! force then. Else it is withheld, and one record says so and names the moment at which SELECT was
-//! missing: the point, or now; the point where it was missing at both. The last record has the number of
+//! An export goes over the tables of a checkpoint's [`Image`](capture_core::Image) in the order of
+//! their creation. A table is listed, with the columns of which the user held SELECT at the
+//! checkpoint's point, by the owners and grants captured there, and holds it at the request, by
+//! those in force then. Its rows are cut to these columns. Where there is none, the table is
+//! withheld, and one record says so and when SELECT was missing: at the point, where the user held
+//! it of no column, or now, where he holds it of none of those. The last record has the number of
 //! the checkpoint. An export of one table alone tells that table and the end.
 //!
 //! ```text
 //! table,pay,name,wage
 //! row,"Bo, jr",-5
+//! table,staff,name
+//! row,"Bo, jr"
 //! withheld,tax,point
 //! withheld,log,now
 //! end 1
 //! ```
 //!
-//! A [`Ticket`] stands for an export on its way: the numbers of its header, the records given so far, and
-//! those to come. The one contract: [`Ticket::issue`] fixes the records to come, with each table judged
-//! once, and from then on each call moves records from those to come to those given, the next ones in
-//! order, and hands out or writes exactly these. What is granted or revoked later changes nothing in an
-//! export that was issued. `specs/Export.antt` says what the records are, and `specs/Ticket.antt` what
-//! the calls do.
+//! A [`Ticket`] stands for an export on its way: the numbers of its header, the records given so
+//! far, and those to come. The one contract: [`Ticket::issue`] fixes the records to come, with each
+//! table judged once, and from then on each call moves records from those to come to those given,
+//! the next ones in order, and hands out or writes exactly these. What is granted or revoked later
+//! changes nothing in an export that was issued. `specs/Export.antt` says what the records are, and
+//! `specs/Ticket.antt` what the calls do.
 //!
 //! ```text
 //! let mut ticket = Ticket::issue(alloc, &image, ann, &rights, None, Moment(6))?;
@@ -29,24 +32,27 @@
 //! ticket.next_record()?;                     // None
 //! ```
 //!
-//! A [`Gate`] is called before each record that `write_to` gives, so that a test can hold an export up
-//! there. [`NoGate`] does nothing.
+//! A [`Gate`] is called before each record that `write_to` gives, so that a test can hold an export
+//! up there. [`NoGate`] does nothing.
 //!
 //! # Records
 //!
-//! A record is a line of at least two fields with commas between them. A field is in quotes exactly where
-//! it has a comma or a quote, and a quote inside is doubled; the line ends with a line feed. It is
-//! written by `csv`, whose text of fields without control characters is this one; names, texts and
-//! numbers have none. Rows that follow each other are written by one writer of `csv`, since its buffer
-//! costs more than a row's text. The last record of an export alone is of another form: two words.
+//! A record is a line of at least two fields with commas between them. A field is in quotes exactly
+//! where it has a comma or a quote, and a quote inside is doubled; the line ends with a line feed.
+//! It is written by `csv`, whose text of fields without control characters is this one; names,
+//! texts and numbers have none. Rows that follow each other are written by one writer of `csv`,
+//! since its buffer costs more than a row's text. The last record of an export alone is of another
+//! form: two words.
 //!
 //! # Cost
 //!
-//! A ticket keeps the image's `Arc`, one judgement a table, and where it is; nothing of the image is
-//! copied. To issue one looks up a right for each of its tables, and takes memory for a byte a table. The
-//! first record goes over the marks of the image's grants once, and takes memory for the names of the
-//! tables of which the user was given SELECT. Any later record costs its own bytes; at `next_record` it costs a buffer of
-//! `csv` too, at `write_to` one buffer serves many rows. `write_to` makes each record
+//! A ticket keeps the image's `Arc`, the marks of its tables' columns, and where it is; nothing of
+//! the image is copied. Where all columns of a table are marked, they are only counted. To issue a
+//! ticket asks once a table whether the user owns it; where he doesn't, it looks up a right for
+//! each column, and takes memory for a byte a column. The first record goes over the image's grants
+//! once, and takes memory for the privileges that they give the user; of a table that he didn't own
+//! it looks each column up there. Any later record costs its own bytes; at `next_record` it costs a
+//! buffer of `csv` too, at `write_to` one buffer serves many rows. `write_to` makes each record
 //! after it has written the one before, and keeps the text of at most 128 rows.
 #![tactic(auto)]
 
@@ -56,6 +62,7 @@ mod gate;
 mod judgement;
 pub mod laws;
 mod lines;
+mod marks;
 mod record;
 mod rows;
 mod ticket;

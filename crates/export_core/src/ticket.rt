@@ -20,11 +20,11 @@ use std::alloc::Global;
 use std::marker::Model;
 use std::sync::Arc;
 
-/// An export of a checkpoint to a user. Contracts see the number and the point of the checkpoint, the
-/// moment of the request, the records given so far, and those to come.
+/// An export of a checkpoint to a user. Contracts see the number and the point of the checkpoint,
+/// the moment of the request, the records given so far, and those to come.
 ///
-/// It shares the checkpoint's image and copies nothing of it: each record is made when it is asked for.
-/// What the image says of the user's rights is looked up once, for the first record.
+/// It shares the checkpoint's image and copies nothing of it: each record is made when it is asked
+/// for. What the image says of the user's rights is looked up once, for the first record.
 #[derive(Drop)]
 pub struct Ticket {
     asked: Asked,
@@ -63,14 +63,15 @@ fn chosen(tables: &[TableImage], only: Option<Name>) -> (usize, &[TableImage])
 }
 
 impl Ticket {
-    /// An export of the image to the user, of which nothing is given yet: of all tables, or of `only`
-    /// alone. A table is listed where the user held SELECT of it at the image's point, by the owners
-    /// and grants captured, and holds it by `rights`, those of the request. These are looked up here,
-    /// once; the image's, which never change, for the first record. What is revoked later takes
-    /// nothing from the export. `now` is the moment of the request.
+    /// An export of the image to the user, of which nothing is given yet: of all tables, or of
+    /// `only` alone. A table is listed with the columns of which the user held SELECT at the
+    /// image's point, by the owners and grants captured, and holds it by `rights`, those of the
+    /// request; its rows are cut to them. Where there is no such column, it is withheld. The rights
+    /// are looked up here, once; what the image says, which never changes, for the first record.
+    /// What is revoked later takes nothing from the export. `now` is the moment of the request.
     ///
-    /// A table that `only` names has to be in the image, and the user has to have SELECT of it at both
-    /// moments. `NoMemory` where a request for memory was refused.
+    /// A table that `only` names has to be in the image, and to have a column of which the user has
+    /// SELECT at both moments. `NoMemory` where a request for memory was refused.
     pub fn issue<A: Authority>(
         alloc: Global,
         image: &Arc<Image>,
@@ -152,9 +153,9 @@ impl Ticket {
         record
     }
 
-    /// Gives all records to come and writes them. Before each, the last line too, the gate is called with
-    /// how many this call has given so far. An answer to EXPORT is written by one call, from its first
-    /// record on.
+    /// Gives all records to come and writes them. Before each, the last line too, the gate is
+    /// called with how many this call has given so far. An answer to EXPORT is written by one call,
+    /// from its first record on.
     ///
     /// - `NoMemory` where a request for memory was refused: the records before it were given and
     ///   written, and the one that it was for comes next.

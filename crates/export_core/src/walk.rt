@@ -1,8 +1,9 @@
 //! The records of an export whose tables are judged, one after another.
-ghost use Rattle.std.specs.Prelude.{◌≡◌, ◌↔◌, [], true, false, ℕ, if◌then◌else◌, slice_get, option_map, is_some, Some, IfSome, IfOk, IfErr, IsOk, IsErrOf, OnOk, OnErr};
+ghost use Rattle.std.specs.Prelude.{◌≡◌, ◌↔◌, [], true, false, ℕ, if◌then◌else◌, slice_get, option_map, option_copied, is_some, Some, IfSome, IfOk, IfErr, IsOk, IsErrOf, OnOk, OnErr};
 ghost use Rattle.std.specs.List.{concat};
 ghost use Rattle.std.specs.Io.KnownBytes.{Appends};
 ghost use Rattle.csv.specs.Writing.{writer_pending};
+ghost use Rattle.export_core.specs.Export.{cut};
 ghost use Rattle.export_core.specs.Record.{IsBetween, row_line};
 ghost use Rattle.export_core.specs.Ticket.{after_giving, finished, WritesRecords, Stops};
 
@@ -10,6 +11,7 @@ use crate::fault::ExportFault;
 use crate::gate::{Gate, Passage};
 use crate::judgement::Judgement;
 use crate::lines::{end_line, next_index, row_at, told_line};
+use crate::marks::Marks;
 use crate::record::writer_after;
 use crate::rows::append_row;
 use base_core::{Broken, Moment, NoMemory, Row, Sink, write_all};
@@ -18,8 +20,8 @@ use csv::Writer;
 use std::marker::Model;
 use std::sync::Arc;
 
-// How many rows one writer of records writes: so many that its buffer costs little, and so few that what
-// it holds stays small.
+// How many rows one writer of records writes: so many that its buffer costs little, and so few that
+// what it holds stays small.
 const ROWS_OF_A_WRITER: usize = 128;
 
 /// A walk over the tables of an export, each of which is judged. Contracts see the export.
@@ -50,10 +52,10 @@ impl Model for Walk {
     ghost invariant = { IsUnderWay };
 }
 
-fn judgement_at(judgements: &[Judgement], index: usize) -> Option<Judgement>
-    ensures { result ≡ slice_get judgements.now index }
+fn judgement_at(judgements: &[Judgement], index: usize) -> Option<&Judgement>
+    ensures { option_copied result ≡ slice_get judgements.now index }
 {
-    judgements.get(index).copied()
+    judgements.get(index)
 }
 
 impl Walk {
@@ -124,16 +126,19 @@ impl Walk {
         Ok(line)
     }
 
-    // The row whose record is the next, if that is a row's.
-    fn next_row(&self) -> Option<&Row>
-        ensures { IfSome result
-            (λ row. slice_get self.now.to_come 0 ≡ Some (row_line row.now.values)) }
+    // The row whose record is the next, if that is a row's, and the marks of its table's columns.
+    fn next_row(&self) -> Option<(&Marks, &Row)>
+        ensures { IfSome result (λ next. slice_get self.now.to_come 0
+            ≡ Some (row_line (cut next.0.now next.1.now.values))) }
     {
-        let Some(Judgement::Listed) = judgement_at(&self.judgements, self.told) else {
+        let Some(Judgement::Listed(marks)) = judgement_at(&self.judgements, self.told) else {
             return None;
         };
         let table = &self.image.tables.as_slice()[self.first + self.told];
-        row_at(table, self.lines)
+        match row_at(table, self.lines) {
+            Some(row) => Some((marks, row)),
+            None => None,
+        }
     }
 
     // Gives one record and writes it. False at the end.
@@ -183,11 +188,11 @@ impl Walk {
         ensures err { IfErr result
             (λ fault. Stops fault self.old self.new (W.taken writer.old) (W.taken writer.new)) }
     {
-        let Some(row) = self.next_row() else {
+        let Some((marks, row)) = self.next_row() else {
             return Ok(false);
         };
         let start = records.get_ref().len();
-        let Ok(()) = append_row(records, row) else {
+        let Ok(()) = append_row(records, marks, row) else {
             return Err(ExportFault::NoMemory);
         };
         self.pass();
@@ -220,9 +225,9 @@ impl Walk {
         Ok(())
     }
 
-    /// Gives all records to come and writes them. Before each, the last line too, the gate is called with
-    /// how many this call has given so far. An answer to EXPORT is written by one call, from its first
-    /// record on.
+    /// Gives all records to come and writes them. Before each, the last line too, the gate is
+    /// called with how many this call has given so far. An answer to EXPORT is written by one call,
+    /// from its first record on.
     ///
     /// - `NoMemory` where a request for memory was refused: the records before it were given and
     ///   written, and the one that it was for comes next.

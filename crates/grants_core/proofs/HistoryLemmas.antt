@@ -1,7 +1,7 @@
 -- What one more change leaves in force.
-use Rattle.std.proofs.Common.{◌≡◌, ℕ, ◌+◌, ◌<◌, ◌≤◌, Bool, true, false, not, ◌||◌, ◌&&◌, cond, ltb, List, [], ◌∷◌, ◌++◌, length, refl, sym, ap, subst, ◌∙◌, append_assoc, add_assoc, add-zero, arith, map, ⊎_elim}
+use Rattle.std.proofs.Common.{◌≡◌, ℕ, ◌+◌, ◌<◌, ◌≤◌, Bool, true, false, not, ◌||◌, ◌&&◌, cond, ltb, List, [], ◌∷◌, ◌++◌, length, refl, sym, ap, subst, ◌∙◌, append_assoc, add_assoc, add-zero, length-append, arith, map, ⊎_elim}
 use Rattle.std.specs.List.{AllByRecursion, All, filter, list_any}
-use Rattle.std.proofs.Math.Bool.{or_assoc}
+use Rattle.std.proofs.Math.Bool.{or_assoc, or-false}
 use Rattle.std.proofs.lemmas.Bool.{lt-ltb, le-ltb, or_from, or_parts, and_left, cond-true, cond-false, cases_Bool}
 use Rattle.std.proofs.lemmas.List.{append-nil, map-append}
 use Rattle.std.proofs.lemmas.List.Sums.{fold-append}
@@ -20,12 +20,10 @@ use Rattle.grants_core.specs.Owners.{owns, with_owner, with_granted}
 use Rattle.grants_core.specs.Valid.{valid, AreSupported}
 use Rattle.grants_core.specs.Content.{Content, may_grant, names, without, singles, option_off, options_off, after_create, after_grant, after_revoke, after_revoke_option}
 use Rattle.grants_core.specs.History.{made_by, made_by_all, grants_of, is_struck_by, owners_with, granted_from, granted, is_granted, is_struck_from, is_struck, is_unoptioned_by, is_unoptioned_from, is_unoptioned, left_after, owners_after, unstruck_after, in_force_after, content_after}
-use Rattle.grants_core.specs.Log.{unstruck, logged}
 use Rattle.grants_core.proofs.ValidLemmas.{valid-filter_valid, valid-append}
 use Rattle.grants_core.proofs.OptionLemmas.{options_kept, All-options_off, options_alike, options_filter, options_twice, valid-options_off}
+use Rattle.grants_core.proofs.SinglesLemmas.{length-singles}
 use Rattle.grants_core.proofs.OwnersLemmas.{valid-owners, owns-with_owner, alike-with_granted, singles-all, AllByRecursion-append}
-use Rattle.grants_core.specs.declared.log.LoggedGrant.{LoggedGrant}
-use Rattle.grants_core.proofs.LogLemmas.{unstruck-added}
 use Rattle.grants_core.proofs.GrantLemmas.{All-implied, All-filtered, All-valid, singles-supported}
 
 pub same_content : (os ps : List Ownership) (gs hs : List Grant) (n m : ℕ) → os ≡ ps → gs ≡ hs → n ≡ m → ◌≡◌ {A = Content} (record { owners = os; in_force = gs; made = n }) (record { owners = ps; in_force = hs; made = m })
@@ -147,6 +145,40 @@ filter_twice p q (x ∷ xs) =
       | false ↦ filter_twice p q xs
     ]
 
+-- what is made after one more change
+pub granted-more : (cs : List Change) (c : Change) → granted (cs ++ c ∷ []) ≡ granted cs ++ grants_of (made_by_all cs) (1 + length cs) c
+granted-more cs c =
+    let zero_plus : 0 + made_by_all cs ≡ made_by_all cs = omega arith in
+    granted_from-append 0 1 cs (c ∷ [])
+    ∙ ap (λ k. granted cs ++ k) (append-nil (grants_of (0 + made_by_all cs) (1 + length cs) c) ∙ ap (λ k. grants_of k (1 + length cs) c) zero_plus)
+
+length-grants_of : (n m : ℕ) (c : Change) → length (grants_of n m c) ≡ made_by c
+length-grants_of n m (change.Create table owner) = refl
+length-grants_of n m (change.Grant by atoms whom option) = length-singles n (record { 0 = m }) by atoms whom option
+length-grants_of n m (change.Revoke by atoms whom) = refl
+length-grants_of n m (change.RevokeOption by atoms whom) = refl
+length-grants_of n m (change.Other) = refl
+
+length-granted_from : (n m : ℕ) (cs : List Change) → length (granted_from n m cs) ≡ made_by_all cs
+length-granted_from n m [] = refl
+length-granted_from n m (c ∷ cs) =
+    length-append (grants_of n m c) (granted_from (n + made_by c) (m + 1) cs)
+    ∙ ap (λ k. k + length (granted_from (n + made_by c) (m + 1) cs)) (length-grants_of n m c)
+    ∙ ap (λ k. made_by c + k) (length-granted_from (n + made_by c) (m + 1) cs)
+
+pub length-granted : (cs : List Change) → length (granted cs) ≡ made_by_all cs
+length-granted cs = length-granted_from 0 1 cs
+
+-- what is struck
+pub is_struck-more : (cs : List Change) (c : Change) (g : Grant) → is_struck (cs ++ c ∷ []) g ≡ (is_struck cs g || is_struck_by (1 + length cs) c g)
+is_struck-more cs c g =
+    is_struck-append 1 cs (c ∷ []) g ∙ ap (λ b. is_struck cs g || b) (or-false (is_struck_by (1 + length cs) c g))
+
+-- and which options are gone
+pub is_unoptioned-more : (cs : List Change) (c : Change) (g : Grant) → is_unoptioned (cs ++ c ∷ []) g ≡ (is_unoptioned cs g || is_unoptioned_by (1 + length cs) c g)
+is_unoptioned-more cs c g =
+    is_unoptioned-append 1 cs (c ∷ []) g ∙ ap (λ b. is_unoptioned cs g || b) (or-false (is_unoptioned_by (1 + length cs) c g))
+
 -- what is not struck after one more change: what was not, without what it strikes, and what it makes
 pub unstruck-more : (cs : List Change) (c : Change) → unstruck_after (cs ++ c ∷ []) ≡ filter (λ g. not (is_struck_by (1 + length cs) c g)) (unstruck_after cs) ++ grants_of (made_by_all cs) (1 + length cs) c
 unstruck-more cs c =
@@ -156,21 +188,14 @@ unstruck-more cs c =
     let kept : Grant → Bool = λ g. not (is_struck_from 1 (cs ++ c ∷ []) g) in
     let before : Grant → Bool = λ g. not (is_struck_from 1 cs g) in
     let now : Grant → Bool = λ g. not (is_struck_by m c g) in
-    let zero_plus : 0 + made_by_all cs ≡ made_by_all cs = omega arith in
-    let all : granted_from 0 1 (cs ++ c ∷ []) ≡ old ++ new =
-    granted_from-append 0 1 cs (c ∷ []) ∙ ap (λ k. old ++ k) (append-nil (grants_of (0 + made_by_all cs) m c) ∙ ap (λ k. grants_of k m c) zero_plus) in
     let split : (g : Grant) → kept g ≡ (before g && now g) = λ g.
     ap not (is_struck-append 1 cs (c ∷ []) g) ∙ not_or (is_struck_from 1 cs g) (is_struck_by m c g) in
     let late : AllByRecursion (λ g. kept g ≡ true) new =
     All-implied (λ g. g.moment.0 ≡ m) (λ g. kept g ≡ true) new (λ g e. ap not (is_struck-append 1 cs (c ∷ []) g
     ∙ or_from _ _ (let le : 1 + length cs ≤ g.moment.0 + 1 = omega arith in is_struck-late 1 cs g le) (or_from _ _ (let le : m ≤ g.moment.0 = omega arith in struck_by-late m c g le) refl))) (grants-moment (made_by_all cs) m c) in
-    ap (filter kept) all ∙ filter-append kept old new
+    ap (filter kept) (granted-more cs c) ∙ filter-append kept old new
     ∙ ap (λ k. k ++ filter kept new) (filter_agree kept (λ g. before g && now g) split old ∙ filter_twice before now old)
     ∙ ap (λ k. filter now (filter before old) ++ k) (filter_all kept new late)
-
-or_nothing : (b : Bool) → (b || false) ≡ b
-or_nothing true = refl
-or_nothing false = refl
 
 -- what is left after one more change: what was, without what it strikes and the options that it
 -- takes, and what it makes
@@ -184,7 +209,7 @@ left-more cs c =
     let now : Grant → Bool = λ g. is_unoptioned_by m c g in
     let stays : Grant → Bool = λ g. not (is_struck_by m c g) in
     let split : (g : Grant) → all g ≡ (before g || now g) = λ g.
-    is_unoptioned-append 1 cs (c ∷ []) g ∙ ap (λ b. before g || b) (or_nothing (now g)) in
+    is_unoptioned-more cs c g in
     let late : AllByRecursion (λ g. all g ≡ false) new =
     All-implied (λ g. g.moment.0 ≡ m) (λ g. all g ≡ false) new (λ g e. split g
     ∙ or_from _ _ (let le : 1 + length cs ≤ g.moment.0 + 1 = omega arith in is_unoptioned-late 1 cs g le) (let le : m ≤ g.moment.0 = omega arith in unoptioned_by-late m c g le)) (grants-moment (made_by_all cs) m c) in
@@ -322,31 +347,6 @@ keep_all gs = sym (filter_all (λ g. true) gs (all_true gs))
     all_true : (gs : List Grant) → AllByRecursion (λ g. true ≡ true) gs
     all_true [] = tt
     all_true (g ∷ more) = (refl, all_true more)
-
--- what is kept, after each kind of change
-pub kept-idle : (gs : List Grant) → gs ≡ map (option_off (λ g. false)) (filter (λ g. true) gs) ++ []
-kept-idle gs =
-    keep_all gs ∙ sym (append-nil (map (option_off (λ g. false)) (filter (λ g. true) gs)) ∙ no_options (filter (λ g. true) gs))
-
-pub kept-grant : (made : List LoggedGrant) (gs : List Grant) → unstruck (made ++ map logged gs) ≡ map (option_off (λ g. false)) (filter (λ g. true) (unstruck made)) ++ gs
-kept-grant made gs =
-    unstruck-added made gs ∙ ap (λ k. k ++ gs) (keep_all (unstruck made) ∙ sym (no_options (filter (λ g. true) (unstruck made))))
-
-pub kept-revoke_option : (gs : List Grant) (m : ℕ) (by : User) (atoms : List Atom) (whom : List User) → All (λ g. g.moment.0 < m) gs → options_off by atoms whom gs ≡ map (option_off (λ g. ltb g.moment.0 m && names by atoms whom g)) (filter (λ g. true) gs) ++ []
-kept-revoke_option gs m by atoms whom early =
-    let test : Grant → Bool = λ g. ltb g.moment.0 m && names by atoms whom g in
-    sym (append-nil (map (option_off test) (filter (λ g. true) gs)) ∙ ap (map (option_off test)) (sym (keep_all gs))
-    ∙ options_alike test (names by atoms whom) gs
-    (All-implied (λ g. g.moment.0 < m) (λ g. test g ≡ names by atoms whom g) gs
-    (λ g lt. ap (λ b. b && names by atoms whom g) (lt-ltb _ _ lt)) (recursion_from_All (λ g. g.moment.0 < m) gs early)))
-
-pub kept-revoke : (gs : List Grant) (m : ℕ) (by : User) (atoms : List Atom) (whom : List User) → All (λ g. g.moment.0 < m) gs → without by atoms whom gs ≡ map (option_off (λ g. false)) (filter (λ g. not (ltb g.moment.0 m && names by atoms whom g)) gs) ++ []
-kept-revoke gs m by atoms whom early =
-    let left : List Grant = filter (λ g. not (ltb g.moment.0 m && names by atoms whom g)) gs in
-    sym (append-nil (map (option_off (λ g. false)) left) ∙ no_options left
-    ∙ filter_alike (λ g. not (ltb g.moment.0 m && names by atoms whom g)) (λ g. not (names by atoms whom g)) gs
-    (All-implied (λ g. g.moment.0 < m) (λ g. not (ltb g.moment.0 m && names by atoms whom g) ≡ not (names by atoms whom g)) gs
-    (λ g lt. ap (λ b. not (b && names by atoms whom g)) (lt-ltb _ _ lt)) (recursion_from_All (λ g. g.moment.0 < m) gs early)))
 
 valid_again : (o : List Ownership) (grants : List Grant) → valid o (valid o grants) ≡ valid o grants
 valid_again o grants =

@@ -5,8 +5,9 @@ pub mod OwnedLemmas
 pub mod SinglesLemmas
 pub mod NumberLemmas
 pub mod GrantLemmas
-pub mod LogLemmas
 pub mod OptionLemmas
+pub mod LogLemmas
+pub mod KeptLemmas
 pub mod HistoryLemmas
 pub mod StayLemmas
 pub mod MarkLemmas

@@ -2,7 +2,7 @@
 use Rattle.std.proofs.Common.{◌≡◌, ℕ, Bool, true, false, List, [], ◌∷◌, map, refl}
 use Rattle.base_core.specs.declared.name.User.{User}
 use Rattle.base_core.specs.declared.privilege.Atom.{Atom}
-use Rattle.base_core.specs.declared.privilege.Kind.TheVariants.{Select}
+use Rattle.base_core.specs.Privileges.{to_select}
 use Rattle.grants_core.specs.declared.grant.Grant.{Grant}
 use Rattle.grants_core.specs.declared.grant.Change.{Change}
 use Rattle.grants_core.specs.declared.grant.Change.TheVariants as change
@@ -11,7 +11,7 @@ use Rattle.grants_core.specs.Valid.{supports}
 use Rattle.grants_core.specs.Content.{names}
 use Rattle.grants_core.specs.History.{in_force_after}
 
--- users and the table are named by one letter
+-- users, the table and its column are named by one letter
 abbrev user : ℕ → User
 user letter = record { 0 = letter ∷ [] }
 
@@ -31,7 +31,7 @@ abbrev d : User
 d = user 100
 
 abbrev select : Atom
-select = record { table = 116 ∷ []; kind = Select }
+select = to_select (116 ∷ []) (120 ∷ [])
 
 abbrev create : Change
 create = change.Create (116 ∷ []) o

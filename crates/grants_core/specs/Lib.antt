@@ -6,3 +6,6 @@ pub mod Content
 pub mod History
 pub mod Marks
 pub mod Log
+pub mod Keys
+pub mod KeyLaws
+pub mod Kept

@@ -1,7 +1,9 @@
 //! What keeps the grants in force.
 ghost use Rattle.std.specs.Prelude.{◌≡◌, ◌+◌, ◌*◌, ◌^◌, ◌<◌, ◌≤◌, ◌↔◌, true, false, length, All, IsTrue, OnOk, OnErr, IfOk};
+ghost use Rattle.base_core.specs.Privileges.{of_table};
+ghost use Rattle.base_core.specs.declared.privilege.Kind.{Kind};
 ghost use Rattle.grants_core.specs.Numbers.{IsNumbered};
-ghost use Rattle.grants_core.specs.Owners.{was_granted};
+ghost use Rattle.grants_core.specs.Owners.{was_granted, owns};
 ghost use Rattle.grants_core.specs.Content.{Content, after_create, after_grant, after_revoke, after_revoke_option, holds, may_grant, has_made, has_optioned, count_of};
 
 use crate::grant::Grant;
@@ -51,6 +53,11 @@ pub trait Authority {
     fn revoke_option(&mut self, by: User, atoms: &[Atom], whom: &[User])
         ensures { content self.new
             ≡ after_revoke_option (content self.old) by atoms.now whom.now };
+
+    /// Whether the user owns the table.
+    fn owns(&self, user: User, table: Name) -> bool
+        ensures { (kind : Kind)
+            → result ≡ owns (content self.now).owners user (of_table table kind) };
 
     /// Whether the user owns the table or a grant in force gives him the atom.
     fn holds(&self, user: User, atom: &Atom) -> bool

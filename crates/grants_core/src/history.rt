@@ -1,72 +1,36 @@
 //! What a list of changes leaves in force.
-ghost use Rattle.std.specs.Prelude.{◌≡◌, ◌+◌, ◌++◌, ◌<◌, ◌↔◌, not, filter, map, length, All, IsTrue, OnOk, IfOk};
+ghost use Rattle.std.specs.Prelude.{◌≡◌, ◌↔◌, IsTrue, IfOk};
 ghost use Rattle.std.specs.Cmp.Lexicographic.{pointwise};
-ghost use Rattle.grants_core.specs.Log.{unstruck, same_grant};
-ghost use Rattle.grants_core.specs.Content.{option_off};
-ghost use Rattle.grants_core.specs.History.{owners_with, is_struck_by, is_unoptioned_by, grants_of, made_by, in_force_after};
+ghost use Rattle.grants_core.specs.Valid.{valid};
+ghost use Rattle.grants_core.specs.Log.{left_by, same_grant};
+ghost use Rattle.grants_core.specs.History.{in_force_after};
 
 use crate::grant::{Change, Grant};
-use crate::grants::keep_valid;
-use crate::log::{LoggedGrant, log_singles, strike, take_options, unstruck};
-use crate::owners::Owners;
-use base_core::{Moment, NoMemory};
+use crate::kept::KeptGrants;
+use crate::log::GrantLog;
+use base_core::NoMemory;
 use std::alloc::Global;
 
-// What the change of a moment leaves of the owners and of the grants that were made.
-fn apply(
-    alloc: Global,
-    owners: &mut Owners,
-    made: &mut Vec<LoggedGrant>,
-    moment: Moment,
-    change: &Change,
-) -> Result<(), NoMemory>
-    requires { All (λ g. g.moment.0 < moment.0) (unstruck made.old.items) }
-    ensures owners { OnOk result (owners.new ≡ owners_with owners.old change.now) }
-    ensures unstruck { OnOk result
-        (unstruck made.new.items
-        ≡ map (option_off (is_unoptioned_by moment.0 change.now))
-        (filter (λ g. not (is_struck_by moment.0 change.now g)) (unstruck made.old.items))
-        ++ grants_of (length made.old.items) moment.0 change.now) }
-    ensures made { OnOk result
-        (length made.new.items ≡ length made.old.items + made_by change.now) }
+// The valid ones of what the log leaves.
+fn valid_grants(alloc: Global, log: &GrantLog) -> Result<Vec<Grant>, NoMemory>
+    ensures { IfOk result (λ grants. grants.items
+        ≡ valid log.now.owners (left_by log.now log.now.made.items)) }
 {
-    match change {
-        Change::Create { table, owner } => owners.set(*table, *owner)?,
-        Change::Grant {
-            by,
-            atoms,
-            whom,
-            option,
-        } => {
-            let (atoms, whom) = (atoms.as_slice(), whom.as_slice());
-            log_singles(alloc, made, by, atoms, whom, *option, moment)?;
-            owners.mark_granted(atoms);
+    let mut kept = KeptGrants::new(alloc);
+    for grant in &log.made {
+        if !log.was_struck(grant) {
+            kept.add(&log.owners, &log.left(grant))?;
         }
-        Change::Revoke { by, atoms, whom } => {
-            strike(made, by, atoms.as_slice(), whom.as_slice());
-        }
-        Change::RevokeOption { by, atoms, whom } => {
-            take_options(made, by, atoms.as_slice(), whom.as_slice());
-        }
-        Change::Other => {}
     }
-    Ok(())
+    Ok(kept.grants)
 }
 
 // The grants in force after the changes.
 fn in_force_after(alloc: Global, changes: &[Change]) -> Result<Vec<Grant>, NoMemory>
     ensures { IfOk result (λ grants. grants.items ≡ in_force_after changes.now) }
 {
-    let mut owners = Owners::new(alloc);
-    let mut made = Vec::new(alloc);
-    let mut moment = 0;
-    for change in changes {
-        moment += 1;
-        apply(alloc, &mut owners, &mut made, Moment(moment), change)?;
-    }
-    let mut grants = unstruck(alloc, &made)?;
-    keep_valid(&owners, &mut grants);
-    Ok(grants)
+    let log = GrantLog::read(alloc, changes)?;
+    valid_grants(alloc, &log)
 }
 
 // Whether two grants are the same.
@@ -98,7 +62,8 @@ fn are_same(grants: &[Grant], others: &[Grant]) -> bool
 
 /// Whether the list is exactly the grants in force after the changes, in order: the m-th change is
 /// that of moment m, and the single grants are numbered from 0. A table belongs to whom it was
-/// created for last. `NoMemory` where a request for memory was refused.
+/// created for last. Its time grows with the single grants that the changes make and name.
+/// `NoMemory` where a request for memory was refused.
 pub fn audit(alloc: Global, changes: &[Change], grants: &[Grant]) -> Result<bool, NoMemory>
     ensures { IfOk result (λ same. IsTrue same ↔ (grants.now ≡ in_force_after changes.now)) }
 {

@@ -15,7 +15,7 @@
 //! and each of its tests what it answers by it. [`Replay`] is the plain authority: it keeps the
 //! grants in force, and forgets those that fall. [`audit`] compares a list of grants with what a
 //! list of [`Change`]s leaves in force, by definitions that know no authority; the [`laws`] say that
-//! the two tell the same, change by change.
+//! the two tell the same, change by change. A [`Key`] is a privilege as a key of a map.
 //!
 //! ```text
 //! let mut rights = Replay::new(alloc);
@@ -28,22 +28,26 @@
 //!
 //! How cost grows, with n the grants in force ([`Owners`] finds a table by a hash of its name):
 //!
-//! - `holds` and `may_grant` are a look-up of the owner, and go over n at most; `has_made`,
-//!   `has_optioned`, `room` and `in_force` go over n. The grants have no index.
+//! - `owns` is a look-up of the owner. `holds` and `may_grant` are one too, and go over n at most;
+//!   `has_made`, `has_optioned`, `room` and `in_force` go over n. The grants have no index.
 //! - `create` is a look-up, and `grant` one for each atom; it makes a grant for each atom and user.
 //! - `revoke` compares each of n with the atoms and users that it names. Then each that is left
 //!   looks its owner up, and looks for its support among those kept before it. So it grows with the
 //!   square of n at worst, however few it takes out, and takes no memory. What fell before costs
 //!   nothing. `revoke_option` does the same.
-//! - `audit` keeps every single grant that its changes make, and goes over these for each
-//!   revocation, of an option too; at the end those that were not struck are replayed, as in
-//!   `revoke`.
+//! - `audit` goes over the changes once, and then over the single grants that they make. It makes
+//!   a look-up by a hash of the names for each atom and user that a revocation names, and at most
+//!   seven for each single grant: so it grows with the single grants made and named, whatever is in
+//!   force. It takes memory for each that was made, and for each grantor, privilege and grantee
+//!   that a revocation names.
 #![tactic(auto)]
 
 mod authority;
 mod grant;
 mod grants;
 mod history;
+mod kept;
+mod key;
 pub mod laws;
 mod log;
 mod owners;
@@ -54,6 +58,7 @@ mod support;
 pub use authority::Authority;
 pub use grant::{Change, Grant, Ownership};
 pub use history::audit;
+pub use key::Key;
 pub use owners::Owners;
 pub use replay::Replay;
 pub use singles::single_grants;

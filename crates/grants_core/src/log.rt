@@ -1,84 +1,156 @@
-//! The log of grants: each that was made, with whether it was struck, and with its option where
-//! that was not revoked.
-ghost use Rattle.std.specs.Prelude.{◌≡◌, ◌+◌, ◌++◌, length, map, OnOk, OnErr, IfOk};
-ghost use Rattle.grants_core.specs.Content.{singles, without, options_off};
-ghost use Rattle.grants_core.specs.Log.{unstruck, logged};
+//! The log by which a list of changes is audited: the owners, the grants that were made, and when
+//! each was last revoked.
+ghost use Rattle.std.specs.Prelude.{◌≡◌, [], ◌∷◌, ◌++◌, nat_lt, if◌then◌else◌, length, OnOk, IfOk};
+ghost use Rattle.grants_core.specs.declared.grant.Grant.{Grant as grants};
+ghost use Rattle.grants_core.specs.Content.{names, option_off};
+ghost use Rattle.grants_core.specs.History.{owners_with, grants_of};
+ghost use Rattle.grants_core.specs.Log.{last_revoked, last_struck, last_unoptioned, was_struck, was_unoptioned, IsLogOf};
 
-use crate::grant::Grant;
-use crate::singles::single_grants;
+use crate::grant::{Change, Grant};
+use crate::grants::append;
+use crate::key::{Granted, Holding, Key};
+use crate::owners::Owners;
 use base_core::{Atom, Moment, NoMemory, User};
+use indexmap::IndexMap;
 use std::alloc::Global;
 
-/// A grant that was made, and whether a later revocation named it. Its option is gone where a later
-/// revocation of the option named it.
-#[derive(Clone, Copy)]
-pub struct LoggedGrant {
-    pub grant: Grant,
-    pub struck: bool,
-}
+/// For who granted what to whom, the moment of the last revocation.
+type Last = IndexMap<Granted, Moment>;
 
-// New grants as the log has them.
-fn logged(alloc: Global, grants: &[Grant]) -> Result<Vec<LoggedGrant>, NoMemory>
-    ensures { IfOk result (λ made. made.items ≡ map logged grants.now) }
-{
-    let made = grants
-        .iter()
-        .map(|grant| LoggedGrant {
-            grant: *grant,
-            struck: false,
-        })
-        .collect(alloc)?;
-    Ok(made)
-}
-
-/// Appends the single grants of these atoms to these users. Each gets its place as its number.
-pub fn log_singles(
-    alloc: Global,
-    made: &mut Vec<LoggedGrant>,
+// Notes a revocation of one privilege.
+fn note_each(
+    last: &mut Last,
     by: &User,
-    atoms: &[Atom],
+    atom: &Atom,
     whom: &[User],
-    option: bool,
     at: Moment,
 ) -> Result<(), NoMemory>
-    ensures ok { OnOk result
-        (made.new.items
-        ≡ made.old.items
-        ++ map logged (singles (length made.old.items) at by.now atoms.now whom.now option)) }
-    ensures err { OnErr result (made.new.items ≡ made.old.items) }
+    ensures { OnOk result ((g : grants) → last_revoked last.new g
+        ≡ (if names by.now (atom.now ∷ []) whom.now g then at.0 else last_revoked last.old g)) }
 {
-    let grants = single_grants(alloc, made.len() as u64, at, by, atoms, whom, option)?;
-    let more = logged(alloc, &grants)?;
-    made.extend_from_slice(&more)?;
+    for user in whom {
+        let Atom { table, kind } = *atom;
+        let holding = Holding {
+            user: *user,
+            privilege: Key(Atom { table, kind }),
+        };
+        last.insert(Granted { by: *by, holding }, at)?;
+    }
     Ok(())
 }
 
-/// Strikes what a revocation by this user of these atoms from these users names.
-pub fn strike(made: &mut [LoggedGrant], by: &User, atoms: &[Atom], whom: &[User])
-    ensures { unstruck made.new ≡ without by.now atoms.now whom.now (unstruck made.old) }
+// Notes a revocation by this user of these atoms from these users.
+fn note(
+    last: &mut Last,
+    by: &User,
+    atoms: &[Atom],
+    whom: &[User],
+    at: Moment,
+) -> Result<(), NoMemory>
+    ensures { OnOk result ((g : grants) → last_revoked last.new g
+        ≡ (if names by.now atoms.now whom.now g then at.0 else last_revoked last.old g)) }
 {
-    for one in made.iter_mut() {
-        one.struck |= one.grant.is_named(by, atoms, whom);
+    for atom in atoms {
+        note_each(last, by, atom, whom, at)?;
+    }
+    Ok(())
+}
+
+// Whether the grant was revoked after it was made.
+fn is_revoked(last: &Last, grant: &Grant) -> bool
+    ensures { result ≡ nat_lt grant.now.moment.0 (last_revoked last.now grant.now) }
+{
+    let holding = Holding {
+        user: grant.grantee,
+        privilege: Key(grant.atom),
+    };
+    let by = grant.grantor;
+    match last.get(&Granted { by, holding }) {
+        Some(at) => grant.moment.0 < at.0,
+        None => false,
     }
 }
 
-/// Takes the option off what a revocation by this user of these atoms from these users names.
-pub fn take_options(made: &mut [LoggedGrant], by: &User, atoms: &[Atom], whom: &[User])
-    ensures { unstruck made.new ≡ options_off by.now atoms.now whom.now (unstruck made.old) }
-{
-    for one in made.iter_mut() {
-        one.grant.option &= !one.grant.is_named(by, atoms, whom);
-    }
+/// The owners, each single grant that was made, in order, and the last revocations: of grants, and
+/// of their options.
+#[derive(Drop)]
+pub struct GrantLog {
+    pub owners: Owners,
+    pub made: Vec<Grant>,
+    struck: Last,
+    unoptioned: Last,
 }
 
-/// Those that were not struck, in order.
-pub fn unstruck(alloc: Global, made: &[LoggedGrant]) -> Result<Vec<Grant>, NoMemory>
-    ensures { IfOk result (λ grants. grants.items ≡ unstruck made.now) }
-{
-    let grants = made
-        .iter()
-        .filter(|one| !one.struck)
-        .map(|one| one.grant)
-        .collect(alloc)?;
-    Ok(grants)
+impl GrantLog {
+    // Enters the change of a moment.
+    fn enter(&mut self, alloc: Global, moment: Moment, change: &Change) -> Result<(), NoMemory>
+        ensures owners { OnOk result (self.new.owners ≡ owners_with self.old.owners change.now) }
+        ensures made { OnOk result (self.new.made.items ≡ self.old.made.items
+            ++ grants_of (length self.old.made.items) moment.0 change.now) }
+        ensures struck { OnOk result ((g : grants) → last_revoked self.new.struck g
+            ≡ last_struck moment.0 change.now g (last_revoked self.old.struck g)) }
+        ensures unoptioned { OnOk result ((g : grants) → last_revoked self.new.unoptioned g
+            ≡ last_unoptioned moment.0 change.now g (last_revoked self.old.unoptioned g)) }
+    {
+        match change {
+            Change::Create { table, owner } => self.owners.set(*table, *owner)?,
+            Change::Grant {
+                by,
+                atoms,
+                whom,
+                option,
+            } => {
+                let (atoms, whom) = (atoms.as_slice(), whom.as_slice());
+                let first = self.made.len() as u64;
+                let made = &mut self.made;
+                append(alloc, made, first, by, atoms, whom, *option, moment)?;
+                self.owners.mark_granted(atoms);
+            }
+            Change::Revoke { by, atoms, whom } => {
+                let (atoms, whom) = (atoms.as_slice(), whom.as_slice());
+                note(&mut self.struck, by, atoms, whom, moment)?;
+            }
+            Change::RevokeOption { by, atoms, whom } => {
+                let (atoms, whom) = (atoms.as_slice(), whom.as_slice());
+                note(&mut self.unoptioned, by, atoms, whom, moment)?;
+            }
+            Change::Other => {}
+        }
+        Ok(())
+    }
+
+    /// The log of the changes, of which the m-th is that of moment m. `NoMemory` where a request
+    /// for memory was refused.
+    pub fn read(alloc: Global, changes: &[Change]) -> Result<GrantLog, NoMemory>
+        ensures { IfOk result (λ log. IsLogOf log changes.now) }
+    {
+        let mut log = GrantLog {
+            owners: Owners::new(alloc),
+            made: Vec::new(alloc),
+            struck: IndexMap::new(alloc),
+            unoptioned: IndexMap::new(alloc),
+        };
+        let mut moment = 0;
+        for change in changes {
+            moment += 1;
+            log.enter(alloc, Moment(moment), change)?;
+        }
+        Ok(log)
+    }
+
+    /// Whether a later revocation names the grant.
+    pub fn was_struck(&self, grant: &Grant) -> bool
+        ensures { result ≡ was_struck self.now grant.now }
+    {
+        is_revoked(&self.struck, grant)
+    }
+
+    /// What is left of a grant that was not struck: without its option, if that was revoked later.
+    pub fn left(&self, grant: &Grant) -> Grant
+        ensures { result ≡ option_off (was_unoptioned self.now) grant.now }
+    {
+        let mut left = *grant;
+        left.option &= !is_revoked(&self.unoptioned, grant);
+        left
+    }
 }

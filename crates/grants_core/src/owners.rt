@@ -1,6 +1,8 @@
 //! The tables' owners.
 ghost use Rattle.std.specs.Option.{option_copied};
 ghost use Rattle.std.specs.Prelude.{◌≡◌, [], ◌∷◌, OnOk, OnErr};
+ghost use Rattle.base_core.specs.Privileges.{of_table};
+ghost use Rattle.base_core.specs.declared.privilege.Kind.{Kind as kinds};
 ghost use Rattle.grants_core.specs.Owners.{owner_of, owns, with_owner, with_granted};
 
 use base_core::{Atom, Name, NoMemory, User};
@@ -86,14 +88,22 @@ impl Owners {
         Some(&self.tables.get(table)?.owner)
     }
 
-    /// Whether the user owns the atom's table. Nobody owns one that has no owner.
+    /// Whether the user owns the table. Nobody owns one that has no owner.
+    #[inline(always)]
     #[tactic(auto, unfolding(crate::specs::Owners::owns))]
-    pub fn owns(&self, user: &User, atom: &Atom) -> bool
-        ensures { result ≡ owns self.now user.now atom.now }
+    pub fn owns_table(&self, user: &User, table: &Name) -> bool
+        ensures { (kind : kinds) → result ≡ owns self.now user.now (of_table table.now kind) }
     {
-        match self.owner_of(&atom.table) {
+        match self.owner_of(table) {
             Some(owner) => *owner == *user,
             None => false,
         }
+    }
+
+    /// Whether the user owns the atom's table.
+    pub fn owns(&self, user: &User, atom: &Atom) -> bool
+        ensures { result ≡ owns self.now user.now atom.now }
+    {
+        self.owns_table(user, &atom.table)
     }
 }

@@ -81,6 +81,10 @@ impl Authority for Replay {
         keep_valid(&self.owners, &mut self.in_force);
     }
 
+    fn owns(&self, user: User, table: Name) -> bool {
+        self.owners.owns_table(&user, &table)
+    }
+
     fn holds(&self, user: User, atom: &Atom) -> bool {
         self.owners.owns(&user, atom) || any_gives(&self.in_force, &user, atom)
     }

@@ -7,7 +7,7 @@ use Rattle.base_core.specs.declared.privilege.Atom.{Atom}
 use Rattle.grants_core.specs.declared.grant.Grant.{Grant}
 use Rattle.links_core.specs.declared.link.Link.{Link}
 use Rattle.links_core.proofs.EndsLemmas.{all_implied}
-use Rattle.graph_core.specs.declared.key.Key.{Key}
+use Rattle.grants_core.specs.declared.key.Key.{Key}
 use Rattle.graph_core.specs.Indices.{Indexed, user_at, atom_at, grant_of, IsWithin, Extends}
 
 pub extends_same : (a : Indexed) → Extends a a

@@ -19,7 +19,7 @@ use Rattle.links_core.proofs.EndsLemmas.{all_implied}
 use Rattle.graph_core.specs.Indices.{Indexed, user_at, atom_at, grant_of, IsWithin, IsUserIndex, IsAtomIndex, AreApart}
 use Rattle.graph_core.specs.Pruning.{SupportedBut, is_of_another, is_between, Falls, AreInOrder}
 use Rattle.graph_core.specs.Revocation.{grants_of, AreUpheld}
-use Rattle.graph_core.specs.KeyLaws.{same_atom-flip}
+use Rattle.grants_core.specs.KeyLaws.{same_atom-flip}
 use Rattle.graph_core.proofs.FallLemmas.{IsOwnerIndex, falls_all, falls_valid, in_order_over, supported_over}
 use Rattle.graph_core.proofs.OverLemmas.{filter_over, all_over}
 use Rattle.graph_core.proofs.PlaceLemmas.{and_false}

@@ -11,9 +11,9 @@ use Rattle.base_core.specs.declared.privilege.Kind.TheVariants as kinds
 use Rattle.grants_core.specs.declared.grant.Grant.{Grant}
 use Rattle.links_core.specs.declared.link.Link.{Link}
 use Rattle.links_core.specs.Links.{goes_to}
-use Rattle.graph_core.specs.declared.key.Key.{Key}
+use Rattle.grants_core.specs.declared.key.Key.{Key}
 use Rattle.graph_core.specs.declared.indices.Place.{Place}
-use Rattle.graph_core.specs.Keys.{same_key}
+use Rattle.grants_core.specs.Keys.{same_key}
 
 -- the names of users, and the privileges, in the order of their indices
 pub record Indexed : Type 0 where
@@ -29,7 +29,7 @@ abbrev pub user_at : Indexed → ℕ → User
 user_at indexed i = record { 0 = get_or indexed.users i [] }
 
 abbrev pub atom_at : Indexed → ℕ → Atom
-atom_at indexed i = (get_or indexed.atoms i (record { 0 = record { table = []; kind = kinds.Select } })).0
+atom_at indexed i = (get_or indexed.atoms i (record { 0 = record { table = []; kind = kinds.Insert } })).0
 
 -- the grant for which a link stands
 abbrev pub grant_of : Indexed → Link → Grant

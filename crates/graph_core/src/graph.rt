@@ -137,6 +137,11 @@ impl Authority for Graph {
     }
 
     #[inline(always)]
+    fn owns(&self, user: User, table: Name) -> bool {
+        self.owners.owns_table(&user, &table)
+    }
+
+    #[inline(always)]
     fn holds(&self, user: User, atom: &Atom) -> bool {
         self.owners.owns(&user, atom) || self.edges.any_gives(&user, atom)
     }

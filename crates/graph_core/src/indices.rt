@@ -4,9 +4,8 @@ ghost use Rattle.grants_core.specs.Content.{gives};
 ghost use Rattle.graph_core.specs.Indices.{user_at, atom_at, grant_of, goes_to_place, Extends, IsWithin, IsUserIndex, IsAtomIndex, AreApart};
 ghost use Rattle.links_core.specs.declared.link.Link.{Link as links};
 
-use crate::key::Key;
 use base_core::{Atom, Name, NoMemory, User};
-use grants_core::Grant;
+use grants_core::{Grant, Key};
 use indexmap::IndexSet;
 use links_core::Link;
 use std::alloc::Global;

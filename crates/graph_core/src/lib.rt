@@ -55,12 +55,12 @@
 //! users who grant to one another in a circle hold nothing once the edge falls that came first.
 //!
 //! No edge has a name in it. Two sets have the names of users and the privileges that were ever
-//! granted, each once, and where one stands in its set is its index. The edges are
+//! granted, each once as a [`Key`], and where one stands in its set is its index. The edges are
 //! [`Links`](links_core::Links) between indices:
 //!
 //! ```text
 //!   o --0--> a --1--> b        users: o 0, a 1, b 2, c 3        0 --0--> 1 --1--> 2
-//!            c --2--> b        privileges: SELECT on t 0                 3 --2--> 2
+//!            c --2--> b        privileges: INSERT on t 0                 3 --2--> 2
 //! ```
 //!
 //! A call looks up the index of each user and privilege that it is handed; where one has none, no
@@ -72,6 +72,7 @@
 //!
 //! With n the edges of one privilege (of the system at most 1,024):
 //!
+//! - `owns` looks the table's owner up by hash.
 //! - `holds`, `may_grant`, `has_made`, `has_optioned` and `room` look the privilege and the user up
 //!   by hash, and then his edges with the logarithm of n. Edges of other tables and grants that
 //!   fell cost nothing.
@@ -95,10 +96,10 @@
 mod edges;
 mod graph;
 mod indices;
-mod key;
 mod linking;
 mod options;
 mod prune;
 mod revocation;
 
+pub use grants_core::Key;
 pub use graph::Graph;

@@ -13,8 +13,9 @@ use Rattle.base_core.specs.declared.lack.Lack.TheVariants as lacks
 use Rattle.reader_core.specs.declared.statement.Statement.{Statement}
 use Rattle.reader_core.specs.declared.statement.Statement.TheVariants as statements
 use Rattle.tables_core.specs.Contents.{column_of}
-use Rattle.monitor_core.specs.Atoms.{to_update, columns_listed}
-use Rattle.monitor_core.specs.Verdict.{State, Check, require, first_lack, each, takes, column_takes, column_stands, with_filter, columns_of, atoms_at, holds_privilege, holds_grant_option, made_grant, gave_option, room_for_grants, checks, verdict}
+use Rattle.base_core.specs.Privileges.{to_select, to_update}
+use Rattle.monitor_core.specs.Atoms.{columns_given, columns_listed}
+use Rattle.monitor_core.specs.Verdict.{State, Check, require, first_lack, each, takes, column_takes, column_stands, may_filter, columns_of, atoms_at, holds_privilege, holds_grant_option, made_grant, gave_option, room_for_grants, checks, verdict}
 
 -- a check that finds neither
 abbrev pub Sound : Check → Type 0
@@ -49,10 +50,8 @@ sound-column_takes s table name value = by_column (column_of s.tables table name
     by_column None = tt
     by_column (Some column) = sound-takes column value
 
-sound-with_filter : (filter : List Condition) (check : Check) → Sound check → Sound (with_filter filter check)
-unfolding with_filter
-sound-with_filter [] check h = tt
-sound-with_filter (c ∷ more) check h = h
+sound-may_filter : (s : State) (user : User) (table : Name) (filter : List Condition) → Sound (may_filter s user table filter)
+sound-may_filter s user table filter = sound-each filter (λ c. holds_privilege s user (to_select table c.column)) (λ c. sound-require _ _ tt)
 
 sound-listed : (s : State) (table : Name) (names : List Name) → Sound (each names (column_stands s table))
 sound-listed s table names = sound-each names (column_stands s table) (λ name. sound-require _ _ tt)
@@ -62,11 +61,11 @@ sound s user (statements.CreateTable table columns) = (sound-require _ _ tt, (so
 sound s user (statements.Insert table values) =
     (sound-require _ _ tt, (sound-require _ _ tt, (sound-require _ _ tt, (sound-each (zip (columns_of s.tables table) values) (λ pair. takes pair.0 pair.1) (λ pair. sound-takes pair.0 pair.1), (sound-require _ _ tt, tt)))))
 sound s user (statements.Select list table filter) =
-    (sound-require _ _ tt, (sound-listed s table (unwrap_or list []), (sound-each filter (λ c. column_stands s table c.column) (λ c. sound-require _ _ tt), (sound-require _ _ tt, (sound-each filter (λ c. column_takes s table c.column c.literal) (λ c. sound-column_takes s table c.column c.literal), tt)))))
+    (sound-require _ _ tt, (sound-listed s table (unwrap_or list []), (sound-each filter (λ c. column_stands s table c.column) (λ c. sound-require _ _ tt), (sound-each (columns_given (columns_of s.tables table) list) (λ column. holds_privilege s user (to_select table column)) (λ column. sound-require _ _ tt), (sound-may_filter s user table filter, (sound-each filter (λ c. column_takes s table c.column c.literal) (λ c. sound-column_takes s table c.column c.literal), tt))))))
 sound s user (statements.Delete table filter) =
-    (sound-require _ _ tt, (sound-each filter (λ c. column_stands s table c.column) (λ c. sound-require _ _ tt), (sound-require _ _ tt, (sound-with_filter filter _ (sound-require _ _ tt), (sound-each filter (λ c. column_takes s table c.column c.literal) (λ c. sound-column_takes s table c.column c.literal), (sound-require _ _ tt, tt))))))
+    (sound-require _ _ tt, (sound-each filter (λ c. column_stands s table c.column) (λ c. sound-require _ _ tt), (sound-require _ _ tt, (sound-may_filter s user table filter, (sound-each filter (λ c. column_takes s table c.column c.literal) (λ c. sound-column_takes s table c.column c.literal), (sound-require _ _ tt, tt))))))
 sound s user (statements.Update table sets filter) =
-    (sound-require _ _ tt, (sound-each sets (λ a. column_stands s table a.column) (λ a. sound-require _ _ tt), (sound-each filter (λ c. column_stands s table c.column) (λ c. sound-require _ _ tt), (sound-each sets (λ a. holds_privilege s user (to_update table a.column)) (λ a. sound-require _ _ tt), (sound-with_filter filter _ (sound-require _ _ tt), (sound-each sets (λ a. column_takes s table a.column a.value) (λ a. sound-column_takes s table a.column a.value), (sound-each filter (λ c. column_takes s table c.column c.literal) (λ c. sound-column_takes s table c.column c.literal), (sound-require _ _ tt, tt))))))))
+    (sound-require _ _ tt, (sound-each sets (λ a. column_stands s table a.column) (λ a. sound-require _ _ tt), (sound-each filter (λ c. column_stands s table c.column) (λ c. sound-require _ _ tt), (sound-each sets (λ a. holds_privilege s user (to_update table a.column)) (λ a. sound-require _ _ tt), (sound-may_filter s user table filter, (sound-each sets (λ a. column_takes s table a.column a.value) (λ a. sound-column_takes s table a.column a.value), (sound-each filter (λ c. column_takes s table c.column c.literal) (λ c. sound-column_takes s table c.column c.literal), (sound-require _ _ tt, tt))))))))
 sound s user (statements.Grant privileges table users option) =
     (sound-require _ _ tt, (sound-each privileges (λ p. each (columns_listed p) (column_stands s table)) (λ p. sound-listed s table (columns_listed p)), (sound-each (atoms_at s.tables table privileges) (holds_grant_option s user) (λ atom. sound-require _ _ tt), (sound-require _ _ tt, (sound-each (atoms_at s.tables table privileges) (room_for_grants s users) (λ atom. sound-require _ _ tt), tt)))))
 sound s user (statements.Revoke privileges table users) =

@@ -44,3 +44,8 @@ each-alike f g xs h = ap first_lack (maps f g xs h)
 pub guarded : (b : Bool) (lack : Lack) (xs ys : List Check) → (b ≡ true → first_lack xs ≡ first_lack ys) → first_lack (require b lack ∷ xs) ≡ first_lack (require b lack ∷ ys)
 guarded true lack xs ys h = h refl
 guarded false lack xs ys h = refl
+
+-- where each check passes, all pass
+pub each-all : {A : Type 0} (f : A → Check) (xs : List A) → ((x : A) → f x ≡ Ok tt) → each xs f ≡ Ok tt
+each-all f [] h = refl
+each-all f (x ∷ xs) h = ap (λ c. first_lack (c ∷ map f xs)) (h x) ∙ each-all f xs h

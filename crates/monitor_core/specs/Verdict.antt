@@ -11,6 +11,7 @@ use Rattle.base_core.specs.declared.value.Value.{Value}
 use Rattle.base_core.specs.declared.condition.Condition.{Condition}
 use Rattle.base_core.specs.declared.privilege.Kind.TheVariants as kinds
 use Rattle.base_core.specs.declared.privilege.Atom.{Atom}
+use Rattle.base_core.specs.Privileges.{of_table, to_select, to_update}
 use Rattle.base_core.specs.declared.lack.Lack.{Lack}
 use Rattle.base_core.specs.declared.lack.Lack.TheVariants.{NoTable, TableExists, NoColumn, NoPrivilege, NoGrantOption, NoGrant, NoOptionGiven, WrongCount, WrongType, Full}
 use Rattle.base_core.specs.declared.lack.What.TheVariants.{Changes, Tables, Grants}
@@ -22,7 +23,7 @@ use Rattle.tables_core.specs.Contents.{Contents, table_of, column_of}
 use Rattle.grants_core.specs.declared.grant.Grant.{Grant}
 use Rattle.grants_core.specs.Content as rights
 use Rattle.grants_core.specs.Content.{Content, count_of}
-use Rattle.monitor_core.specs.Atoms.{of_table, to_update, atoms_of, columns_listed}
+use Rattle.monitor_core.specs.Atoms.{atoms_of, columns_given, columns_listed}
 use Rattle.monitor_core.specs.declared.allowed.Allowed.{Allowed}
 
 -- a check: passed, or the lack
@@ -81,6 +82,12 @@ abbrev pub holds_privilege : State → User → Atom → Check
 holds_privilege s user atom =
     require (rights.holds s.rights.owners s.rights.in_force user atom) (NoPrivilege user atom)
 
+-- the user holds SELECT of each column that the filter names: who chooses rows by what they hold
+-- reads it
+abbrev pub may_filter : State → User → Name → List Condition → Check
+may_filter s user table filter =
+    each filter (λ c. holds_privilege s user (to_select table c.column))
+
 -- the user may grant the atom
 abbrev pub holds_grant_option : State → User → Atom → Check
 holds_grant_option s user atom =
@@ -124,11 +131,6 @@ abbrev pub column_takes : State → Name → Name → Value → Check
 column_takes s table name value =
     option_map_or (λ column. takes column value) (column_of s.tables table name) (Ok tt)
 
--- this check, where there is a filter: who chooses rows by what they hold reads them
-unfoldable pub with_filter : List Condition → Check → Check
-with_filter [] check = Ok tt
-with_filter (_ ∷ _) check = check
-
 -- fewer changes were accepted than there may be
 abbrev pub room_for_change : State → Check
 room_for_change s = require (nat_lt s.moment s.limits.changes) (Full Changes)
@@ -163,14 +165,16 @@ checks s user (statements.Select list table filter) =
     table_stands s table
     ∷ list_stands s table list
     ∷ each filter (λ c. column_stands s table c.column)
-    ∷ holds_privilege s user (of_table table kinds.Select)
+    ∷ each (columns_given (columns_of s.tables table) list)
+    (λ column. holds_privilege s user (to_select table column))
+    ∷ may_filter s user table filter
     ∷ each filter (λ c. column_takes s table c.column c.literal)
     ∷ []
 checks s user (statements.Delete table filter) =
     table_stands s table
     ∷ each filter (λ c. column_stands s table c.column)
     ∷ holds_privilege s user (of_table table kinds.Delete)
-    ∷ with_filter filter (holds_privilege s user (of_table table kinds.Select))
+    ∷ may_filter s user table filter
     ∷ each filter (λ c. column_takes s table c.column c.literal)
     ∷ room_for_change s
     ∷ []
@@ -179,7 +183,7 @@ checks s user (statements.Update table sets filter) =
     ∷ each sets (λ a. column_stands s table a.column)
     ∷ each filter (λ c. column_stands s table c.column)
     ∷ each sets (λ a. holds_privilege s user (to_update table a.column))
-    ∷ with_filter filter (holds_privilege s user (of_table table kinds.Select))
+    ∷ may_filter s user table filter
     ∷ each sets (λ a. column_takes s table a.column a.value)
     ∷ each filter (λ c. column_takes s table c.column c.literal)
     ∷ room_for_change s

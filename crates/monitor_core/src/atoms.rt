@@ -1,28 +1,49 @@
 //! The atoms that a statement asks for: the single privileges on a table that its list of
-//! privileges names, and UPDATE alone is the privilege to update each of the table's columns. A
-//! check goes over them in the order written and makes no list of them, so it takes no memory. What
-//! is checked of an atom is an [`AtomCheck`]; the five that GRANT, REVOKE and UPDATE need are here.
+//! privileges names. SELECT alone is the privilege to select each of the table's columns, and
+//! UPDATE alone that to update each. A check goes over them in the order written and makes no list
+//! of them, so it takes no memory. What is checked of an atom is an [`AtomCheck`]; the five that
+//! statements need are here.
 ghost use Rattle.std.specs.Prelude.{◌≡◌};
 ghost use Rattle.base_core.specs.declared.privilege.Atom as atom;
 ghost use Rattle.monitor_core.specs.Verdict.{Check, each, holds_privilege, holds_grant_option, room_for_grants, made_grant, gave_option};
-ghost use Rattle.monitor_core.specs.Atoms.{to_update, atoms_of_one, atoms_of, columns_listed};
+ghost use Rattle.monitor_core.specs.Atoms.{of_column, columns_given, atoms_of_one, atoms_of, columns_listed};
 
 use crate::checks::require;
 use crate::judging::Judge;
-use base_core::{Atom, Column, Kind, Lack, Name, Named, User, What};
+use base_core::{Atom, Column, Distinct, Kind, Lack, Name, Named, User, What};
 use grants_core::Authority;
-use reader_core::Privilege;
+use reader_core::{MAX_ITEMS, Privilege};
 
 /// The columns that a privilege lists.
 pub fn columns_listed(privilege: &Privilege) -> &[Name]
     ensures { result.now ≡ columns_listed privilege.now }
 {
     match privilege {
-        Privilege::Select | Privilege::Insert | Privilege::Delete => &[],
-        Privilege::Update(list) => match list {
+        Privilege::Insert | Privilege::Delete => &[],
+        Privilege::Select(list) | Privilege::Update(list) => match list {
             None => &[],
             Some(names) => names.as_slice(),
         },
+    }
+}
+
+/// What can be granted by column.
+#[derive(Clone, Copy)]
+pub enum ByColumn {
+    Select,
+    Update,
+}
+
+impl ByColumn {
+    /// The privilege of a column of the table.
+    pub fn of_column(self, table: Name, column: Name) -> Atom
+        ensures { result ≡ of_column self table column }
+    {
+        let kind = match self {
+            ByColumn::Select => Kind::Select(column),
+            ByColumn::Update => Kind::Update(column),
+        };
+        Atom { table, kind }
     }
 }
 
@@ -112,16 +133,37 @@ impl<'a, A: Authority> AtomCheck for GivenOptions<'a, A> {
     }
 }
 
-/// Passed where the privilege to update each of the columns passes.
-pub fn each_update<C: AtomCheck, T: Named>(check: &C, table: Name, items: &[T]) -> Result<(), Lack>
+/// Passed where the privilege of each of the columns passes.
+pub fn each_column<C: AtomCheck, T: Named>(
+    check: &C,
+    table: Name,
+    by: ByColumn,
+    items: &[T],
+) -> Result<(), Lack>
     ensures { result ≡ each items.now
-        (λ item. C.check_of check.now (to_update table (T.name_of item))) }
+        (λ item. C.check_of check.now (of_column by table (T.name_of item))) }
 {
     for item in items {
-        let kind = Kind::Update(item.name());
-        check.check(Atom { table, kind })?;
+        check.check(by.of_column(table, item.name()))?;
     }
     Ok(())
+}
+
+// Passed where the privilege of each column listed passes, or with no list of each of these.
+fn each_listed<C: AtomCheck>(
+    check: &C,
+    table: Name,
+    columns: &[Column],
+    by: ByColumn,
+    list: &Option<Distinct<Name, MAX_ITEMS>>,
+) -> Result<(), Lack>
+    ensures { result ≡ each (columns_given columns.now list.now)
+        (λ column. C.check_of check.now (of_column by table column)) }
+{
+    match list {
+        None => each_column(check, table, by, columns),
+        Some(names) => each_column(check, table, by, names.as_slice()),
+    }
 }
 
 // Passed where each atom of the privilege passes.
@@ -134,14 +176,13 @@ fn each_of_one<C: AtomCheck>(
     ensures { result ≡ each (atoms_of_one table columns.now privilege.now) (C.check_of check.now) }
 {
     let kind = match privilege {
-        Privilege::Select => Kind::Select,
+        Privilege::Select(list) => {
+            return each_listed(check, table, columns, ByColumn::Select, list);
+        }
         Privilege::Insert => Kind::Insert,
         Privilege::Delete => Kind::Delete,
         Privilege::Update(list) => {
-            return match list {
-                None => each_update(check, table, columns),
-                Some(names) => each_update(check, table, names.as_slice()),
-            };
+            return each_listed(check, table, columns, ByColumn::Update, list);
         }
     };
     check.check(Atom { table, kind })

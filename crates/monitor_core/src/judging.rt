@@ -2,12 +2,15 @@
 //! names, values or users goes over them in the order written. The judge borrows what there is and
 //! keeps nothing.
 ghost use Rattle.std.specs.Prelude.{◌≡◌, nat_lt, Ok, Err, OnOk, IfOk, IfErr};
-ghost use Rattle.monitor_core.specs.Verdict.{columns_of, holds_privilege, each, column_stands, column_takes, table_stands, with_filter, list_stands, room_for_change, listed_columns_stand, atoms_at, holds_grant_option, made_grant, gave_option, has_room};
-ghost use Rattle.monitor_core.specs.Atoms.{to_update, columns_listed};
+ghost use Rattle.monitor_core.specs.Verdict.{columns_of, holds_privilege, each, column_stands, column_takes, table_stands, may_filter, list_stands, room_for_change, listed_columns_stand, atoms_at, holds_grant_option, made_grant, gave_option, has_room};
+ghost use Rattle.base_core.specs.Privileges.{of_table, to_select, to_update};
+ghost use Rattle.base_core.specs.declared.privilege.Kind.{Kind as kinds};
+ghost use Rattle.grants_core.specs.Owners.{owns};
+ghost use Rattle.monitor_core.specs.Atoms.{columns_given, columns_listed};
 
 mod each_statement;
 
-use crate::atoms::{AtomCheck, HoldsPrivilege, columns_listed, each_atom, each_update};
+use crate::atoms::{AtomCheck, ByColumn, HoldsPrivilege, columns_listed, each_atom, each_column};
 use crate::checks::{Literal, column_of, columns_of, is_table, require, takes};
 use base_core::{
     Assignment, Atom, Column, Condition, Distinct, Lack, Limits, Moment, Name, Named, User, Value,
@@ -70,14 +73,65 @@ impl<A: Authority> Judge<'_, A> {
         Err(Lack::NoPrivilege { user: *user, atom })
     }
 
-    /// With a filter the user needs this too.
-    #[tactic(auto, unfolding(crate::specs::Verdict::with_filter))]
-    fn may_filter(&self, user: &User, atom: Atom, filter: &[Condition]) -> Result<(), Lack>
-        ensures { result ≡ with_filter filter.now (holds_privilege self.now user.now atom) }
+    /// Whether the user owns the table.
+    fn owns(&self, user: &User, table: Name) -> bool
+        ensures { (kind : kinds)
+            → result ≡ owns self.now.rights.owners user.now (of_table table kind) }
+    {
+        self.rights.owns(*user, table)
+    }
+
+    /// The user may select each of the columns; the owner of the table may.
+    fn may_select<T: Named>(
+        &self,
+        user: &User,
+        table: Name,
+        is_owner: bool,
+        items: &[T],
+    ) -> Result<(), Lack>
+        requires { (kind : kinds)
+            → is_owner ≡ owns self.now.rights.owners user.now (of_table table kind) }
+        ensures { result ≡ each items.now
+            (λ item. holds_privilege self.now user.now (to_select table (T.name_of item))) }
+    {
+        if is_owner {
+            return Ok(());
+        }
+        let holds = HoldsPrivilege {
+            judge: self,
+            user: *user,
+        };
+        each_column(&holds, table, ByColumn::Select, items)
+    }
+
+    /// The user may select each column that the query gives.
+    fn may_query(
+        &self,
+        user: &User,
+        table: Name,
+        is_owner: bool,
+        columns: &[Column],
+        list: &Option<Distinct<Name, MAX_ITEMS>>,
+    ) -> Result<(), Lack>
+        requires columns { columns.now ≡ columns_of self.now.tables table }
+        requires owner { (kind : kinds)
+            → is_owner ≡ owns self.now.rights.owners user.now (of_table table kind) }
+        ensures { result ≡ each (columns_given (columns_of self.now.tables table) list.now)
+            (λ column. holds_privilege self.now user.now (to_select table column)) }
+    {
+        match list {
+            None => self.may_select(user, table, is_owner, columns),
+            Some(names) => self.may_select(user, table, is_owner, names.as_slice()),
+        }
+    }
+
+    /// The user may select each column that the filter names.
+    fn may_filter(&self, user: &User, table: Name, filter: &[Condition]) -> Result<(), Lack>
+        ensures { result ≡ may_filter self.now user.now table filter.now }
     {
         match filter {
             [] => Ok(()),
-            [..] => self.may(user, atom),
+            [..] => self.may_select(user, table, self.owns(user, table), filter),
         }
     }
 
@@ -89,7 +143,7 @@ impl<A: Authority> Judge<'_, A> {
             judge: self,
             user: *user,
         };
-        each_update(&holds, table, sets)
+        each_column(&holds, table, ByColumn::Update, sets)
     }
 
     pub fn may_grant(&self, user: &User, atom: Atom) -> Result<(), Lack>

@@ -13,15 +13,16 @@
 //! fails, and else the lack of the first that does; where a check goes over several names,
 //! privileges, users or values, that of the first in the order written. The rules of rights are
 //! those of System R (Griffiths and Wade 1976): the owner holds and may grant everything on his
-//! table, and everyone else what the grants in force give him. Who chooses rows by what they hold
-//! reads them: with WHERE, DELETE and UPDATE need SELECT as well.
+//! table, and everyone else what the grants in force give him. SELECT and UPDATE are granted by
+//! column. A query needs SELECT of each column that it gives; and who chooses rows by what they
+//! hold reads it: each statement needs SELECT of each column of its WHERE.
 //!
 //! ```text
 //! // t (n TEXT, x INTEGER) is owned by o, who granted DELETE on it to d and nothing else
 //! judge(&tables, &rights, &limits, o, &"SELECT y FROM t WHERE z = 1", moment)
 //!                                                  // Err(NoColumn { table: t, column: y })
 //! judge(&tables, &rights, &limits, d, &"DELETE FROM t WHERE x = 1", moment)
-//!                                                  // Err(NoPrivilege { user: d, atom: SELECT on t })
+//!                                                  // Err(NoPrivilege { user: d, atom: SELECT(x) on t })
 //! judge(&tables, &rights, &limits, d, &"DELETE FROM t", moment)
 //!                                                  // Ok(Allowed { change: true })
 //! ```
@@ -37,11 +38,11 @@
 //! No row is read, and neither the number of rows nor that of changes matters. A table is found in
 //! constant time, and a column by going over the table's columns: so names cost names times
 //! columns, each at most 32. Each question after a right or after room costs what the authority's
-//! answer does (of a plain replay: the grants in force). INSERT and SELECT ask one, DELETE at most
-//! two, UPDATE one for each column of SET and at most one more; GRANT two for each privilege,
-//! however many users there are; and REVOKE, of the option too, one for each privilege and each
-//! user, which is at most 35 times 16, since UPDATE without columns counts for each column of the
-//! table.
+//! answer does (of a plain replay: the grants in force). INSERT asks one; SELECT one whether the
+//! user owns the table, and where he does not one for each column, as all do for WHERE; DELETE one
+//! more, and UPDATE one for each column of SET; GRANT two for each privilege, however many users
+//! there are; and REVOKE, of the option too, one for each privilege and each user, which is at most
+//! 66 times 16, since SELECT and UPDATE without columns count for each column of the table.
 #![tactic(auto)]
 
 mod allowed;
@@ -52,5 +53,6 @@ pub mod laws;
 mod monitor;
 
 pub use allowed::Allowed;
+pub use atoms::ByColumn;
 pub use checks::columns_of;
 pub use monitor::{allows, is_change, judge};

@@ -34,8 +34,8 @@ pub fn is_change(statement: &Statement) -> bool
 ///
 /// `rights` are the owners of the tables and the grants in force. `moment` is the number of changes
 /// accepted so far, `limits.changes` how many there may be; `limits.tables` is how many tables
-/// there may be, and `limits.grants` how many grants of one privilege on one table (of UPDATE: on
-/// one column) may be in force. The checkpoints' limit is not read.
+/// there may be, and `limits.grants` how many grants of one privilege on one table (of SELECT and
+/// UPDATE: on one column) may be in force. The checkpoints' limit is not read.
 ///
 /// The answer is the verdict of `specs/Verdict.antt`: `Ok`, with whether the statement is a change,
 /// or the first of these lacks in the order of the statement's checks.
@@ -44,9 +44,10 @@ pub fn is_change(statement: &Statement) -> bool
 ///   CHECKPOINTS; of EXPORT where one table is named.
 /// - `TableExists`: the name of CREATE TABLE is a table's.
 /// - `NoColumn`: the table has no such column: of the list of SELECT, of SET, of WHERE, and of
-///   UPDATE with columns in GRANT and in both forms of REVOKE.
+///   SELECT and UPDATE with columns in GRANT and in both forms of REVOKE.
 /// - `NoPrivilege`: the user neither owns the table nor has a grant in force of what is needed:
-///   INSERT, SELECT, DELETE, or UPDATE of each column of SET, and with WHERE then SELECT.
+///   INSERT, DELETE, UPDATE of each column of SET, SELECT of each column that a query gives, and
+///   then SELECT of each column of WHERE.
 /// - `NoGrantOption`: GRANT, where he neither owns the table nor has such a grant with the option.
 /// - `NoGrant`: REVOKE, where no grant by him to that user is in force: only who
 ///   granted revokes (Griffiths and Wade 1976).

@@ -208,6 +208,21 @@ fn write_columns(
     }
 }
 
+/// A privilege's word, and the columns that it is limited to.
+fn write_by_column(
+    page: &mut Page,
+    word: Keyword,
+    columns: &Option<Distinct<Name, MAX_ITEMS>>,
+) -> Result<(), NoMemory>
+    ensures written { OnOk result (Prints (lexemes.Key word ∷ columns_say columns.now)
+        page.old page.new) }
+    ensures well_formed { OnOk result (IsSelection columns.now) }
+{
+    page.keyword(word)?;
+    write_columns(page, columns)?;
+    Ok(())
+}
+
 impl Printed for Privilege {
     ghost use Rattle.reader_core.specs.declared.separator.Separator.TheVariants as separators;
     ghost use Rattle.reader_core.specs.Saying.{privilege_says};
@@ -223,14 +238,10 @@ impl Printed for Privilege {
 
     fn write(&self, page: &mut Page) -> Result<(), NoMemory> {
         match self {
-            Privilege::Select => page.keyword(Keyword::Select),
+            Privilege::Select(columns) => write_by_column(page, Keyword::Select, columns),
             Privilege::Insert => page.keyword(Keyword::Insert),
             Privilege::Delete => page.keyword(Keyword::Delete),
-            Privilege::Update(columns) => {
-                page.keyword(Keyword::Update)?;
-                write_columns(page, columns)?;
-                Ok(())
-            }
+            Privilege::Update(columns) => write_by_column(page, Keyword::Update, columns),
         }
     }
 }

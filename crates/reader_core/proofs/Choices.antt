@@ -10,7 +10,7 @@ use Rattle.lexer_core.specs.declared.fault.Code.{Code}
 use Rattle.reader_core.specs.Grammar.{Grammar, End, One, Case, Items, More, Class, Key, Sign, fits, followed_by}
 use Rattle.reader_core.specs.Matches.{TokenWithFault, is_next, Matches, done, one, this, other, item, next, last}
 use Rattle.reader_core.specs.Choices.{Derives, stop, token, left, right, first, further, behind, can_begin, IsApart, IsPredictive, no_token}
-use Rattle.reader_core.specs.Sentences.{statement, finish, optional, filter, grant_option, privileges_from, privilege_item}
+use Rattle.reader_core.specs.Sentences.{statement, finish, optional, filter, grant_option, privileges_from, privilege_item, in_brackets}
 use Rattle.reader_core.proofs.Taking.{key_fits, sign_fits}
 
 -- ---- what follows may be told apart from the grammar
@@ -106,7 +106,10 @@ filtered = (key keywords.Where _ refl, (tt, key keywords.And _ refl, ends), ends
 
 -- where no bracket can follow a privilege
 privilege : (f : TokenKind → Bool) → f (kinds.Mark marks.Open) ≡ false → IsPredictive privilege_item f
-privilege f e = (key keywords.Select _ refl, tt, (key keywords.Insert _ refl, tt, (key keywords.Delete _ refl, tt, (sign marks.Open _ e, (tt, sign marks.Comma _ refl, tt), tt))))
+privilege f e = (key keywords.Select _ refl, columns, (key keywords.Insert _ refl, tt, (key keywords.Delete _ refl, tt, columns)))
+  where
+    columns : IsPredictive (optional in_brackets End) f
+    columns = (sign marks.Open _ e, (tt, sign marks.Comma _ refl, tt), tt)
 
 granted : IsPredictive (optional grant_option finish) no_token
 granted = (key keywords.With _ refl, ends, ends)

@@ -149,13 +149,10 @@ same_columns (Some xs) (Some ys) u v p q e =
     (ap Some r.0, let g : close ∷ u ≡ close ∷ v = r.1 in cc)
 
 one_privilege : (x y : Privilege) (u v : List Lexeme) → IsFree bracket u → IsFree bracket v → privilege_says x ++ u ≡ privilege_says y ++ v → (x ≡ y) × (u ≡ v)
-one_privilege privileges_of.Select privileges_of.Select u v p q e = (refl, cc)
+one_privilege (privileges_of.Select c) (privileges_of.Select d) u v p q e = let r = same_columns c d u v p q (cc) in (ap privileges_of.Select r.0, r.1)
 one_privilege privileges_of.Insert privileges_of.Insert u v p q e = (refl, cc)
 one_privilege privileges_of.Delete privileges_of.Delete u v p q e = (refl, cc)
-one_privilege (privileges_of.Update c) (privileges_of.Update d) u v p q e =
-    let f : columns_say c ++ u ≡ columns_say d ++ v = cc in
-    let r = same_columns c d u v p q f in
-    (ap privileges_of.Update r.0, r.1)
+one_privilege (privileges_of.Update c) (privileges_of.Update d) u v p q e = let r = same_columns c d u v p q (cc) in (ap privileges_of.Update r.0, r.1)
 one_privilege _ _ u v p q e = cc
 
 -- ---- the ends of statements
@@ -223,7 +220,7 @@ on_stops : (table : Name) (u : List Lexeme) (b : Bool) → Stops comma_lexeme pr
 on_stops table u b = record { calm = λ v e. cc; shut = λ v e. cc; none = none }
   where
     none : (y : Privilege) (w : List Lexeme) → on table u ++ ending b ≡ privilege_says y ++ w → ⊥
-    none privileges_of.Select w e = cc
+    none (privileges_of.Select c) w e = cc
     none privileges_of.Insert w e = cc
     none privileges_of.Delete w e = cc
     none (privileges_of.Update c) w e = cc
@@ -256,7 +253,7 @@ same_revoked ps qs m n us vs a b f =
 -- no privilege begins with GRANT
 no_option : (ps qs : List Privilege) (m n : Name) (us vs : List User) (a b : Bool) → privileges_from_say ps m us ++ ending a ≡ lexemes.Key keywords.Grant ∷ lexemes.Key keywords.Option ∷ lexemes.Key keywords.For ∷ (privileges_from_say qs n vs ++ ending b) → ⊥
 no_option [] qs m n us vs a b e = cc
-no_option (privileges_of.Select ∷ ps) qs m n us vs a b e = cc
+no_option (privileges_of.Select columns ∷ ps) qs m n us vs a b e = cc
 no_option (privileges_of.Insert ∷ ps) qs m n us vs a b e = cc
 no_option (privileges_of.Delete ∷ ps) qs m n us vs a b e = cc
 no_option (privileges_of.Update columns ∷ ps) qs m n us vs a b e = cc

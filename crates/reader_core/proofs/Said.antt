@@ -86,8 +86,8 @@ columns_front k said m = elim (case_front (Sign marks.Open) (lexemes.Sign marks.
 ]
 
 privilege_front : (k : Grammar) (said : List Lexeme) → Matches (followed_by privilege_item k) (faultless_all said) → Front privilege_says IsWellFormedPrivilege k said
-privilege_front k said m = elim (case_front (Key keywords.Select) (lexemes.Key keywords.Select) k _ said (key_only keywords.Select) m) [
-  | inl p ↦ record { value = privileges_of.Select; rest = p.0; split = p.1; well_formed = tt; left = p.2 }
+privilege_front k said m = elim (case_front (Key keywords.Select) (lexemes.Key keywords.Select) (optional in_brackets k) _ said (key_only keywords.Select) m) [
+  | inl p ↦ let cs = columns_front k p.0 p.2 in record { value = privileges_of.Select cs.value; rest = cs.rest; split = then _ p.1 cs.split; well_formed = cs.well_formed; left = cs.left }
   | inr m ↦ elim (case_front (Key keywords.Insert) (lexemes.Key keywords.Insert) k _ said (key_only keywords.Insert) m) [
     | inl p ↦ record { value = privileges_of.Insert; rest = p.0; split = p.1; well_formed = tt; left = p.2 }
     | inr m ↦ elim (case_front (Key keywords.Delete) (lexemes.Key keywords.Delete) k _ said (key_only keywords.Delete) m) [

@@ -125,7 +125,7 @@ columns_match (Some names) k ss is shut m =
     (sym (ap (λ z. z ++ ss) (faultless_all-append (names_say names) (lexemes.Sign marks.Close ∷ [])) ∙ append_assoc (faultless_all (names_say names)) (faultless_all (lexemes.Sign marks.Close ∷ [])) ss)) inside)
 
 privilege_matches : (p : Privilege) (k : Grammar) (ss : List TokenWithFault) → IsWellFormedPrivilege p → is_next bracket ss ≡ false → Matches k ss → Matches (followed_by privilege_item k) (faultless_all (privilege_says p) ++ ss)
-privilege_matches privileges_of.Select k ss is shut m = this refl m
+privilege_matches (privileges_of.Select columns) k ss is shut m = this refl (columns_match columns k ss is shut m)
 privilege_matches privileges_of.Insert k ss is shut m = other refl (this refl m)
 privilege_matches privileges_of.Delete k ss is shut m = other refl (other refl (this refl m))
 privilege_matches (privileges_of.Update columns) k ss is shut m = other refl (other refl (other refl (one refl (columns_match columns k ss is shut m))))
@@ -199,7 +199,7 @@ revoked_matches ps table users b privileged named =
 -- no privilege begins with GRANT
 revoked_only : (ps : List Privilege) (table : Name) (users : List User) (b : Bool) → 0 < length ps → Matches (privileges_from finish) (faultless_all (privileges_from_say ps table users ++ ending b)) → Matches (optional grant_option_for (privileges_from finish)) (faultless_all (privileges_from_say ps table users ++ ending b))
 revoked_only [] table users b some m = absurd (omega (arith, some))
-revoked_only (privileges_of.Select ∷ ps) table users b some m = other refl m
+revoked_only (privileges_of.Select columns ∷ ps) table users b some m = other refl m
 revoked_only (privileges_of.Insert ∷ ps) table users b some m = other refl m
 revoked_only (privileges_of.Delete ∷ ps) table users b some m = other refl m
 revoked_only (privileges_of.Update columns ∷ ps) table users b some m = other refl m

@@ -43,7 +43,7 @@ none_of_four false false false true x y z u e = cc
 none_of_four false false false false x y z u e = refl
 
 no_word_enters : (t : TokenKind) (k : Grammar) → is_privilege t ≡ false → enter privilege_item k t ≡ None
-no_word_enters t k e = none_of_four (is_keyword keywords.Select t) (is_keyword keywords.Insert t) (is_keyword keywords.Delete t) (is_keyword keywords.Update t) (Some k) (Some k) (Some k) (Some (behind_word words.Update k)) e
+no_word_enters t k e = none_of_four (is_keyword keywords.Select t) (is_keyword keywords.Insert t) (is_keyword keywords.Delete t) (is_keyword keywords.Update t) (Some (behind_word words.Select k)) (Some k) (Some k) (Some (behind_word words.Update k)) e
 
 step_word : (s : List TokenKind) (k : Grammar) (w : PrivilegeWord) (t : TokenKind) (m : Option Code) → t ≡ word_kind w → item_fault privileges_rule s (word_kind w) ≡ m → step (items s k) t ≡ Some (m, behind s w k)
 step_word s k w t m e h =

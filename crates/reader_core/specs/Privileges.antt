@@ -13,7 +13,7 @@ use Rattle.reader_core.specs.declared.privilege.PrivilegeWord.TheVariants as wor
 
 -- the word that names a privilege
 abbrev pub word_of : Privilege → PrivilegeWord
-word_of privileges.Select = words.Select
+word_of (privileges.Select columns) = words.Select
 word_of privileges.Insert = words.Insert
 word_of privileges.Delete = words.Delete
 word_of (privileges.Update columns) = words.Update

@@ -122,9 +122,9 @@ columns_say (Some names) =
 abbrev pub word_says : PrivilegeWord → List Lexeme
 word_says w = lexemes.Key (word_keyword w) ∷ []
 
--- the columns that UPDATE names, if it does
+-- the columns that SELECT or UPDATE names, if it does
 abbrev pub privilege_columns : Privilege → Option (List Name)
-privilege_columns privileges_of.Select = None
+privilege_columns (privileges_of.Select columns) = columns
 privilege_columns privileges_of.Insert = None
 privilege_columns privileges_of.Delete = None
 privilege_columns (privileges_of.Update columns) = columns

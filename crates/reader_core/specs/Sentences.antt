@@ -1,5 +1,6 @@
 -- The grammar of statements: each rule is a function of what may follow it.
 use Rattle.std.specs.Prelude.{ℕ, Bool, true, false, List, [], map}
+use Rattle.base_core.specs.declared.keyword.Keyword.{Keyword}
 use Rattle.base_core.specs.declared.keyword.Keyword.TheVariants as keywords
 use Rattle.base_core.specs.declared.name.Name.{Name}
 use Rattle.lexer_core.specs.declared.token.TokenKind.{TokenKind}
@@ -97,21 +98,25 @@ update k =
     One (Key keywords.Update) (One AnyName (One (Key keywords.Set)
     (Items (names_rule 32) [] set_item (optional filter k))))
 
--- "(" name { "," name } ")"
+-- in_brackets = "(" name { "," name } ")"
 abbrev pub in_brackets : Grammar → Grammar
 in_brackets k = One (Sign marks.Open) (name_list 32 (One (Sign marks.Close) k))
 
--- priv = SELECT | INSERT | DELETE | UPDATE [ "(" name { "," name } ")" ]
+-- a privilege that may be limited to columns
+abbrev pub by_column : Keyword → Grammar
+by_column word = One (Key word) (optional in_brackets End)
+
+-- priv = SELECT [ in_brackets ] | INSERT | DELETE | UPDATE [ in_brackets ]
 abbrev pub privilege_item : Grammar
 privilege_item =
-    either (One (Key keywords.Select) End)
+    either (by_column keywords.Select)
     (either (One (Key keywords.Insert) End)
     (either (One (Key keywords.Delete) End)
-    (One (Key keywords.Update) (optional in_brackets End))))
+    (by_column keywords.Update)))
 
 -- what may stand behind a privilege's word
 abbrev pub behind_word : PrivilegeWord → Grammar → Grammar
-behind_word words.Select k = k
+behind_word words.Select k = optional in_brackets k
 behind_word words.Insert k = k
 behind_word words.Delete k = k
 behind_word words.Update k = optional in_brackets k

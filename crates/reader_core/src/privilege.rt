@@ -21,10 +21,10 @@ pub(crate) enum PrivilegeWord {
     Update,
 }
 
-/// A privilege. UPDATE may be limited to columns.
+/// A privilege. SELECT and UPDATE may be limited to columns.
 #[derive(Drop)]
 pub enum Privilege {
-    Select,
+    Select(Option<Distinct<Name, MAX_ITEMS>>),
     Insert,
     Delete,
     Update(Option<Distinct<Name, MAX_ITEMS>>),
@@ -35,7 +35,7 @@ impl Privilege {
         ensures { result ≡ word_of self.now }
     {
         match self {
-            Privilege::Select => PrivilegeWord::Select,
+            Privilege::Select(_) => PrivilegeWord::Select,
             Privilege::Insert => PrivilegeWord::Insert,
             Privilege::Delete => PrivilegeWord::Delete,
             Privilege::Update(_) => PrivilegeWord::Update,

@@ -16,7 +16,7 @@ use tables_core::{NumberedRow, Tables, columns_differ};
 fn tell_grant(rt: &HostRuntime, grant: &Grant) -> Option<()> {
     let name = str::from_utf8(grant.grantee.0.as_bytes()).ok()?;
     match grant.atom.kind {
-        Kind::Select => println!(rt; "grant {} SELECT {name}", grant.number).ok(),
+        Kind::Select(_) => println!(rt; "grant {} SELECT {name}", grant.number).ok(),
         _ => println!(rt; "grant {} INSERT {name}", grant.number).ok(),
     }
 }
@@ -35,7 +35,7 @@ fn granted(rt: &HostRuntime, graph: &mut Graph) -> Option<()>
     let (table, owner) = (named("t")?, User(named("o")?));
     let select = Atom {
         table,
-        kind: Kind::Select,
+        kind: Kind::Select(named("v")?),
     };
     let insert = Atom {
         table,

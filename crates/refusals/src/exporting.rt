@@ -19,6 +19,16 @@ fn fill(rt: &HostRuntime, alloc: Global, system: &mut System, rows: usize) -> Op
     Some(())
 }
 
+/// A table of so many rows and two columns, of which bob may select the second.
+fn fill_and_grant(rt: &HostRuntime, alloc: Global, system: &mut System, rows: usize) -> Option<()> {
+    let _ = ask(rt, alloc, system, "CREATE TABLE t (v INTEGER, w INTEGER)")?;
+    for _ in 0..rows {
+        let _ = ask(rt, alloc, system, "INSERT INTO t VALUES (1, 2)")?;
+    }
+    let _ = ask(rt, alloc, system, "GRANT SELECT (w) ON t TO bob")?;
+    Some(())
+}
+
 /// What the core answers is written.
 fn tell_answer(rt: &HostRuntime, alloc: Global, system: &mut System, line: &str) -> Option<()> {
     let reply = ask(rt, alloc, system, line)?;
@@ -76,8 +86,8 @@ fn tell_record(rt: &HostRuntime, ticket: &mut Ticket) -> Option<()> {
 }
 
 /// The export of the only checkpoint.
-fn ticket(rt: &HostRuntime, alloc: Global, system: &mut System) -> Option<Ticket> {
-    match ask(rt, alloc, system, "EXPORT 1")? {
+fn ticket(rt: &HostRuntime, alloc: Global, system: &mut System, line: &str) -> Option<Ticket> {
+    match ask(rt, alloc, system, line)? {
         Reply::Export(ticket) => Some(ticket),
         _ => None,
     }
@@ -112,7 +122,7 @@ fn export_on(
 fn tell_export(rt: &HostRuntime, alloc: Global, system: &mut System) -> Option<()> {
     fill(rt, alloc, system, 3)?;
     checkpoint(rt, alloc, system)?;
-    let mut ticket = ticket(rt, alloc, system)?;
+    let mut ticket = ticket(rt, alloc, system, "EXPORT 1")?;
     export_on(rt, alloc, system, &mut ticket)
 }
 
@@ -124,28 +134,62 @@ pub fn export(rt: &HostRuntime, alloc: Global) -> Option<()> {
     told
 }
 
-fn issued(
-    rt: &HostRuntime,
-    alloc: Global,
-    system: &mut System,
-    rows: usize,
-    tickets: usize,
-) -> Option<()> {
-    fill(rt, alloc, system, rows)?;
-    let _ = ask(rt, alloc, system, "CHECKPOINT")?;
-    for _ in 0..rows {
-        let _ = ask(rt, alloc, system, "step")?;
-    }
-    for _ in 0..tickets {
-        let _ = ticket(rt, alloc, system)?;
+fn tell_columns(rt: &HostRuntime, alloc: Global, system: &mut System) -> Option<()> {
+    fill_and_grant(rt, alloc, system, 2)?;
+    checkpoint(rt, alloc, system)?;
+    let mut ticket = ticket(rt, alloc, system, "bob: EXPORT 1")?;
+    for _ in 0..5 {
+        tell_record(rt, &mut ticket)?;
     }
     Some(())
 }
 
-/// So many tickets of a checkpoint of so many rows.
-pub fn issue(rt: &HostRuntime, alloc: Global, rows: usize, tickets: usize) -> Option<()> {
+/// A ticket of one column of two.
+pub fn columns(rt: &HostRuntime, alloc: Global) -> Option<()> {
+    let mut system = System::new(alloc, 16).ok()?;
+    let told = tell_columns(rt, alloc, &mut system);
+    system.free();
+    told
+}
+
+/// A checkpoint of so many rows.
+fn captured(rt: &HostRuntime, alloc: Global, system: &mut System, rows: usize) -> Option<()> {
+    fill_and_grant(rt, alloc, system, rows)?;
+    let _ = ask(rt, alloc, system, "CHECKPOINT")?;
+    for _ in 0..rows {
+        let _ = ask(rt, alloc, system, "step")?;
+    }
+    Some(())
+}
+
+fn issued(
+    rt: &HostRuntime,
+    alloc: Global,
+    system: &mut System,
+    tickets: usize,
+    user: &str,
+) -> Option<()> {
+    let line = format!(in alloc; "{user}: EXPORT 1").ok()?;
+    for _ in 0..tickets {
+        let mut ticket = ticket(rt, alloc, system, line.as_str())?;
+        let _ = next(&mut ticket)?;
+    }
+    Some(())
+}
+
+/// So many tickets for this user of a checkpoint of so many rows, each with its first record.
+pub fn issue(
+    rt: &HostRuntime,
+    alloc: Global,
+    rows: usize,
+    tickets: usize,
+    user: &str,
+) -> Option<()> {
     let mut system = System::new(alloc, 64).ok()?;
-    let issued = issued(rt, alloc, &mut system, rows, tickets);
+    let issued = match captured(rt, alloc, &mut system, rows) {
+        Some(()) => issued(rt, alloc, &mut system, tickets, user),
+        None => None,
+    };
     system.free();
     issued
 }

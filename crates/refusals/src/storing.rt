@@ -80,7 +80,8 @@ fn tell_all(rt: &HostRuntime, store: &mut Store<Value>, out: &mut Vec<(u64, Valu
     tell_item(rt, number, item)
 }
 
-/// An item is replaced twice and removed, another comes and goes, and a capture gives what there was.
+/// An item is replaced twice and removed, another comes and goes, and a capture gives what there
+/// was.
 pub fn store(rt: &HostRuntime, alloc: Global) -> Option<()> {
     let mut store: Store<Value> = Store::new(alloc);
     let mut out = Vec::new(alloc);

@@ -23,13 +23,14 @@ pub fn named(name: &str) -> Option<Name> {
     Name::read(name.as_bytes())
 }
 
-/// A step of the checkpointer, or what ann says.
+/// A step of the checkpointer, or what a user says: ann, where none is named.
 pub fn event(alloc: Global, line: &str) -> Option<Event> {
     if line == "step" {
         return Some(Event::Step);
     }
-    let user = User(named("ann")?);
-    let statement = read(alloc, line.as_bytes()).ok()?;
+    let (user, statement) = line.split_once(": ").unwrap_or(("ann", line));
+    let user = User(named(user)?);
+    let statement = read(alloc, statement.as_bytes()).ok()?;
     Some(Event::Say {
         pass: 0,
         user,

@@ -26,7 +26,7 @@ abbrev pub joined : List (List ℕ) → List ℕ
 joined parts = flat_map (λ part. part) parts
 
 abbrev pub kind_text : Kind → List ℕ
-kind_text kinds.Select = codes "SELECT"
+kind_text (kinds.Select column) = joined (codes "SELECT(" ∷ column ∷ codes ")" ∷ [])
 kind_text kinds.Insert = codes "INSERT"
 kind_text kinds.Delete = codes "DELETE"
 kind_text (kinds.Update column) = joined (codes "UPDATE(" ∷ column ∷ codes ")" ∷ [])

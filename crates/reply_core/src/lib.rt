@@ -1,11 +1,12 @@
 //! Replies as text: what is written of a reply, of a fault, and of a line that was not read.
 //!
-//! [`reply_text`] is the text of a reply of the core, byte for byte (`specs/Texts.antt`), in new memory:
-//! one line, or of rows and of a list of checkpoints a line with their number and a record for each.
-//! [`write_reply`] is the one contract. It gives a writer that text, and behind the text of an export its
-//! records, or, out of memory, some of them and one line in place of the rest (`specs/Telling.antt`).
-//! [`write_fault`] writes the text of a fault, and [`write_unread`] the one of a line that could not be
-//! read: out of memory. On an error a front was written, and the writer has failed.
+//! [`reply_text`] is the text of a reply of the core, byte for byte (`specs/Texts.antt`), in new
+//! memory: one line, or of rows and of a list of checkpoints a line with their number and a record
+//! for each. [`write_reply`] is the one contract. It gives a writer that text, and behind the text
+//! of an export its records, or, out of memory, some of them and one line in place of the rest
+//! (`specs/Telling.antt`). [`write_fault`] writes the text of a fault, and [`write_unread`] the one
+//! of a line that could not be read: out of memory. On an error a front was written, and the writer
+//! has failed.
 //!
 //! ```text
 //! let mut buffer = ReplyBuffer::new(alloc)?;
@@ -13,12 +14,13 @@
 //! write_fault(&mut buffer, Code::Empty, 0, &mut writer)?;          // error 1 at 0: empty
 //! ```
 //!
-//! Lines are made in a [`ReplyBuffer`], which is made once, with room for every line but those of rows and
-//! of an export's records; rows are written straight from the values that they share with the table. So
-//! every reply is told whatever memory there is, however many its rows, and only an export may be cut.
+//! Lines are made in a [`ReplyBuffer`], which is made once, with room for every line but those of
+//! rows and of an export's records; rows are written straight from the values that they share with
+//! the table. So every reply is told whatever memory there is, however many its rows, and only an
+//! export may be cut.
 //!
-//! A reply costs the bytes of its text, and those of an export's records. A text of a row that has a quote
-//! costs a write for each.
+//! A reply costs the bytes of its text, and those of an export's records. A text of a row that has
+//! a quote costs a write for each.
 #![tactic(auto)]
 
 mod buffer;

@@ -18,7 +18,8 @@ const KIND_BYTES: usize = 38;
 /// The most bytes of a user, a privilege and its table, without what is said of them.
 const ABOUT_ATOM_BYTES: usize = 102;
 
-/// The most bytes of a user, a privilege, its table, and another user, without what is said of them.
+/// The most bytes of a user, a privilege, its table, and another user, without what is said of
+/// them.
 const NOT_GIVEN_BYTES: usize = 136;
 
 /// The most bytes of a user, SELECT and a table, without what is said of them.
@@ -55,7 +56,7 @@ fn push_kind(text: &mut ReplyBuffer, kind: &Kind)
     ensures short { length text.new ≤ length text.old + KIND_BYTES }
 {
     match kind {
-        Kind::Select => text.push(b"SELECT"),
+        Kind::Select(column) => push_name_in(text, b"SELECT(", column, b")"),
         Kind::Insert => text.push(b"INSERT"),
         Kind::Delete => text.push(b"DELETE"),
         Kind::Update(column) => push_name_in(text, b"UPDATE(", column, b")"),

@@ -98,11 +98,12 @@ pub fn write_text<W: Sink>(
     write_list(buffer, reply, writer)
 }
 
-/// Writes the text of a reply, and behind that of an export its records, before each of which the gate
-/// is called. The buffer may have any text; what it has then means nothing.
+/// Writes the text of a reply, and behind that of an export its records, before each of which the
+/// gate is called. The buffer may have any text; what it has then means nothing.
 ///
-/// Only an export's records take memory: where there is none for the next, `export cut: no memory` is
-/// written in its place. `Broken` exactly where the writer has failed, and then a front was written.
+/// Only an export's records take memory: where there is none for the next, `export cut: no memory`
+/// is written in its place. `Broken` exactly where the writer has failed, and then a front was
+/// written.
 pub fn write_reply<W: Sink, G: Gate>(
     buffer: &mut ReplyBuffer,
     reply: Reply,
@@ -120,9 +121,9 @@ pub fn write_reply<W: Sink, G: Gate>(
     write_records(reply, writer, gate)
 }
 
-/// Writes the text of a change that made this moment, as [`write_reply`] does of [`Reply::Done`], which
-/// is large to hand on. It takes no memory. `Broken` exactly where the writer has failed, and then a front
-/// was written.
+/// Writes the text of a change that made this moment, as [`write_reply`] does of [`Reply::Done`],
+/// which is large to hand on. It takes no memory. `Broken` exactly where the writer has failed, and
+/// then a front was written.
 #[inline]
 pub fn write_done<W: Sink>(
     buffer: &mut ReplyBuffer,
@@ -142,9 +143,9 @@ pub fn write_done<W: Sink>(
     write_all(writer, buffer.as_slice())
 }
 
-/// Writes the text of a fault at this byte of its line. The buffer may have any text; what it has then
-/// means nothing. It takes no memory. `Broken` exactly where the writer has failed, and then a front was
-/// written.
+/// Writes the text of a fault at this byte of its line. The buffer may have any text; what it has
+/// then means nothing. It takes no memory. `Broken` exactly where the writer has failed, and then a
+/// front was written.
 pub fn write_fault<W: Sink>(
     buffer: &mut ReplyBuffer,
     code: Code,
@@ -164,8 +165,8 @@ pub fn write_fault<W: Sink>(
     write_all(writer, buffer.as_slice())
 }
 
-/// Writes `refused: no memory`, for a line that could not be read: out of memory. It takes no memory
-/// itself. `Broken` exactly where the writer has failed, and then a front was written.
+/// Writes `refused: no memory`, for a line that could not be read: out of memory. It takes no
+/// memory itself. `Broken` exactly where the writer has failed, and then a front was written.
 pub fn write_unread<W: Sink>(writer: &mut W) -> Result<(), Broken>
     requires { W.failed writer.old ≡ false }
     ensures failed { MatchResult result (λ _. W.failed writer.new ≡ false)

@@ -20,7 +20,8 @@ use Rattle.system_core.specs.Journal.{contents}
 use Rattle.system_core.specs.Exports.{export_of}
 use Rattle.system_core.specs.World.{World, ActiveCheckpoint, entry, moment_of, next_moment, with_entry}
 use Rattle.system_core.specs.Judging.{point_of, verdict_of}
-use Rattle.system_core.specs.Step.{columns_given, listed_checkpoints, with_begun, with_left, with_finished, IsAnswer, IsExport, CarriesOut, Responds, Advances, Step}
+use Rattle.monitor_core.specs.Atoms.{columns_given}
+use Rattle.system_core.specs.Step.{listed_checkpoints, with_begun, with_left, with_finished, IsAnswer, IsExport, CarriesOut, Responds, Advances, Step}
 use Rattle.reply_core.specs.Texts.{reply_text, fault_text}
 use Rattle.reply_core.specs.Telling.{TellsRecords}
 use Rattle.script_core.specs.Script.{addressed, Asks, IsFaulty, address, statement, is_refused, AnswersLine, Answers}

@@ -6,8 +6,8 @@ ghost use Rattle.script_core.specs.InFull.{AnswersInFull, TellsOfMemory};
 ghost use Rattle.script_core.specs.Script.{Answers};
 
 /// Where memory is never told of, the output is one. Lines that are answered in full, one after
-/// another, from one world have one text and lead to one world. What is answered in full is answered;
-/// and an answer is in full, or a line that tells of memory stands in it.
+/// another, from one world have one text and lead to one world. What is answered in full is
+/// answered; and an answer is in full, or a line that tells of memory stands in it.
 pub fn one_output()
     ensures one { (old new last : World) (lines : List (List ℕ)) (text other : List ℕ)
         → AnswersAll AnswersInFull old lines text new

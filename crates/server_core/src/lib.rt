@@ -1,12 +1,12 @@
-//! Sessions over sockets: the door at which they come in, the log that tells of them, and the worker that
-//! serves them.
+//! Sessions over sockets: the door at which they come in, the log that tells of them, and the
+//! worker that serves them.
 //!
 //! A server shares one desk among threads, each with a pass of its own. [`work`] is what a worker's
-//! thread does: it takes sessions from the [`Door`] one after another, and serves each through its pass.
-//! Its contract says that sessions went through the pass, and that nothing else was done through it
-//! (`specs/Sessions.antt`); what a session writes, and what it does to the desk, is the contract of
-//! [`serve_session`](session_core::serve_session). There too stands what a whole server leaves, of which
-//! the program's threads make use.
+//! thread does: it takes sessions from the [`Door`] one after another, and serves each through its
+//! pass. Its contract says that sessions went through the pass, and that nothing else was done
+//! through it (`specs/Sessions.antt`); what a session writes, and what it does to the desk, is the
+//! contract of [`serve_session`](session_core::serve_session). There too stands what a whole server
+//! leaves, of which the program's threads make use.
 //!
 //! ```text
 //! let door = Mutex::new(Door::new(100));
@@ -16,21 +16,22 @@
 //!
 //! # Mechanism
 //!
-//! The door stands behind a lock, and who has the lock accepts the next session. So no session waits in
-//! the program, none is lost on the way to a worker, and the program has at most one socket for each
-//! worker. A server keeps the lock until all threads have started: where one can't be started, no session
-//! is taken. An accept that fails is made again after 50 milliseconds; only where the listener itself is
-//! gone no further session is taken.
+//! The door stands behind a lock, and who has the lock accepts the next session. So no session
+//! waits in the program, none is lost on the way to a worker, and the program has at most one
+//! socket for each worker. A server keeps the lock until all threads have started: where one can't
+//! be started, no session is taken. An accept that fails is made again after 50 milliseconds; only
+//! where the listener itself is gone no further session is taken.
 //!
 //! A session that has ended is shut for writing and then read for a while, since to close a socket
 //! with unread bytes would take the last replies from the client. A fault of a session ends that
-//! session, and is told on the error stream. [`Notes`] are taken of each session, for a log of where
-//! sessions begin and end.
+//! session, and is told on the error stream. [`Notes`] are taken of each session, for a log of
+//! where sessions begin and end.
 //!
 //! A client that sends nothing holds its worker, and so does one that takes nothing of its replies,
-//! for as long as [`Manners`] say. What it takes counts once that makes room in the socket, and whatever of
-//! a reply then goes in begins the time anew. The kernel is not asked to look after silent peers (std's
-//! sockets have no call for that), so a peer that is gone is found by this time alone.
+//! for as long as [`Manners`] say. What it takes counts once that makes room in the socket, and
+//! whatever of a reply then goes in begins the time anew. The kernel is not asked to look after
+//! silent peers (std's sockets have no call for that), so a peer that is gone is found by this time
+//! alone.
 //!
 //! # Cost
 //!

@@ -32,9 +32,9 @@ fn step<R: Wait>(rt: &R, desk: &Desk, pass: &mut Pass) -> Reply
 
 /// Takes steps of the active checkpoint, each in a turn of the pass, until the flag is set. A
 /// checkpoint is given up exactly where its step was refused memory, in the turn of the pass behind
-/// that. The pass makes no entry. Where no checkpoint is active it sleeps two milliseconds before it
-/// looks again; between two steps it calls the gate with the number of records that are left. `Worn`
-/// where all turns are drawn.
+/// that. The pass makes no entry. Where no checkpoint is active it sleeps two milliseconds before
+/// it looks again; between two steps it calls the gate with the number of records that are left.
+/// `Worn` where all turns are drawn.
 pub fn checkpointer<R: Wait + Clock, G: Gate>(
     rt: &R,
     desk: &Desk,

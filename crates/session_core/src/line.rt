@@ -41,8 +41,8 @@ fn tell<G: Gate>(gate: &G, at: Option<Moment>, written: Result<(), Broken>) -> R
 
 /// One line of a user, answered through a pass of the desk: what it says is asked in a turn, and
 /// the reply is written after it, with the records of an export. Then the gate is told. `Broken`
-/// exactly where the writer failed: then a front of an answer was written. What the vector of tokens
-/// and the buffer have before and behind the call means nothing.
+/// exactly where the writer failed: then a front of an answer was written. What the vector of
+/// tokens and the buffer have before and behind the call means nothing.
 pub fn serve_line<R: Wait, W: Sink, G: Gate>(
     rt: &R,
     alloc: Global,

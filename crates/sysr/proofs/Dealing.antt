@@ -1,6 +1,5 @@
 -- New passes, and what threads make of them.
-use Rattle.std.proofs.Common.{◌≡◌, ℕ, zero, suc, List, [], ◌∷◌, ◌++◌, Some, All, Ok, Err, refl, subst, sym, ap, ◌∙◌}
-use Rattle.std.specs.Prelude.{Result, IfOk}
+use Rattle.std.proofs.Common.{◌≡◌, ℕ, zero, suc, List, [], ◌∷◌, ◌++◌, Some, All, refl, subst, sym, ap, ◌∙◌}
 use Rattle.std.proofs.lemmas.List.Elements.{All-nil, All-cons, All-push, All-weaker}
 use Rattle.turnstile.specs.Passes.{Lock, Held, passes_from, new_passes}
 use Rattle.system_core.specs.declared.machine.event.Entry.{Entry}
@@ -36,8 +35,3 @@ servers_of desk passes s =
     let workers = All-weaker (IsWorkers desk) (IsOf desk) (λ p served. (attended_same desk (new_pass desk p.number) p served).0) s.workers s.served in
     let last : s.checkpointer.lock ≡ Some desk = checks_lock desk (new_pass desk s.checkpointer.number) s.checkpointer s.checked in
     subst (λ z. All (IsOf desk) z) (sym s.passes_are) (All-push (IsOf desk) s.workers s.checkpointer workers last)
-
--- whatever the answer, this holds where it is one
-pub where_ok : {T E B : Type 0} (r : Result T E) → B → IfOk r (λ x. B)
-where_ok (Ok x) b = b
-where_ok (Err e) b = tt

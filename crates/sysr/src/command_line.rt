@@ -47,7 +47,8 @@ pub enum CommandLine {
 
 /// The sessions that are asked for: at which port of this machine, how many, by how many threads,
 /// how many records a step of the checkpointer takes, for how many seconds a session waits for its
-/// client, if not for ever, and whether it is told where sessions begin and end.
+/// client, if not for ever, whether it is told where sessions begin and end, and whether to audit at
+/// the end.
 #[derive(Clone, Copy, PartialEq, Eq)]
 pub struct Serving {
     pub port: u16,
@@ -56,6 +57,7 @@ pub struct Serving {
     pub chunk: usize,
     pub idle: Option<u64>,
     pub log: bool,
+    pub audit: bool,
 }
 
 // clap has refused a number out of range, so that the last is for no chunk at all.
@@ -91,6 +93,7 @@ fn serving_of(matches: &ArgMatches<'_>) -> Serving
         chunk: chunk_of(matches),
         idle: idle_of(matches),
         log: matches.get_flag("log"),
+        audit: matches.get_flag("audit"),
     }
 }
 
@@ -171,14 +174,16 @@ fn serve_command<'a>(alloc: Global) -> Result<Command<'a>, AllocError> {
         .arg(sessions_arg(alloc))?
         .arg(chunk_arg(alloc))?
         .arg(idle_arg(alloc))?
-        .arg(log_arg(alloc))
+        .arg(log_arg(alloc))?
+        .arg(audit_arg(alloc))
 }
 
 /// Reads the words of a command line, of which the first is the name of the program. Each number is
 /// in its range: the chunk from 1 to 64, and 16 where none is given; the port from 1 to 65,535; the
-/// workers from 1 to 16, and 4 where none are given; the sessions from 1 to 10,000, and 10,000 where
-/// none are given; the seconds of an idle session, if they are given, from 1 to 86,400. An error is
-/// clap's: the words were refused, help or the version was asked for, or there was no memory.
+/// workers from 1 to 16, and 4 where none are given; the sessions from 1 to 10,000, and 10,000
+/// where none are given; the seconds of an idle session, if they are given, from 1 to 86,400. An
+/// error is clap's: the words were refused, help or the version was asked for, or there was no
+/// memory.
 pub fn options<S: AsStr>(alloc: Global, words: &[S]) -> Result<CommandLine, Error>
     ensures { IfOk result IsInRange }
 {

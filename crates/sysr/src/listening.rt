@@ -3,11 +3,14 @@ ghost use Rattle.std.specs.Prelude.{◌<◌, ◌≤◌};
 ghost use Rattle.sysr.specs.Ranges.{IsInRange};
 ghost use Rattle.sysr.specs.declared.command_line.CommandLine.TheVariants.{Serve};
 
+use crate::auditing::audit;
 use crate::command_line::Serving;
-use crate::serving::serve_on;
-use lines_core::{NO_MEMORY, SessionFault, fault_text, give_up};
+use crate::serving::{Served, serve_on};
+use base_core::StdSink;
+use lines_core::{NO_MEMORY, SessionFault, Steady, fault_text, give_up};
 use server_core::{Manners, ServeFault};
 use std::fs;
+use std::io::BufWriter;
 use std::mem::forget;
 use std::net::TcpListener;
 use std::process::ExitCode;
@@ -24,8 +27,22 @@ fn fill_closed_streams(host: &HostRuntime) {
     }
 }
 
+/// Says how many sessions were served, and audits what they left, if that is asked for.
+fn tell_end(host: &HostRuntime, served: &Served, audited: bool) -> ExitCode {
+    if println!(host; "served {}", served.sessions).is_err() {
+        return give_up(host, fault_text(SessionFault::Write));
+    }
+    if !audited {
+        return ExitCode::SUCCESS;
+    }
+    let Ok(buffered) = BufWriter::new(host.alloc(), Steady::new(host.stdout())) else {
+        return give_up(host, NO_MEMORY);
+    };
+    audit(host, &served.system, &mut StdSink::new(buffered))
+}
+
 /// Serves the sessions that are asked for. It says at which port it listens, and at the end how
-/// many sessions it served.
+/// many sessions it served, and how an audit ended.
 pub fn serve<R>(host: &HostRuntime, rt: &R, asked: Serving) -> ExitCode
 where
     R: Threads + Wait + Clock + Sync,
@@ -55,10 +72,12 @@ where
         &mut err,
     );
     match served {
-        Ok(served) => match println!(host; "served {served}") {
-            Ok(()) => ExitCode::SUCCESS,
-            Err(_) => give_up(host, fault_text(SessionFault::Write)),
-        },
+        Ok(served) => {
+            let status = tell_end(host, &served, asked.audit);
+            // The process ends here, and its memory goes back as a whole.
+            forget(served);
+            status
+        }
         Err(ServeFault::Accept) => give_up(host, "sysr: accept fault"),
         Err(ServeFault::NoMemory) => give_up(host, NO_MEMORY),
     }

@@ -4,59 +4,37 @@
 //! Each line of `run` is `user: statement`, and what was read is answered before more is read. The
 //! exit status is 0 where the input was read to its end, whatever the replies; 1 where the program
 //! itself could not go on, with the reason on standard error; 2 where the command line was refused;
-//! 3 where an audit failed. Help and the version go to standard output, with status 0. A call that a
-//! signal interrupted is made again.
+//! 3 where an audit failed. Help and the version go to standard output, with status 0. A call that
+//! a signal interrupted is made again.
 //!
-//! Before `serve` opens its first socket it fills the places of standard streams that are closed, so
-//! that no client is told what is meant for standard error.
+//! Before `serve` opens its first socket it fills the places of standard streams that are closed,
+//! so that no client is told what is meant for standard error.
 //!
-//! What is written for what was read is the contract of [`script`]; what the command line may say is
-//! that of [`options`]; and what the threads of a server do to its core is that of
+//! What is written for what was read is the contract of [`script`]; what the command line may say
+//! is that of [`options`]; and what the threads of a server do to its core is that of
 //! [`serve_on`](serving::serve_on). This file joins them with the streams of the process.
 #![tactic(auto)]
 
-ghost use Rattle.std.specs.Prelude.{◌≡◌, ◌<◌, ◌≤◌, false};
+ghost use Rattle.std.specs.Prelude.{◌<◌, ◌≤◌};
 
+mod auditing;
 mod command_line;
 mod listening;
 mod serving;
 
-use base_core::{Broken, Sink, StdSink, StdSource, write_all};
+use auditing::audit;
+use base_core::{StdSink, StdSource};
 use command_line::{CommandLine, options, refuse};
-use lines_core::{NO_MEMORY, SessionFault, Steady, audit_end, fault_text, give_up};
+use lines_core::{NO_MEMORY, Steady, fault_text, give_up};
 use listening::serve;
 use script_core::script;
 use std::io::BufWriter;
 use std::mem::forget;
 use std::process::ExitCode;
 use std::{env, io};
-use system_core::System;
 
 // What is gathered of the output before it is written.
 const OUTPUT_BYTES: usize = 65536;
-
-fn write_last<W: Sink>(writer: &mut W, line: &[u8]) -> Result<(), Broken>
-    requires { W.failed writer.old ≡ false }
-{
-    write_all(writer, line)?;
-    writer.flush()
-}
-
-/// Compares the rights in force with a replay of the journal, and writes how that ended.
-fn audit<W: Sink>(rt: &HostRuntime, system: &System, writer: &mut W) -> ExitCode
-    requires { W.failed writer.old ≡ false }
-{
-    let Ok(found) = system.audit() else {
-        return give_up(rt, NO_MEMORY);
-    };
-    let Ok((line, status)) = audit_end(rt.alloc(), found) else {
-        return give_up(rt, NO_MEMORY);
-    };
-    match write_last(writer, line.as_slice()) {
-        Ok(()) => ExitCode::from(status),
-        Err(Broken) => give_up(rt, fault_text(SessionFault::Write)),
-    }
-}
 
 /// Answers the lines of standard input.
 fn run(rt: &HostRuntime, chunk: usize, audited: bool) -> ExitCode

@@ -1,7 +1,6 @@
 //! The threads of a server, from start to end.
 ghost use Rattle.std.specs.Prelude.{◌≡◌, ◌<◌, ◌≤◌, ◌++◌, ◌∷◌, [], All, IfOk, OnOk};
 ghost use Rattle.turnstile.specs.Closed.{AreAll};
-ghost use Rattle.system_core.specs.World.{World};
 ghost use Rattle.desk_core.specs.Turns.{Ended};
 ghost use Rattle.server_core.specs.Sessions.{IsOf, IsNew, IsWorkers, IsCheckpointers, AreServers, Leaves};
 
@@ -36,8 +35,8 @@ impl<'a> Promise<Pass> for LooksAfter<'a> {
     ghost kept_by = { λ p pass. IsCheckpointers p.0.now pass };
 }
 
-/// Passes that are to be handed to threads. A type of its own, since a closure that owns a vector as
-/// it is takes minutes to prove.
+/// Passes that are to be handed to threads. A type of its own, since a closure that owns a vector
+/// as it is takes minutes to prove.
 #[derive(Drop)]
 struct Dealt {
     passes: Vec<Pass>,
@@ -225,21 +224,28 @@ where
     }
 }
 
+/// What a server leaves: how many sessions it served, and the core.
+#[derive(Drop)]
+pub struct Served {
+    pub sessions: u64,
+    pub system: System,
+}
+
 /// Serves so many sessions that the listener gives, by so many threads, from 1 to 16, beside one
 /// that takes the steps of checkpoints, of so many records as the chunk says, from 1 to 64. Then it
-/// closes the desk, and answers the number of sessions.
+/// closes the desk, and answers the number of sessions and the core that they left.
 ///
 /// Each session that ends with a fault is told on `err`, as `session fault: read`, or `write`,
 /// `bound`, `no memory`. By the manners a session whose client sends nothing for so long ends with
 /// `read`, and one whose client takes nothing for so long with `write`; and where they have a log,
 /// each session is told on `err` as it begins and ends, with its number from 1, its user, its
-/// client's address, the lines answered behind the first, and the moment of its last reply that bore
-/// one. A fault of `err` itself is forgotten.
+/// client's address, the lines answered behind the first, and the moment of its last reply that
+/// bore one. A fault of `err` itself is forgotten.
 ///
 /// `Accept` where the listener is gone: no further session is taken, and those that run are ended
 /// by their clients. Of any other fault of accepting a session nothing is told, and it is tried
-/// again. `NoMemory` where a request for memory was refused or a thread could not be started, before
-/// the first session or behind the last.
+/// again. `NoMemory` where a request for memory was refused or a thread could not be started,
+/// before the first session or behind the last.
 pub fn serve_on<R, W>(
     rt: &R,
     alloc: Global,
@@ -249,15 +255,15 @@ pub fn serve_on<R, W>(
     chunk: usize,
     manners: Manners,
     err: &mut W,
-) -> Result<u64, ServeFault>
+) -> Result<Served, ServeFault>
 where
     R: Threads + Wait + Clock + Sync,
     W: Write + Send,
     requires workers { (0 < workers) × (workers ≤ 16) }
     requires some { 0 < chunk }
     requires small { chunk ≤ 64 }
-    ensures count { IfOk result (λ served. served ≡ sessions) }
-    ensures leaves { IfOk result (λ _. (world : World) × Leaves workers chunk world) }
+    ensures count { IfOk result (λ served. served.sessions ≡ sessions) }
+    ensures leaves { IfOk result (λ served. Leaves workers chunk served.system) }
 {
     let door = Mutex::new(Door::new(sessions));
     let log = SharedLog {
@@ -266,7 +272,12 @@ where
     };
     let idle = manners.idle;
     let system = serve_sessions(rt, alloc, listener, workers, chunk, &door, idle, &log)?;
-    // The process ends soon, and its memory goes back as a whole.
-    forget(system);
-    door.into_inner().served(sessions)
+    match door.into_inner().served(sessions) {
+        Ok(sessions) => Ok(Served { sessions, system }),
+        Err(fault) => {
+            // The process ends soon, and its memory goes back as a whole.
+            forget(system);
+            Err(fault)
+        }
+    }
 }

@@ -5,11 +5,13 @@ use Rattle.base_core.specs.Users.{same_user}
 use Rattle.base_core.specs.declared.name.Name.{Name}
 use Rattle.base_core.specs.declared.name.User.{User}
 use Rattle.base_core.specs.declared.value.Column.{Column}
+use Rattle.base_core.specs.declared.privilege.Kind.{Kind}
 use Rattle.base_core.specs.declared.privilege.Kind.TheVariants as kinds
 use Rattle.base_core.specs.declared.privilege.Atom.{Atom}
 use Rattle.base_core.specs.declared.lack.Lack.TheVariants as lacks
 use Rattle.base_core.specs.declared.limits.Limits.{Limits}
 use Rattle.base_core.specs.declared.condition.Assignment.{Assignment}
+use Rattle.base_core.specs.declared.condition.Condition.{Condition}
 use Rattle.reader_core.specs.declared.privilege.Privilege.{Privilege}
 use Rattle.reader_core.specs.declared.privilege.Privilege.TheVariants as privileges
 use Rattle.reader_core.specs.declared.statement.Statement.{Statement}
@@ -19,8 +21,9 @@ use Rattle.grants_core.specs.declared.grant.Ownership.{Ownership}
 use Rattle.grants_core.specs.Owners.{owner_of, owns}
 use Rattle.grants_core.specs.Content.{Content, gives}
 use Rattle.grants_core.proofs.OwnersLemmas.{AllByRecursion-append}
-use Rattle.monitor_core.specs.Atoms.{of_table, to_update, atoms_of_one, atoms_of}
-use Rattle.monitor_core.specs.Verdict.{State, Check, verdict, first_lack, each, require, is_table, columns_of, atoms_at, list_stands, holds_privilege, holds_grant_option, column_stands, column_takes, count_is_right, types_are_right, with_filter, room_for_change, room_for_grants, listed_columns_stand}
+use Rattle.base_core.specs.Privileges.{of_table, to_select, to_update}
+use Rattle.monitor_core.specs.Atoms.{columns_given, atoms_of_one, atoms_of}
+use Rattle.monitor_core.specs.Verdict.{State, Check, verdict, first_lack, each, require, is_table, columns_of, atoms_at, list_stands, holds_privilege, holds_grant_option, column_stands, column_takes, count_is_right, types_are_right, may_filter, room_for_change, room_for_grants, listed_columns_stand}
 use Rattle.system_core.specs.Standing.{AgreeOn, KeepsJournal}
 use Rattle.system_core.specs.Journal.{contents, rights_at, verdict_at}
 use Rattle.system_core.specs.declared.machine.event.Entry.{Entry}
@@ -32,11 +35,10 @@ all_map table f [] h = tt
 all_map table f (x ∷ xs) h = (h x, all_map table f xs h)
 
 of_one : (table : Name) (columns : List Column) (p : Privilege) → AllByRecursion (λ a. a.table ≡ table) (atoms_of_one table columns p)
-of_one table columns privileges.Select = (refl, tt)
+of_one table columns (privileges.Select list) = all_map table (to_select table) (columns_given columns list) (λ n. refl)
 of_one table columns privileges.Insert = (refl, tt)
 of_one table columns privileges.Delete = (refl, tt)
-of_one table columns (privileges.Update None) = all_map table (λ (c : Column). to_update table c.name) columns (λ c. refl)
-of_one table columns (privileges.Update (Some names)) = all_map table (to_update table) names (λ n. refl)
+of_one table columns (privileges.Update list) = all_map table (to_update table) (columns_given columns list) (λ n. refl)
 
 pub atoms-table : (table : Name) (columns : List Column) (ps : List Privilege) → AllByRecursion (λ a. a.table ≡ table) (atoms_of table columns ps)
 atoms-table table columns [] = tt
@@ -62,9 +64,15 @@ module _ (ts : List (Name × Contents)) (l : Limits) (m : ℕ) (c : Content) (os
   may_grant-alike : (atom : Atom) → owner_of os atom.table ≡ owner_of ps atom.table → holds_grant_option (by_owners ts l m c os) user atom ≡ holds_grant_option (by_owners ts l m c ps) user atom
   may_grant-alike atom h = ap (λ b. require (b || list_any (λ g. g.option && gives user atom g) c.in_force) (lacks.NoGrantOption user atom)) (owns-alike os ps user atom h)
 
-  sets-alike : (table : Name) (sets : List Assignment) → owner_of os table ≡ owner_of ps table → AllByRecursion (λ a. holds_privilege (by_owners ts l m c os) user (to_update table a.column) ≡ holds_privilege (by_owners ts l m c ps) user (to_update table a.column)) sets
-  sets-alike table [] h = tt
-  sets-alike table (a ∷ more) h = (holds-alike (to_update table a.column) h, sets-alike table more h)
+  kinds-alike : {A : Type 0} (kind : A → Kind) (table : Name) (xs : List A) → owner_of os table ≡ owner_of ps table → each xs (λ x. holds_privilege (by_owners ts l m c os) user (of_table table (kind x))) ≡ each xs (λ x. holds_privilege (by_owners ts l m c ps) user (of_table table (kind x)))
+  kinds-alike {A = A} kind table xs h = each-alike (λ (x : A). holds_privilege (by_owners ts l m c os) user (of_table table (kind x))) (λ x. holds_privilege (by_owners ts l m c ps) user (of_table table (kind x))) xs (all xs)
+    where
+      all : (xs : List A) → AllByRecursion (λ x. holds_privilege (by_owners ts l m c os) user (of_table table (kind x)) ≡ holds_privilege (by_owners ts l m c ps) user (of_table table (kind x))) xs
+      all [] = tt
+      all (x ∷ more) = (holds-alike (of_table table (kind x)) h, all more)
+
+  filter-alike : (table : Name) (filter : List Condition) → owner_of os table ≡ owner_of ps table → may_filter (by_owners ts l m c os) user table filter ≡ may_filter (by_owners ts l m c ps) user table filter
+  filter-alike table filter h = kinds-alike (λ (q : Condition). kinds.Select q.column) table filter h
 
   -- only the owners of tables that stand count
   verdict-owners : (s : Statement) → ((name : Name) → is_table ts name ≡ true → owner_of os name ≡ owner_of ps name) → verdict (by_owners ts l m c os) user s ≡ verdict (by_owners ts l m c ps) user s
@@ -73,18 +81,20 @@ module _ (ts : List (Name × Contents)) (l : Limits) (m : ℕ) (c : Content) (os
       guarded (is_table ts table) (lacks.NoTable table) _ _ (λ stands.
       ap (λ x. first_lack (x ∷ count_is_right (by_owners ts l m c ps) table values ∷ types_are_right (by_owners ts l m c ps) table values ∷ room_for_change (by_owners ts l m c ps) ∷ [])) (holds-alike (of_table table kinds.Insert) (h table stands)))
   verdict-owners (statements.Select list table filter) h =
+      let two : Check → Check → Check = λ x y. first_lack (list_stands (by_owners ts l m c ps) table list ∷ each filter (λ q. column_stands (by_owners ts l m c ps) table q.column) ∷ x ∷ y ∷ each filter (λ q. column_takes (by_owners ts l m c ps) table q.column q.literal) ∷ []) in
       guarded (is_table ts table) (lacks.NoTable table) _ _ (λ stands.
-      ap (λ x. first_lack (list_stands (by_owners ts l m c ps) table list ∷ each filter (λ q. column_stands (by_owners ts l m c ps) table q.column) ∷ x ∷ each filter (λ q. column_takes (by_owners ts l m c ps) table q.column q.literal) ∷ [])) (holds-alike (of_table table kinds.Select) (h table stands)))
+      ap (λ x. two x (may_filter (by_owners ts l m c os) user table filter)) (kinds-alike kinds.Select table (columns_given (columns_of ts table) list) (h table stands))
+      ∙ ap (two (each (columns_given (columns_of ts table) list) (λ column. holds_privilege (by_owners ts l m c ps) user (to_select table column)))) (filter-alike table filter (h table stands)))
   verdict-owners (statements.Delete table filter) h =
-      let two : Check → Check → Check = λ x y. first_lack (each filter (λ q. column_stands (by_owners ts l m c ps) table q.column) ∷ x ∷ with_filter filter y ∷ each filter (λ q. column_takes (by_owners ts l m c ps) table q.column q.literal) ∷ room_for_change (by_owners ts l m c ps) ∷ []) in
+      let two : Check → Check → Check = λ x y. first_lack (each filter (λ q. column_stands (by_owners ts l m c ps) table q.column) ∷ x ∷ y ∷ each filter (λ q. column_takes (by_owners ts l m c ps) table q.column q.literal) ∷ room_for_change (by_owners ts l m c ps) ∷ []) in
       guarded (is_table ts table) (lacks.NoTable table) _ _ (λ stands.
-      ap (λ x. two x (holds_privilege (by_owners ts l m c os) user (of_table table kinds.Select))) (holds-alike (of_table table kinds.Delete) (h table stands))
-      ∙ ap (two (holds_privilege (by_owners ts l m c ps) user (of_table table kinds.Delete))) (holds-alike (of_table table kinds.Select) (h table stands)))
+      ap (λ x. two x (may_filter (by_owners ts l m c os) user table filter)) (holds-alike (of_table table kinds.Delete) (h table stands))
+      ∙ ap (two (holds_privilege (by_owners ts l m c ps) user (of_table table kinds.Delete))) (filter-alike table filter (h table stands)))
   verdict-owners (statements.Update table sets filter) h =
-      let two : Check → Check → Check = λ x y. first_lack (each sets (λ a. column_stands (by_owners ts l m c ps) table a.column) ∷ each filter (λ q. column_stands (by_owners ts l m c ps) table q.column) ∷ x ∷ with_filter filter y ∷ each sets (λ a. column_takes (by_owners ts l m c ps) table a.column a.value) ∷ each filter (λ q. column_takes (by_owners ts l m c ps) table q.column q.literal) ∷ room_for_change (by_owners ts l m c ps) ∷ []) in
+      let two : Check → Check → Check = λ x y. first_lack (each sets (λ a. column_stands (by_owners ts l m c ps) table a.column) ∷ each filter (λ q. column_stands (by_owners ts l m c ps) table q.column) ∷ x ∷ y ∷ each sets (λ a. column_takes (by_owners ts l m c ps) table a.column a.value) ∷ each filter (λ q. column_takes (by_owners ts l m c ps) table q.column q.literal) ∷ room_for_change (by_owners ts l m c ps) ∷ []) in
       guarded (is_table ts table) (lacks.NoTable table) _ _ (λ stands.
-      ap (λ x. two x (holds_privilege (by_owners ts l m c os) user (of_table table kinds.Select))) (each-alike (λ (a : Assignment). holds_privilege (by_owners ts l m c os) user (to_update table a.column)) (λ a. holds_privilege (by_owners ts l m c ps) user (to_update table a.column)) sets (sets-alike table sets (h table stands)))
-      ∙ ap (two (each sets (λ a. holds_privilege (by_owners ts l m c ps) user (to_update table a.column)))) (holds-alike (of_table table kinds.Select) (h table stands)))
+      ap (λ x. two x (may_filter (by_owners ts l m c os) user table filter)) (kinds-alike (λ (a : Assignment). kinds.Update a.column) table sets (h table stands))
+      ∙ ap (two (each sets (λ a. holds_privilege (by_owners ts l m c ps) user (to_update table a.column)))) (filter-alike table filter (h table stands)))
   verdict-owners (statements.Grant asked table users option) h =
       guarded (is_table ts table) (lacks.NoTable table) _ _ (λ stands.
       ap (λ x. first_lack (listed_columns_stand (by_owners ts l m c ps) table asked ∷ x ∷ room_for_change (by_owners ts l m c ps) ∷ each (atoms_at ts table asked) (room_for_grants (by_owners ts l m c ps) users) ∷ []))

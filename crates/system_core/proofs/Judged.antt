@@ -80,7 +80,7 @@ sound-at_point (Some point) check h = h point
 sound-export : (past now : List Entry) (number : ℕ) (user : User) (only : Option Name) → Sound (export_check past now number user only)
 sound-export past now number user None = tt
 sound-export past now number user (Some table) =
-    sound-first (stood_then past table number ∷ could_select_then past user table ∷ may_select_now now user table ∷ []) (sound-require _ _ tt, (sound-require _ _ tt, (sound-require _ _ tt, tt)))
+    sound-first (stood_then past table number ∷ could_select_then past user table ∷ may_select_now past now user table ∷ []) (sound-require _ _ tt, (sound-require _ _ tt, (sound-require _ _ tt, tt)))
 
 sound-checkpoints : (w : World) (user : User) (asked : Statement) → AllByRecursion Sound (checkpoint_checks w user asked)
 sound-checkpoints w user (statements.CreateTable table columns) = tt

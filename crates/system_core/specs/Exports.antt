@@ -1,12 +1,13 @@
 -- What an export tells, by the journal at its checkpoint's point and the journal at the request.
-use Rattle.std.specs.Prelude.{ℕ, Bool, if◌then◌else◌, List, [], ◌∷◌, ◌++◌, length, map, flat_map, find, take, Option, Some, None, option_to_list, codes}
+use Rattle.std.specs.Prelude.{ℕ, Bool, ◌&&◌, if◌then◌else◌, List, [], ◌∷◌, ◌++◌, length, map, flat_map, find, take, Option, Some, None, option_to_list, codes}
 use Rattle.base_core.specs.Words.{same_name}
 use Rattle.base_core.specs.declared.name.Name.{Name}
 use Rattle.base_core.specs.declared.name.User.{User}
+use Rattle.base_core.specs.declared.value.Column.{Column}
 use Rattle.base_core.specs.declared.value.Moment.{Moment}
 use Rattle.tables_core.specs.Contents.{Contents}
 use Rattle.export_core.specs.Record.{record_line, row_line}
-use Rattle.export_core.specs.Export.{holds_now, withheld_line, end_line}
+use Rattle.export_core.specs.Export.{holds_now, cut, is_any, withheld_line, end_line}
 use Rattle.export_core.specs.Ticket.{Exporting}
 use Rattle.system_core.specs.declared.machine.event.Entry.{Entry}
 use Rattle.system_core.specs.Journal.{contents, rights_at}
@@ -15,25 +16,35 @@ use Rattle.system_core.specs.Journal.{contents, rights_at}
 abbrev pub journal_at : List Entry → Moment → List Entry
 journal_at journal point = take point.0 journal
 
--- whether the user holds SELECT of the table after the journal: he owns it, or a grant in force gives it
--- to him
-abbrev pub may_select : List Entry → User → Name → Bool
-may_select journal user table = holds_now (rights_at journal) user table
+-- whether the user holds SELECT of the table's column after the journal: he owns the table, or a grant in
+-- force gives it to him
+abbrev pub may_select : List Entry → User → Name → Name → Bool
+may_select journal user table column = holds_now (rights_at journal) user table column
 
--- a table's name and columns, and its rows
-abbrev pub table_lines : Name × Contents → List (List ℕ)
-table_lines t =
-    record_line (codes "table" ∷ t.0 ∷ map (λ c. c.name) t.1.columns)
-    ∷ map (λ numbered. row_line numbered.1.values) t.1.rows
+-- of each of a table's columns, whether the user may select it by the journal of the point
+abbrev pub could_select : List Entry → User → Name → List Column → List Bool
+could_select past user table columns = map (λ c. may_select past user table c.name) columns
 
--- What is told of a table of the point: its lines, where the user may select from it by both
--- journals, that of the point (past) and that of the request (now). Else that it is withheld, and
--- where SELECT is missing: at the point where it is at both.
+-- of each, whether he may by both journals, that of the point (past) and that of the request (now)
+abbrev pub shown : (past now : List Entry) → User → Name → List Column → List Bool
+shown past now user table columns =
+    map (λ c. may_select past user table c.name && may_select now user table c.name) columns
+
+-- a table's name and columns, and its rows, each cut to the columns that are shown
+abbrev pub table_lines : List Bool → Name × Contents → List (List ℕ)
+table_lines marks t =
+    record_line (codes "table" ∷ t.0 ∷ cut marks (map (λ c. c.name) t.1.columns))
+    ∷ map (λ numbered. row_line (cut marks numbered.1.values)) t.1.rows
+
+-- What is told of a table of the point: its lines, cut to the columns that the user may select by
+-- both journals. Where there is none, that it is withheld, and why: he could select no column at the
+-- point, or may select none of those now.
 abbrev pub table_told : (past now : List Entry) → User → Name × Contents → List (List ℕ)
 table_told past now user t =
-    if may_select past user t.0
-    then (if may_select now user t.0 then table_lines t else withheld_line t.0 (codes "now") ∷ [])
-    else withheld_line t.0 (codes "point") ∷ []
+    let marks = shown past now user t.0 t.1.columns in
+    let could = could_select past user t.0 t.1.columns in
+    if is_any marks then table_lines marks t
+    else withheld_line t.0 (if is_any could then codes "now" else codes "point") ∷ []
 
 -- the tables of an export: all, in the order of their creation, or that of the name alone
 abbrev pub tables_told : List (Name × Contents) → Option Name → List (Name × Contents)

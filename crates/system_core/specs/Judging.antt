@@ -10,10 +10,11 @@ use Rattle.base_core.specs.declared.lack.Lack.TheVariants as lacks
 use Rattle.base_core.specs.declared.lack.What.TheVariants as whats
 use Rattle.reader_core.specs.declared.statement.Statement.{Statement}
 use Rattle.reader_core.specs.declared.statement.Statement.TheVariants as statements
-use Rattle.monitor_core.specs.Verdict.{Check, require, first_lack, is_table}
+use Rattle.export_core.specs.Export.{is_any}
+use Rattle.monitor_core.specs.Verdict.{Check, require, first_lack, is_table, columns_of}
 use Rattle.system_core.specs.declared.machine.event.Entry.{Entry}
 use Rattle.system_core.specs.Journal.{contents, verdict_at}
-use Rattle.system_core.specs.Exports.{journal_at, may_select}
+use Rattle.system_core.specs.Exports.{journal_at, could_select, shown}
 use Rattle.system_core.specs.World.{World, moment_of}
 
 -- the point of the finished checkpoint of this number, if it is kept
@@ -38,21 +39,25 @@ abbrev pub stood_then : List Entry → Name → ℕ → Check
 stood_then past table number =
     require (is_table (contents past) table) (lacks.NoTableThen table number)
 
+-- the user could select a column of the table at the point
 abbrev pub could_select_then : List Entry → User → Name → Check
 could_select_then past user table =
-    require (may_select past user table) (lacks.NoSelectThen user table)
+    require (is_any (could_select past user table (columns_of (contents past) table)))
+    (lacks.NoSelectThen user table)
 
-abbrev pub may_select_now : List Entry → User → Name → Check
-may_select_now now user table = require (may_select now user table) (lacks.NoSelectNow user table)
+-- he could select one then that he may select now
+abbrev pub may_select_now : (past now : List Entry) → User → Name → Check
+may_select_now past now user table =
+    require (is_any (shown past now user table (columns_of (contents past) table)))
+    (lacks.NoSelectNow user table)
 
 -- of a checkpoint all may be exported, by the journals at its point and now; a table alone, where
--- it stood
--- at the point, the user could select from it then, and may now
+-- it stood at the point, and the user could select a column of it then that he may select now
 abbrev pub export_check : (past now : List Entry) → ℕ → User → Option Name → Check
 export_check past now number user None = Ok tt
 export_check past now number user (Some table) =
     first_lack (stood_then past table number ∷ could_select_then past user table
-    ∷ may_select_now now user table ∷ [])
+    ∷ may_select_now past now user table ∷ [])
 
 -- ---- the checks of checkpoints, in their order
 abbrev pub checkpoint_checks : World → User → Statement → List Check

@@ -15,10 +15,10 @@ use Rattle.grants_core.specs.declared.grant.Grant.{Grant}
 use Rattle.grants_core.specs.History.{granted}
 use Rattle.system_core.specs.declared.machine.event.Entry.{Entry}
 use Rattle.monitor_core.specs.Verdict.{Check, require, first_lack, is_table, columns_of}
-use Rattle.capture_core.specs.Image.{image, row_total, has}
+use Rattle.capture_core.specs.Image.{image, row_total, has, columns_in}
 use Rattle.capture_core.specs.Capturing.{Capturing, InProgress, CanGoOn, in_progress, newly_begun, taken_off}
 use Rattle.capture_core.specs.declared.image.Image.{Image}
-use Rattle.export_core.specs.Export.{held_then, holds_now}
+use Rattle.export_core.specs.Export.{held, listed, is_any}
 use Rattle.system_core.specs.Journal.{contents, changes, rights_at, IsLawful}
 use Rattle.system_core.specs.Exports.{journal_at}
 use Rattle.system_core.specs.World.{World, ActiveCheckpoint, AreSound}
@@ -145,7 +145,9 @@ image_check image now user None = Ok tt
 image_check image now user (Some table) =
     first_lack (
     require (has image table) (lacks.NoTableThen table image.number)
-    ∷ require (held_then image user table) (lacks.NoSelectThen user table)
-    ∷ require (holds_now now user table) (lacks.NoSelectNow user table)
+    ∷ require (is_any (held image user table (columns_in image table)))
+    (lacks.NoSelectThen user table)
+    ∷ require (is_any (listed image now user table (columns_in image table)))
+    (lacks.NoSelectNow user table)
     ∷ []
     )

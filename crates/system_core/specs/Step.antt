@@ -1,10 +1,7 @@
 -- The steps of the machine, from one world to the next.
 use Rattle.std.specs.Prelude.{ℕ, ◌≡◌, ◌+◌, ◌-◌, ◌<◌, ◌≤◌, true, List, [], ◌∷◌, ◌++◌, map, if◌then◌else◌, Result, Ok, Err, Option, Some, None, option_map, IsSomeAnd}
-use Rattle.std.specs.Option.{unwrap_or}
 use Rattle.base_core.specs.Lacks.{is_denial}
 use Rattle.base_core.specs.declared.name.User.{User}
-use Rattle.base_core.specs.declared.name.Name.{Name}
-use Rattle.base_core.specs.declared.value.Column.{Column}
 use Rattle.base_core.specs.declared.value.Row.{Row}
 use Rattle.base_core.specs.declared.value.Moment.{Moment}
 use Rattle.base_core.specs.declared.lack.Lack.{Lack}
@@ -13,6 +10,7 @@ use Rattle.base_core.specs.declared.lack.Lack.TheVariants as lacks
 use Rattle.reader_core.specs.declared.statement.Statement.{Statement}
 use Rattle.reader_core.specs.declared.statement.Statement.TheVariants as statements
 use Rattle.tables_core.specs.Contents.{selected_rows, table_of}
+use Rattle.monitor_core.specs.Atoms.{columns_given}
 use Rattle.monitor_core.specs.Verdict.{Check, columns_of, is_change}
 use Rattle.catalogue_core.specs.Kept.{last_eight}
 use Rattle.export_core.specs.Ticket.{Exporting}
@@ -39,10 +37,6 @@ change_reply at (Ok made) = replies.Done made
 change_reply at (Err _) = replies.Refused at lacks.NoMemory
 
 -- ---- answers that change nothing
--- the columns that a query gives: those listed, or with no list all, in table order
-abbrev pub columns_given : List Column → Option (List Name) → List Name
-columns_given columns list = unwrap_or list (map (λ c. c.name) columns)
-
 -- the rows that answer a query: those of the table that the filter chooses, cut to the columns given
 abbrev pub IsAnswer : List Entry → Statement → List Row → Type 0
 IsAnswer journal (statements.Select list table filter) rows =

@@ -35,8 +35,8 @@ pub fn lacks_are_answered()
         → ⊥ }
 {}
 
-/// A step enters a statement that was done in the journal, by its pass and user, and else nothing. No
-/// checkpoint is unbegun, and chunk and limits stay.
+/// A step enters a statement that was done in the journal, by its pass and user, and else nothing.
+/// No checkpoint is unbegun, and chunk and limits stay.
 pub fn steps_enter_what_was_done()
     ensures { (old new : World) (event : Event) (reply : Reply)
         → Step old event reply new

@@ -1,7 +1,7 @@
 //! The machine: what an event makes of the journal, the tables, the rights and the checkpoints.
 //!
-//! `ledger` has the accepted changes and what they make, `checkpoints` what is asked of those that are kept,
-//! and `system` joins the two: its `step` is a step of the machine.
+//! `ledger` has the accepted changes and what they make, `checkpoints` what is asked of those that
+//! are kept, and `system` joins the two: its `step` is a step of the machine.
 
 pub mod atoms;
 pub mod carry;

@@ -46,7 +46,8 @@ fn say(alloc: Global, system: &mut System, user: &User, line: &[u8]) -> bool {
 }
 
 /// The table, and so many rows, by a core without a lock.
-// What may fail stands in a function that does not own the core, so that it is dropped in one place.
+// What may fail stands in a function that does not own the core, so that it is dropped in one
+// place.
 fn fill(alloc: Global, system: &mut System, user: &User, count: u64) -> bool {
     if !say(alloc, system, user, CREATE) {
         return false;

@@ -1,6 +1,6 @@
 //! The judge of each kind of statement: it makes its checks in their order, and answers the first
-//! lack. Of INSERT, SELECT, DELETE and UPDATE the table is looked up once, and their checks go by its
-//! columns.
+//! lack. Of INSERT, SELECT, DELETE and UPDATE the table is looked up once, and their checks go by
+//! its columns.
 ghost use Rattle.std.specs.Prelude.{◌≡◌, ℕ, ◌∷◌, [], is_ok};
 ghost use Rattle.base_core.specs.declared.name.User.{User};
 ghost use Rattle.reader_core.specs.declared.statement.Statement.TheVariants as statements;
@@ -62,12 +62,12 @@ impl<A: Authority> Judge<'_, A> {
     ) -> Result<(), Lack>
         ensures { result ≡ verdict self.now user.now (statements.Select list.now table filter.now) }
     {
-        let kind = Kind::Select;
-        let atom = Atom { table, kind };
         let columns = self.columns(table)?;
         self.list_stands(table, columns, list)?;
         self.columns_stand(table, columns, filter)?;
-        self.may(user, atom)?;
+        let is_owner = self.owns(user, table);
+        self.may_query(user, table, is_owner, columns, list)?;
+        self.may_select(user, table, is_owner, filter)?;
         self.columns_take(table, columns, filter)
     }
 
@@ -76,14 +76,10 @@ impl<A: Authority> Judge<'_, A> {
     {
         let kind = Kind::Delete;
         let atom = Atom { table, kind };
-        let read = Atom {
-            table,
-            kind: Kind::Select,
-        };
         let columns = self.columns(table)?;
         self.columns_stand(table, columns, filter)?;
         self.may(user, atom)?;
-        self.may_filter(user, read, filter)?;
+        self.may_filter(user, table, filter)?;
         self.columns_take(table, columns, filter)?;
         self.room_for_change()
     }
@@ -97,13 +93,11 @@ impl<A: Authority> Judge<'_, A> {
     ) -> Result<(), Lack>
         ensures { result ≡ verdict self.now user.now (statements.Update table sets.now filter.now) }
     {
-        let kind = Kind::Select;
-        let atom = Atom { table, kind };
         let columns = self.columns(table)?;
         self.columns_stand(table, columns, sets)?;
         self.columns_stand(table, columns, filter)?;
         self.may_update(user, table, sets)?;
-        self.may_filter(user, atom, filter)?;
+        self.may_filter(user, table, filter)?;
         self.columns_take(table, columns, sets)?;
         self.columns_take(table, columns, filter)?;
         self.room_for_change()

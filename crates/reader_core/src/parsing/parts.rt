@@ -60,7 +60,7 @@ impl Reader<'_> {
         Ok(names)
     }
 
-    /// The columns of UPDATE as a privilege, or None for all.
+    /// The columns of SELECT or UPDATE as a privilege, or None for all.
     fn columns(&mut self, alloc: Global) -> Result<Option<Distinct<Name, MAX_ITEMS>>, ReadFault>
         ensures { Reads (optional in_brackets) (λ columns. columns_say columns)
             result self.old self.new }
@@ -80,7 +80,10 @@ impl Reader<'_> {
         ensures well_formed { IfOk result (λ p. IsWellFormedPrivilege p) }
     {
         match word {
-            PrivilegeWord::Select => Ok(Privilege::Select),
+            PrivilegeWord::Select => {
+                let columns = self.columns(alloc)?;
+                Ok(Privilege::Select(columns))
+            }
             PrivilegeWord::Insert => Ok(Privilege::Insert),
             PrivilegeWord::Delete => Ok(Privilege::Delete),
             PrivilegeWord::Update => {

@@ -51,9 +51,9 @@ fn write_said<W: Sink>(buffer: &mut ReplyBuffer, said: Said, writer: &mut W) -> 
     }
 }
 
-/// Lets the checkpointer do a step, and writes what is said of a line and then what is to be said of
-/// the step: where it found no memory, that the checkpoint is given up. Both are written after the
-/// step, so that a writer that fails leaves none undone.
+/// Lets the checkpointer do a step, and writes what is said of a line and then what is to be said
+/// of the step: where it found no memory, that the checkpoint is given up. Both are written after
+/// the step, so that a writer that fails leaves none undone.
 fn tell<W: Sink>(
     buffer: &mut ReplyBuffer,
     system: &mut System,

@@ -56,10 +56,11 @@ impl LineServer for ScriptServer {
 
 /// Answers the lines that the reader gives, one by one, until its end, and gives the core.
 ///
-/// A line is `user: statement`, and after each the checkpointer does one step, of as many records as the
-/// chunk says, from 1 to 64. What was answered to the lines read is handed on before more is read, and at
-/// the end. `Read` and `Write` are answered exactly where the reader or the writer has failed, `Bound`
-/// where 2^32 bytes were read and the end had not come, and `NoMemory` before the first read.
+/// A line is `user: statement`, and after each the checkpointer does one step, of as many records
+/// as the chunk says, from 1 to 64. What was answered to the lines read is handed on before more is
+/// read, and at the end. `Read` and `Write` are answered exactly where the reader or the writer has
+/// failed, `Bound` where 2^32 bytes were read and the end had not come, and `NoMemory` before the
+/// first read.
 pub fn script<S: Source, W: Sink>(
     alloc: Global,
     reader: &mut S,

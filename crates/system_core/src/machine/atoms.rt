@@ -1,22 +1,47 @@
 //! The atoms that privileges on a table are.
 ghost use Rattle.std.specs.Prelude.{◌≡◌, ◌≤◌, ◌+◌, ◌∷◌, ◌++◌, [], length, map, OnOk, IfOk};
-ghost use Rattle.monitor_core.specs.Atoms.{of_table, to_update, atoms_of_one, atoms_of};
+ghost use Rattle.monitor_core.specs.Atoms.{columns_given, of_column, atoms_of_one, atoms_of};
+ghost use Rattle.base_core.specs.Privileges.{of_table};
 ghost use Rattle.system_core.specs.Carrying.{most_columns};
 
-use base_core::{Atom, Column, Kind, Name, Named, NoMemory};
-use reader_core::{Privilege, Privileges};
+use base_core::{Atom, Column, Distinct, Kind, Name, Named, NoMemory};
+use monitor_core::ByColumn;
+use reader_core::{MAX_ITEMS, Privilege, Privileges};
 use std::alloc::Global;
 
-// Appends the privilege to update each of the columns.
-fn push_updates<T: Named>(atoms: &mut Vec<Atom>, table: Name, items: &[T]) -> Result<(), NoMemory>
+// Appends the privilege of each of the columns.
+fn push_columns<T: Named>(
+    atoms: &mut Vec<Atom>,
+    table: Name,
+    by: ByColumn,
+    items: &[T],
+) -> Result<(), NoMemory>
     ensures { OnOk result (atoms.new.items
-        ≡ atoms.old.items ++ map (λ item. to_update table (T.name_of item)) items.now) }
+        ≡ atoms.old.items ++ map (λ item. of_column by table (T.name_of item)) items.now) }
 {
     for item in items {
-        let kind = Kind::Update(item.name());
-        atoms.push(Atom { table, kind })?;
+        atoms.push(by.of_column(table, item.name()))?;
     }
     Ok(())
+}
+
+// Appends the privilege of each column listed, or with no list of each of these.
+fn push_listed(
+    atoms: &mut Vec<Atom>,
+    table: Name,
+    columns: &[Column],
+    by: ByColumn,
+    list: &Option<Distinct<Name, MAX_ITEMS>>,
+) -> Result<(), NoMemory>
+    requires { length columns.now ≤ most_columns }
+    ensures atoms { OnOk result (atoms.new.items
+        ≡ atoms.old.items ++ map (of_column by table) (columns_given columns.now list.now)) }
+    ensures few { OnOk result (length atoms.new.items ≤ length atoms.old.items + most_columns) }
+{
+    match list {
+        None => push_columns(atoms, table, by, columns),
+        Some(names) => push_columns(atoms, table, by, names.as_slice()),
+    }
 }
 
 fn push_one(atoms: &mut Vec<Atom>, table: Name, kind: Kind) -> Result<(), NoMemory>
@@ -39,13 +64,10 @@ fn push_atoms(
     ensures few { OnOk result (length atoms.new.items ≤ length atoms.old.items + most_columns) }
 {
     match privilege {
-        Privilege::Select => push_one(atoms, table, Kind::Select),
+        Privilege::Select(list) => push_listed(atoms, table, columns, ByColumn::Select, list),
         Privilege::Insert => push_one(atoms, table, Kind::Insert),
         Privilege::Delete => push_one(atoms, table, Kind::Delete),
-        Privilege::Update(list) => match list {
-            None => push_updates(atoms, table, columns),
-            Some(names) => push_updates(atoms, table, names.as_slice()),
-        },
+        Privilege::Update(list) => push_listed(atoms, table, columns, ByColumn::Update, list),
     }
 }
 

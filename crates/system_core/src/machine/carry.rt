@@ -118,8 +118,9 @@ fn revoke_option(
     Ok(())
 }
 
-/// Carries out a change, of which the moment before it is given. `NoMemory` where a request for memory
-/// was refused, and then nothing has changed, but that a name that is no table may have an owner.
+/// Carries out a change, of which the moment before it is given. `NoMemory` where a request for
+/// memory was refused, and then nothing has changed, but that a name that is no table may have an
+/// owner.
 pub fn carry_out(
     alloc: Global,
     tables: &mut Tables,

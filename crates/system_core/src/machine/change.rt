@@ -84,8 +84,8 @@ fn change_of(alloc: Global, tables: &Tables, entry: &Entry) -> Result<Change, No
     }
 }
 
-/// What each of the entries changes of rights, at these tables. `NoMemory` where a request for memory
-/// was refused.
+/// What each of the entries changes of rights, at these tables. `NoMemory` where a request for
+/// memory was refused.
 pub fn changes_of(
     alloc: Global,
     tables: &Tables,

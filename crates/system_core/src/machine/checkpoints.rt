@@ -1,16 +1,19 @@
 //! The checkpoints that CHECKPOINTS lists, and what an export of one of them needs.
-ghost use Rattle.std.specs.Prelude.{◌≡◌, ◌++◌, ◌∷◌, [], map, option_map, Some, IfOk, OnOk};
+ghost use Rattle.std.specs.List.{list_any};
+ghost use Rattle.std.specs.Prelude.{◌≡◌, ◌&&◌, ◌++◌, ◌∷◌, [], map, option_map, Some, IfOk, OnOk};
 ghost use Rattle.base_core.specs.declared.lack.Lack.TheVariants as lacks;
+ghost use Rattle.export_core.specs.Export.{held_then, holds_now, held, listed, is_any};
 ghost use Rattle.system_core.specs.Judging.{moment_for};
 ghost use Rattle.system_core.specs.Standing.{image_check};
 ghost use Rattle.system_core.specs.Step.{active_listed};
 ghost use Rattle.system_core.specs.declared.machine.event.Checkpoint.TheVariants as checkpoints;
 
 use crate::machine::event::Checkpoint;
-use base_core::{Atom, Kind, Lack, Moment, Name, NoMemory, Sequence, User};
+use base_core::{Column, Lack, Moment, Name, NoMemory, Sequence, User};
 use capture_core::{Capture, Image};
 use catalogue_core::Catalogue;
 use grants_core::Authority;
+use monitor_core::ByColumn;
 use std::alloc::Global;
 
 fn kept_entry(kept: &(u64, Moment)) -> Checkpoint
@@ -51,8 +54,8 @@ fn push_active(
     Ok(())
 }
 
-/// The checkpoints that are kept, the oldest first, and then the active one. `NoMemory` where a request
-/// for memory was refused.
+/// The checkpoints that are kept, the oldest first, and then the active one. `NoMemory` where a
+/// request for memory was refused.
 pub fn listed(
     alloc: Global,
     catalogue: &Catalogue,
@@ -70,8 +73,55 @@ pub fn listed(
     Ok(Sequence::from_vec(entries))
 }
 
-/// Whether the user may export this table alone: it stood at the image's point, he held SELECT of it
-/// then, and he holds it now. Else the first lack.
+fn any_held(image: &Image, user: &User, table: Name, columns: &[Column]) -> bool
+    ensures { result
+        ≡ list_any (λ c. held_then image.now user.now table c.name) columns.now }
+{
+    columns.iter().any(|column| image.holds(*user, &ByColumn::Select.of_column(table, column.name)))
+}
+
+// Whether the user held SELECT of one of the columns at the image's point.
+fn held_any(image: &Image, user: &User, table: Name, columns: &[Column]) -> bool
+    ensures { result ≡ is_any (held image.now user.now table columns.now) }
+{
+    any_held(image, user, table, columns)
+}
+
+fn any_listed<A: Authority>(
+    image: &Image,
+    rights: &A,
+    user: &User,
+    table: Name,
+    columns: &[Column],
+) -> bool
+    ensures { result
+        ≡ list_any
+        (λ c. held_then image.now user.now table c.name
+        && holds_now (A.content rights.now) user.now table c.name)
+        columns.now }
+{
+    columns.iter().any(|column| {
+        let atom = ByColumn::Select.of_column(table, column.name);
+        image.holds(*user, &atom) && rights.holds(*user, &atom)
+    })
+}
+
+// Whether he held SELECT of one of them then that he holds now.
+fn holds_any<A: Authority>(
+    image: &Image,
+    rights: &A,
+    user: &User,
+    table: Name,
+    columns: &[Column],
+) -> bool
+    ensures { result
+        ≡ is_any (listed image.now (A.content rights.now) user.now table columns.now) }
+{
+    any_listed(image, rights, user, table, columns)
+}
+
+/// Whether the user may export this table alone: it stood at the image's point, and he held SELECT
+/// of a column of it then that he holds now. Else the first lack.
 fn may_export_table<A: Authority>(
     image: &Image,
     rights: &A,
@@ -80,27 +130,24 @@ fn may_export_table<A: Authority>(
 ) -> Result<(), Lack>
     ensures { result ≡ image_check image.now (A.content rights.now) user.now (Some table) }
 {
-    let atom = Atom {
-        table,
-        kind: Kind::Select,
-    };
+    let columns = image.columns(table);
     if !image.has(table) {
         return Err(Lack::NoTableThen {
             table,
             number: image.number,
         });
     }
-    if !image.holds(*user, &atom) {
+    if !held_any(image, user, table, columns) {
         return Err(Lack::NoSelectThen { user: *user, table });
     }
-    if !rights.holds(*user, &atom) {
+    if !holds_any(image, rights, user, table, columns) {
         return Err(Lack::NoSelectNow { user: *user, table });
     }
     Ok(())
 }
 
-/// Whether the user may export the image: all of it, or the table alone that is named. Else the first
-/// lack.
+/// Whether the user may export the image: all of it, or the table alone that is named. Else the
+/// first lack.
 pub fn may_export<A: Authority>(
     image: &Image,
     rights: &A,
@@ -115,8 +162,8 @@ pub fn may_export<A: Authority>(
     }
 }
 
-/// The moment that a lack of an export bears: the point, where it is of what was missing then, and else
-/// now.
+/// The moment that a lack of an export bears: the point, where it is of what was missing then, and
+/// else now.
 pub fn judged_at(point: Moment, now: Moment, lack: &Lack) -> Moment
     ensures { result ≡ moment_for point now lack.now }
 {

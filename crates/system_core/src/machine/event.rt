@@ -6,7 +6,8 @@ use base_core::{Lack, Moment, NoMemory, Row, Sequence, User};
 use export_core::Ticket;
 use reader_core::Statement;
 
-/// An accepted change: through which pass, by whom, and what. Entry m, counted from 1, made moment m.
+/// An accepted change: through which pass, by whom, and what. Entry m, counted from 1, made moment
+/// m.
 #[derive(Drop)]
 pub struct Entry {
     pub pass: u64,

@@ -6,7 +6,7 @@ ghost use Rattle.grants_core.specs.History.{in_force_after};
 ghost use Rattle.monitor_core.specs.Verdict.{columns_of, is_change, allowed_by};
 ghost use Rattle.capture_core.specs.Image.{row_total};
 ghost use Rattle.system_core.specs.Journal.{IsLawful, verdict_at, contents, changes, rights_at};
-ghost use Rattle.system_core.specs.Step.{columns_given};
+ghost use Rattle.monitor_core.specs.Atoms.{columns_given};
 ghost use Rattle.capture_core.specs.Capturing.{begin_lack, CanGoOn, TellsProgress};
 ghost use Rattle.system_core.specs.Standing.{AgreeOn, database_of, checkpointing, after_begin, after_step};
 
@@ -23,7 +23,8 @@ use std::alloc::{AllocError, Global};
 use std::marker::Model;
 use tables_core::Tables;
 
-/// Accepted changes, and what they make. Contracts see the journal, and the limits that it is judged by.
+/// Accepted changes, and what they make. Contracts see the journal, and the limits that it is
+/// judged by.
 #[derive(Drop)]
 pub struct Ledger {
     alloc: Global,
@@ -142,16 +143,16 @@ impl Ledger {
         &self.rights
     }
 
-    /// The accepted changes, each as what it changes of rights. `NoMemory` where a request for memory
-    /// was refused.
+    /// The accepted changes, each as what it changes of rights. `NoMemory` where a request for
+    /// memory was refused.
     pub fn changes(&self) -> Result<Vec<Change>, NoMemory>
         ensures { IfOk result (λ found. found.items ≡ changes self.now.journal) }
     {
         changes_of(self.alloc, &self.tables, self.journal.as_slice())
     }
 
-    /// How many grants are in force, if they are exactly those that a replay of the journal leaves in
-    /// force, and else None. They always are. `NoMemory` where a request for memory was refused.
+    /// How many grants are in force, if they are exactly those that a replay of the journal leaves
+    /// in force, and else None. They always are. `NoMemory` where a request for memory was refused.
     pub fn audit(&self) -> Result<Option<usize>, NoMemory>
         ensures { IfOk result
             (λ found. found ≡ Some (length (in_force_after (changes self.now.journal)))) }
@@ -186,8 +187,8 @@ impl Ledger {
         allows(tables, rights, &self.limits, user, statement, moment)
     }
 
-    /// Carries out an allowed change, and enters it. `NoMemory` where a request for memory was refused:
-    /// then nothing has changed.
+    /// Carries out an allowed change, and enters it. `NoMemory` where a request for memory was
+    /// refused: then nothing has changed.
     pub fn change(&mut self, entry: Entry) -> Result<(), NoMemory>
         requires allowed { verdict_at self.old.limits self.old.journal entry.user entry.statement
             ≡ Ok tt }
@@ -210,9 +211,9 @@ impl Ledger {
         Ok(())
     }
 
-    /// Begins a capture of the tables and rights of the journal, and answers its number. It takes no
-    /// memory. `Busy` or `Full` where the capture is active or may not be begun: then nothing has
-    /// changed.
+    /// Begins a capture of the tables and rights of the journal, and answers its number. It takes
+    /// no memory. `Busy` or `Full` where the capture is active or may not be begun: then nothing
+    /// has changed.
     pub fn begin(&mut self, capture: &mut Capture) -> Result<u64, Lack>
         ensures lack { MatchOption (begin_lack capture.old self.old.limits.checkpoints)
             (IsOk result) (λ lack. result ≡ Err lack) }
@@ -235,8 +236,8 @@ impl Ledger {
         )
     }
 
-    /// A step of the capture, of `k` records. `NoMemory` where a request for memory was refused: then
-    /// as many are left, and the same image is to come.
+    /// A step of the capture, of `k` records. `NoMemory` where a request for memory was refused:
+    /// then as many are left, and the same image is to come.
     pub fn step(&mut self, capture: &mut Capture, k: usize) -> Result<Progress, NoMemory>
         requires { CanGoOn capture.old.active (database_of self.old) self.old.grants_due }
         ensures tells { IfOk result (λ progress.
@@ -264,8 +265,8 @@ impl Ledger {
         capture.abandon(&mut self.tables, &mut self.rights)
     }
 
-    /// The rows that answer a query of a table that stands. `NoMemory` where a request for memory was
-    /// refused.
+    /// The rows that answer a query of a table that stands. `NoMemory` where a request for memory
+    /// was refused.
     pub fn select(
         &self,
         list: &Option<Distinct<Name, MAX_ITEMS>>,

@@ -111,17 +111,17 @@ impl System {
         self.ledger.journal()
     }
 
-    /// The accepted changes, each as what it changes of rights: the privileges of GRANT, and of both
-    /// forms of REVOKE, as atoms in the order written, UPDATE without columns as that of every column
-    /// that the table then had. `NoMemory` where a request for memory was refused.
+    /// The accepted changes, each as what it changes of rights: the privileges of GRANT, and of
+    /// both forms of REVOKE, as atoms in the order written, UPDATE without columns as that of every
+    /// column that the table then had. `NoMemory` where a request for memory was refused.
     pub fn changes(&self) -> Result<Vec<Change>, NoMemory>
         ensures { IfOk result (λ found. found.items ≡ changes self.now.journal) }
     {
         self.ledger.changes()
     }
 
-    /// How many grants are in force, if they are exactly those that a replay of the journal leaves in
-    /// force, and else None. They always are. `NoMemory` where a request for memory was refused.
+    /// How many grants are in force, if they are exactly those that a replay of the journal leaves
+    /// in force, and else None. They always are. `NoMemory` where a request for memory was refused.
     pub fn audit(&self) -> Result<Option<usize>, NoMemory>
         ensures { IfOk result
             (λ found. found ≡ Some (length (in_force_after (changes self.now.journal)))) }
@@ -129,8 +129,8 @@ impl System {
         self.ledger.audit()
     }
 
-    /// Whether what a user says is an allowed change, which [`change`](System::change) carries out. Else
-    /// [`step`](System::step) names what is missing, or answers what is no change.
+    /// Whether what a user says is an allowed change, which [`change`](System::change) carries out.
+    /// Else [`step`](System::step) names what is missing, or answers what is no change.
     pub fn may_change(&self, entry: &Entry) -> bool
         ensures { let asked = entry.now.statement in
             IsTrue result
@@ -141,9 +141,9 @@ impl System {
         is_change(asked) && self.ledger.allowed(&entry.user, asked).is_some()
     }
 
-    /// Carries out an allowed change, as [`step`](System::step) does, and says the moment that it made in
-    /// place of the reply, which is large to hand on; [`Reply::to_change`] makes it of that. `NoMemory` where
-    /// a request for memory was refused: then nothing has changed.
+    /// Carries out an allowed change, as [`step`](System::step) does, and says the moment that it
+    /// made in place of the reply, which is large to hand on; [`Reply::to_change`] makes it of
+    /// that. `NoMemory` where a request for memory was refused: then nothing has changed.
     pub fn change(&mut self, entry: Entry) -> Result<Moment, NoMemory>
         requires allowed { verdict_at self.old.limits self.old.journal entry.user entry.statement
             ≡ Ok tt }
@@ -206,8 +206,8 @@ impl System {
         Reply::Begun { number, at }
     }
 
-    /// Issues an export, where its checkpoint is kept and, of one table alone, that may be exported. A
-    /// table of which it is to be has to stand now.
+    /// Issues an export, where its checkpoint is kept and, of one table alone, that may be
+    /// exported. A table of which it is to be has to stand now.
     fn export(&self, user: User, number: u64, only: Option<Name>) -> Reply
         requires { verdict_at self.now.limits self.now.journal user (statements.Export number only)
             ≡ Ok tt }
@@ -342,8 +342,8 @@ impl System {
         }
     }
 
-    /// What the last steps of the checkpointer left to be freed, which may take as long as a copy of
-    /// all rows: for the caller to let go of while nobody waits for the core.
+    /// What the last steps of the checkpointer left to be freed, which may take as long as a copy
+    /// of all rows: for the caller to let go of while nobody waits for the core.
     pub fn take_parting(&mut self) -> Parting
         ensures { self.new ≡ self.old }
     {

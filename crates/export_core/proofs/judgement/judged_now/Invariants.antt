@@ -3,4 +3,4 @@ use Rattle.export_core.specs.Walk.{by_rights}
 use Rattle.export_core.proofs.judgement.judged_now.Given as goal
 
 abbrev pub invariant-loop-table : goal.invariant-loop-table
-invariant-loop-table g l = l.judged.items ≡ map (λ t. by_rights (g.A.Authority.content l.rights) l.user t.name) (take l.table-index l.tables)
+invariant-loop-table g l = l.judged.items ≡ map (by_rights (g.A.Authority.content l.rights) l.user) (take l.table-index l.tables)

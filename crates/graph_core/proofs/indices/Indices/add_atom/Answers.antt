@@ -1,9 +1,9 @@
 use Rattle.std.proofs.Common.{◌∙◌, [], ap, sym}
 use Rattle.std.proofs.lemmas.List.{append-nil}
 use Rattle.base_core.specs.declared.privilege.Kind.TheVariants as kinds
-use Rattle.graph_core.specs.declared.key.Key.{Key}
-use Rattle.graph_core.specs.Keys.{same_key}
-use Rattle.graph_core.specs.KeyLaws.{same_key-true}
+use Rattle.grants_core.specs.declared.key.Key.{Key}
+use Rattle.grants_core.specs.Keys.{same_key}
+use Rattle.grants_core.specs.KeyLaws.{same_key-true}
 use Rattle.graph_core.proofs.IndexLemmas.{inserted_behind, some_at}
 use Rattle.graph_core.proofs.indices.Indices.add_atom.Goals as goal
 
@@ -20,4 +20,4 @@ returns-clause-extends c =
 pub returns-clause-atom : goal.returns-clause-atom
 returns-clause-atom c =
     let s = c.in_ok-index.ensures.stored in
-    ap (λ (k : Key). k.0) (some_at c.insert_full.new.self.keys c.in_ok-index.index s.0 (record { 0 = record { table = []; kind = kinds.Select } }) s.1 ∙ sym (same_key-true (record { 0 = c.args.atom.now }) s.0 s.2))
+    ap (λ (k : Key). k.0) (some_at c.insert_full.new.self.keys c.in_ok-index.index s.0 (record { 0 = record { table = []; kind = kinds.Insert } }) s.1 ∙ sym (same_key-true (record { 0 = c.args.atom.now }) s.0 s.2))

@@ -1,5 +1,5 @@
-use Rattle.graph_core.specs.Keys.{same_key}
-use Rattle.graph_core.specs.KeyLaws.{same_key-equivalence}
+use Rattle.grants_core.specs.Keys.{same_key}
+use Rattle.grants_core.specs.KeyLaws.{same_key-equivalence}
 use Rattle.graph_core.proofs.IndexLemmas.{index_found}
 use Rattle.graph_core.proofs.indices.Indices.atom.Goals as goal
 

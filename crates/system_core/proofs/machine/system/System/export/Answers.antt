@@ -15,7 +15,7 @@ use Rattle.system_core.specs.Judging.{checkpoint_checks, export_check, moment_fo
 use Rattle.system_core.specs.Step.{lack_reply, Responds}
 use Rattle.system_core.specs.Standing.{world_of, checkpointing, image_check}
 use Rattle.system_core.proofs.Imaging.{newest-of, newest-number}
-use Rattle.system_core.proofs.Exported.{checked, exported}
+use Rattle.system_core.proofs.Exported.{allowed, checked, exported}
 use Rattle.system_core.proofs.Exporting.{only-stands, export-unkept, export-denied, export-issued, export-no_memory}
 use Rattle.system_core.proofs.machine.system.System.export.Goals as goal
 
@@ -92,3 +92,8 @@ returns-in-Err-issue c =
     subst (λ (v : World). By v c.no_memory.result) c.self.view_is
     (subst (λ (r : Reply). By w r) (sym (c.no_memory.ensures ∙ ap (λ m. replies.Refused m lacks.NoMemory) now))
     (export-no_memory s.chunk s.ledger (checkpointing s.capture s.ledger) s.catalogue c.args.user c.args.number c.args.only image found (check ∙ c.in_default-may_export.is)))
+
+pub issue-requires : goal.issue-requires
+issue-requires c =
+    allowed (arc_value c.in-Some.image.now) c.rights-rights.result.now.content c.args.user c.args.only
+    (sym (c.may_export.ensures ∙ ap (λ i. image_check i c.rights-rights.result.now.content c.args.user c.args.only) c.deref.ensures) ∙ c.in_default-may_export.is)
