@@ -132,6 +132,24 @@ def wide_exports(program):
         others.end()
 
 
+def wide_exports_of_one(program):
+    """EXPORT with ONLY asks the image for all columns of its table, in the turn, beside a million grants."""
+    names = ", ".join(f"c{n} INTEGER" for n in range(COLUMNS))
+    with served(program, 4) as (_, port):
+        ann = Session(port, "ann")
+        for table in range(TABLES):
+            users = [f"u{n}" for n in range(GRANTEES)]
+            grants = [f"GRANT SELECT (c{COLUMNS - 1}) ON t{table} TO {', '.join(users[n:n + 16])}"
+                for n in range(0, GRANTEES, 16)]
+            say(ann, [f"CREATE TABLE t{table} ({names})", *grants])
+        checkpoint(ann)
+        others = Waits(port)
+        print(f"{TABLES:,} tables of {COLUMNS} columns, {GRANTEES:,} grants of the last on each:")
+        for user in ("eve", "u5", "ann"):
+            timed(others, port, user, "EXPORT 1 ONLY t5")
+        others.end()
+
+
 def memory(child):
     with open(f"/proc/{child.pid}/status") as status:
         return next(int(line.split()[1]) / 1024 for line in status if line.startswith("VmRSS:"))
@@ -170,6 +188,7 @@ def large_images(program):
 def main():
     exports(sys.argv[1])
     wide_exports(sys.argv[1])
+    wide_exports_of_one(sys.argv[1])
     unread(sys.argv[1])
     large_images(sys.argv[1])
 

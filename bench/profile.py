@@ -41,7 +41,6 @@ def wide():
 def kinds():
     """Of each kind its name, the statements before, those that are counted, and by how many a count is divided."""
     before, one = filled(ROWS), "SELECT a FROM t WHERE b = 1000"
-    yield "INSERT, a statement", filled(0), filled(LINES)[1:], LINES
     yield "SELECT from no row, a statement", filled(0), by("ann", ["SELECT a FROM t WHERE b < 0"] * TIMES), TIMES
     for name, statement, parts in (
         ("SELECT of one row of 2,000, a statement", one, 1),
@@ -61,13 +60,14 @@ def kinds():
             yield f"{user}: SELECT {listed} of 32 columns", wide(), by(user, [f"SELECT {listed} FROM t"] * TIMES), TIMES
 
 
-def instructions(program, statements, work):
-    """The instructions of one run over these statements."""
+def instructions(program, statements, work, words=("run",), is_given=True):
+    """The instructions of one run over these statements, which are given, or else loaded from a file."""
     script = os.path.join(work, "script")
     with open(script, "w") as lines:
         lines.writelines(f"{statement}\n" for statement in statements)
-    words = ["valgrind", "--tool=callgrind", f"--callgrind-out-file={os.path.join(work, 'counts')}", program, "run"]
-    with open(script, "rb") as given:
+    words = ["valgrind", "--tool=callgrind", f"--callgrind-out-file={os.path.join(work, 'counts')}", program, *words]
+    words += [] if is_given else ["--load", script]
+    with open(script if is_given else os.devnull, "rb") as given:
         ran = subprocess.run(words, stdin=given, stdout=subprocess.DEVNULL, stderr=subprocess.PIPE, text=True)
     counted = re.search(r"Collected : (\d+)", ran.stderr)
     if ran.returncode != 0 or counted is None:
@@ -75,12 +75,30 @@ def instructions(program, statements, work):
     return int(counted.group(1))
 
 
+def told(name, count):
+    print(f"{name + ':':<45}{count:>12,.0f} instructions")
+
+
+def inserts(program, work):
+    """An INSERT that is answered; the same with a journal; its line alone; loaded; and dumped."""
+    for name, more in (
+        ("INSERT, a statement", {}),
+        ("INSERT with a journal, a statement", {"words": ("run", "--journal", os.devnull)}),
+        ("INSERT, its line of a journal alone", {"words": ("journal",)}),
+        ("INSERT loaded, a statement", {"is_given": False}),
+        ("INSERT, and its line of a dump", {"words": ("dump",)}),
+    ):
+        base, whole = (instructions(program, filled(rows), work, **more) for rows in (0, LINES))
+        told(name, (whole - base) / LINES)
+
+
 def main():
     with tempfile.TemporaryDirectory() as work:
+        inserts(sys.argv[1], work)
         for name, before, counted, parts in kinds():
             base = instructions(sys.argv[1], before, work)
             whole = instructions(sys.argv[1], before + counted, work)
-            print(f"{name + ':':<45}{(whole - base) / parts:>12,.0f} instructions")
+            told(name, (whole - base) / parts)
 
 
 main()

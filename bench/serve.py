@@ -19,12 +19,13 @@ def free_port():
         return taken.getsockname()[1]
 
 
-def served(program, load, workers, clients, statements, pipelined, kind):
-    """Statements a second and percentiles in microseconds, of the best of some runs."""
+def served(program, load, workers, clients, statements, pipelined, kind, folder=None):
+    """Statements a second and percentiles in microseconds, of the best of some runs; with a journal in a folder."""
     best = None
-    for _ in range(RUNS):
+    for n in range(RUNS):
         port = free_port()
         words = ["--port", str(port), "--workers", str(workers), "--sessions", str(clients)]
+        words += ["--journal", os.path.join(folder, f"journal{port}-{n}")] if folder else []
         child = subprocess.Popen([program, "serve", *words], stdout=subprocess.PIPE)
         child.stdout.readline()
         words = [str(word) for word in (port, clients, statements, pipelined)]
@@ -106,6 +107,10 @@ def main(program, source):
         ):
             rate, half, most, last = served(program, load, workers, clients, statements, pipelined, kind)
             told = f"{workers:2} workers, {clients:2} clients, {pipelined:4} at a time, {kind}: {rate:9,.0f}/s"
+            print(f"{told}  50 % in {half:.0f} us, 99 % in {most:.0f}, 99.9 % in {last:.0f}")
+        for clients, statements, pipelined in ((1, 40_000, 1), (4, 20_000, 1), (4, 100_000, 1000)):
+            rate, half, most, last = served(program, load, processors, clients, statements, pipelined, "INSERT", folder)
+            told = f"with a journal, {clients:2} clients, {pipelined:4} at a time, INSERT: {rate:9,.0f}/s"
             print(f"{told}  50 % in {half:.0f} us, 99 % in {most:.0f}, 99.9 % in {last:.0f}")
     for clients, pipelined in ((4, 1), (4, 16), (16, 1)):
         rate = redis(clients, pipelined)

@@ -2,8 +2,9 @@
 ghost use Rattle.std.specs.Prelude.{◌≡◌, Some, []};
 
 use base_core::{Name, User};
-use desk_core::{Desk, Pass};
+use desk_core::{Desk, Pass, Unkept};
 use export_core::NoGate;
+use journal_core::NoKeeper;
 use reader_core::read;
 use reply_core::reply_text;
 use session_core::checkpointer;
@@ -18,8 +19,8 @@ use system_core::{Reply, System};
 fn ask<R: Wait + Abort>(
     rt: &R,
     alloc: Global,
-    desk: &Desk,
-    pass: &mut Pass,
+    desk: &Desk<NoKeeper>,
+    pass: &mut Pass<NoKeeper>,
     statement: &str,
     said: &mut Vec<u8>,
 )
@@ -28,11 +29,14 @@ fn ask<R: Wait + Abort>(
 {
     let ann = User(Name::read(b"ann").expect(rt, "a name"));
     let statement = read(alloc, statement.as_bytes()).expect(rt, "a statement");
-    let reply = desk.execute(rt, pass, ann, statement);
-    say(rt, alloc, &reply, said);
+    let told = desk.execute(rt, pass, ann, statement);
+    say(rt, alloc, &told, said);
 }
 
-fn say(rt: &impl Abort, alloc: Global, reply: &Reply, said: &mut Vec<u8>) {
+fn say(rt: &impl Abort, alloc: Global, told: &Result<Reply, Unkept>, said: &mut Vec<u8>) {
+    let Ok(reply) = told else {
+        panic!(rt; "a reply is withheld")
+    };
     let text = reply_text(alloc, reply).expect(rt, "memory");
     said.extend_from_slice(&text).expect(rt, "memory");
 }
@@ -41,9 +45,9 @@ fn say(rt: &impl Abort, alloc: Global, reply: &Reply, said: &mut Vec<u8>) {
 fn share<R: Wait + Abort>(
     rt: &R,
     alloc: Global,
-    desk: &Desk,
-    first: &mut Pass,
-    second: &mut Pass,
+    desk: &Desk<NoKeeper>,
+    first: &mut Pass<NoKeeper>,
+    second: &mut Pass<NoKeeper>,
     said: &mut Vec<u8>,
 )
     requires first { first.old.lock ≡ Some desk.now }
@@ -65,7 +69,13 @@ fn share<R: Wait + Abort>(
 }
 
 /// The core is given back with both passes, and not with one.
-fn close(rt: &impl Abort, desk: Desk, first: Pass, second: Pass, mut passes: Vec<Pass>) -> System
+fn close(
+    rt: &impl Abort,
+    desk: Desk<NoKeeper>,
+    first: Pass<NoKeeper>,
+    second: Pass<NoKeeper>,
+    mut passes: Vec<Pass<NoKeeper>>,
+) -> System
     requires first { first.lock ≡ Some desk }
     requires second { second.lock ≡ Some desk }
     requires others { passes.items ≡ [] }
@@ -73,13 +83,13 @@ fn close(rt: &impl Abort, desk: Desk, first: Pass, second: Pass, mut passes: Vec
     assert!(rt; passes.push(second).is_ok());
     let (desk, mut passes) = match desk.close(passes) {
         Err(given_back) => given_back,
-        Ok(system) => {
+        Ok((system, _)) => {
             system.free();
             panic!(rt; "closed without a pass")
         }
     };
     assert!(rt; passes.push(first).is_ok());
-    let Ok(system) = desk.close(passes) else {
+    let Ok((system, _)) = desk.close(passes) else {
         panic!(rt; "not all passes")
     };
     system
@@ -90,7 +100,8 @@ fn close(rt: &impl Abort, desk: Desk, first: Pass, second: Pass, mut passes: Vec
 #[test]
 fn freshness(rt: HostRuntime) {
     let mut said = Vec::new(rt.alloc());
-    let (desk, mut passes) = Desk::build(rt.alloc(), 2, 16).expect(&rt, "memory");
+    let system = System::new(rt.alloc(), 16).expect(&rt, "memory");
+    let (desk, mut passes) = Desk::build(rt.alloc(), system, 16, NoKeeper, 2).expect(&rt, "memory");
     let mut second = passes.pop().expect(&rt, "a pass");
     let mut first = passes.pop().expect(&rt, "a pass");
     share(&rt, rt.alloc(), &desk, &mut first, &mut second, &mut said);
@@ -110,8 +121,8 @@ checkpoint 2 begun @2\ncheckpoints 1 @2\nfinished,2,2\n";
 fn wear_out<R: Wait + Clock + Abort>(
     rt: &R,
     alloc: Global,
-    desk: &Desk,
-    pass: &mut Pass,
+    desk: &Desk<NoKeeper>,
+    pass: &mut Pass<NoKeeper>,
     said: &mut Vec<u8>,
 ) -> bool
     requires { pass.old.lock ≡ Some desk.now }
@@ -128,11 +139,15 @@ fn wear_out<R: Wait + Clock + Abort>(
 #[test]
 fn worn(rt: HostRuntime) {
     let mut said = Vec::new(rt.alloc());
-    let (desk, mut passes) = Desk::build_at(rt.alloc(), 1, 16, (1 << 62) - 1).expect(&rt, "memory");
+    let system = System::new(rt.alloc(), 16).expect(&rt, "memory");
+    let start = (1 << 62) - 1;
+    let (desk, mut passes) = Desk::build_at(rt.alloc(), system, 16, NoKeeper, 1, start).expect(
+        &rt, "memory",
+    );
     let mut pass = passes.pop().expect(&rt, "a pass");
     let is_worn = wear_out(&rt, rt.alloc(), &desk, &mut pass, &mut said);
     assert!(rt; passes.push(pass).is_ok());
-    let Ok(system) = desk.close(passes) else {
+    let Ok((system, _)) = desk.close(passes) else {
         panic!(rt; "not all passes")
     };
     let changes = system.journal().len();

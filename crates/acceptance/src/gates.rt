@@ -5,6 +5,7 @@ use crate::slow::Slow;
 use base_core::{Name, User};
 use desk_core::{Desk, Pass};
 use export_core::{Gate, NoGate};
+use journal_core::NoKeeper;
 use reply_core::ReplyBuffer;
 use session_core::{checkpointer, serve_line};
 use std::alloc::Global;
@@ -15,6 +16,7 @@ use std::sync::atomic::{AtomicBool, Ordering};
 use std::thread;
 use std::thread::{Threads, join};
 use std::time::{Clock, Duration};
+use system_core::System;
 
 /// Whether the flag is set within 10,000 milliseconds.
 fn comes_true<R: Clock>(rt: &R, flag: &AtomicBool) -> bool {
@@ -64,8 +66,8 @@ impl<'a, R: Clock> Gate for Held<'a, R> {
 fn say<R: Wait + Abort, G: Gate>(
     rt: &R,
     alloc: Global,
-    desk: &Desk,
-    pass: &mut Pass,
+    desk: &Desk<NoKeeper>,
+    pass: &mut Pass<NoKeeper>,
     line: &str,
     gate: &G,
 ) -> Vec<u8>
@@ -92,7 +94,12 @@ fn say<R: Wait + Abort, G: Gate>(
 }
 
 /// Waits until the checkpoint of three changes is finished.
-fn wait<R: Wait + Clock + Abort>(rt: &R, alloc: Global, desk: &Desk, pass: &mut Pass)
+fn wait<R: Wait + Clock + Abort>(
+    rt: &R,
+    alloc: Global,
+    desk: &Desk<NoKeeper>,
+    pass: &mut Pass<NoKeeper>,
+)
     requires { pass.old.lock ≡ Some desk.now }
     ensures { pass.new.lock ≡ pass.old.lock }
 {
@@ -109,8 +116,8 @@ fn wait<R: Wait + Clock + Abort>(rt: &R, alloc: Global, desk: &Desk, pass: &mut 
 fn exports<R: Wait + Clock + Abort>(
     rt: &R,
     alloc: Global,
-    desk: &Desk,
-    mut pass: Pass,
+    desk: &Desk<NoKeeper>,
+    mut pass: Pass<NoKeeper>,
     gate: &Held<'_, R>,
     stop: &AtomicBool,
 ) -> Vec<u8>
@@ -151,8 +158,8 @@ fn exports<R: Wait + Clock + Abort>(
 fn changes<R: Wait + Clock + Abort>(
     rt: &R,
     alloc: Global,
-    desk: &Desk,
-    mut pass: Pass,
+    desk: &Desk<NoKeeper>,
+    mut pass: Pass<NoKeeper>,
     gate: &Held<'_, R>,
     line: &str,
 ) -> Vec<u8>
@@ -166,8 +173,8 @@ fn changes<R: Wait + Clock + Abort>(
 
 fn checks<R: Wait + Clock>(
     rt: &R,
-    desk: &Desk,
-    mut pass: Pass,
+    desk: &Desk<NoKeeper>,
+    mut pass: Pass<NoKeeper>,
     gate: &Held<'_, R>,
     stop: &AtomicBool,
 )
@@ -180,9 +187,9 @@ fn checks<R: Wait + Clock>(
 fn two_at_once<R: Threads + Wait + Clock + Abort + Sync>(
     rt: &R,
     alloc: Global,
-    desk: &Desk,
-    first: Pass,
-    second: Pass,
+    desk: &Desk<NoKeeper>,
+    first: Pass<NoKeeper>,
+    second: Pass<NoKeeper>,
     gate: &Held<'_, R>,
     stop: &AtomicBool,
     line: &str,
@@ -205,10 +212,10 @@ fn two_at_once<R: Threads + Wait + Clock + Abort + Sync>(
 fn all_at_once<R: Threads + Wait + Clock + Abort + Sync>(
     rt: &R,
     alloc: Global,
-    desk: &Desk,
-    first: Pass,
-    second: Pass,
-    third: Pass,
+    desk: &Desk<NoKeeper>,
+    first: Pass<NoKeeper>,
+    second: Pass<NoKeeper>,
+    third: Pass<NoKeeper>,
     gate: &Held<'_, R>,
     line: &str,
 ) -> (Vec<u8>, Vec<u8>)
@@ -241,7 +248,8 @@ fn hold_up<R: Threads + Wait + Clock + Abort + Sync>(
     answer: &str,
     head: &str,
 ) {
-    let (desk, mut passes) = Desk::build(alloc, 3, 1).expect(rt, "memory");
+    let system = System::new(alloc, 1).expect(rt, "memory");
+    let (desk, mut passes) = Desk::build(alloc, system, 1, NoKeeper, 3).expect(rt, "memory");
     let (Some(third), Some(second), Some(first)) = (passes.pop(), passes.pop(), passes.pop()) else {
         panic!(rt; "no passes")
     };

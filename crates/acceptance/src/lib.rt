@@ -21,6 +21,8 @@ mod exports;
 #[cfg(test)]
 mod gates;
 #[cfg(test)]
+mod keeping;
+#[cfg(test)]
 mod lines;
 #[cfg(test)]
 mod locks;

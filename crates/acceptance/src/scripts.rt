@@ -5,13 +5,15 @@ use crate::pieces::Pieces;
 use crate::slow::Slow;
 use desk_core::Desk;
 use export_core::NoGate;
+use journal_core::NoKeeper;
 use lines_core::SessionFault;
-use script_core::script;
-use session_core::serve_session;
+use script_core::{ScriptFault, script};
+use session_core::{SessionEnd, serve_session};
 use std::alloc::Global;
 use std::mem::forget;
 use std::process::Abort;
 use std::sync::Wait;
+use system_core::System;
 
 /// A script or a session, what is written for it, and how many lines of that for each of its lines.
 struct Example {
@@ -89,12 +91,17 @@ fn session<R: Wait + Abort>(
     requires reader { reader.old.failed ≡ false }
     requires writer { writer.old.failed ≡ false }
 {
-    let (desk, mut passes) = Desk::build(alloc, 1, 1).expect(rt, "memory");
+    let system = System::new(alloc, 1).expect(rt, "memory");
+    let (desk, mut passes) = Desk::build(alloc, system, 1, NoKeeper, 1).expect(rt, "memory");
     let mut pass = passes.pop().expect(rt, "a pass");
     let served = serve_session(rt, alloc, &desk, &mut pass, reader, writer, &NoGate);
     // A test that let the desk go would prove its destructor.
     forget(desk);
-    served.map(|_| ())
+    match served {
+        Ok(_) => Ok(()),
+        Err(SessionEnd::Session(fault)) => Err(fault),
+        Err(SessionEnd::Journal) => panic!(rt; "nothing is kept"),
+    }
 }
 
 /// How what is played ends, in pieces of so many bytes, of which so many are read and so many bytes
@@ -113,12 +120,13 @@ fn play<R: Wait + Abort>(
         let ended = session(rt, alloc, &mut reader, &mut writer);
         return (ended, writer.bytes);
     }
-    let ended = match script(alloc, &mut reader, &mut writer, 1) {
+    let ended = match script(alloc, &mut reader, &mut writer, &mut NoKeeper, 1) {
         Ok(system) => {
             system.free();
             Ok(())
         }
-        Err(fault) => Err(fault),
+        Err(ScriptFault::Session(fault)) => Err(fault),
+        Err(ScriptFault::Journal) => unreachable!(),
     };
     (ended, writer.bytes)
 }

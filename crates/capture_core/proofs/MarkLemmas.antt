@@ -13,6 +13,10 @@ use Rattle.base_core.proofs.SameLemmas.{same_name-true, same_user-true}
 use Rattle.grants_core.specs.Content.{gives}
 use Rattle.grants_core.specs.declared.grant.Grant.{Grant}
 use Rattle.capture_core.specs.Marks.{mixed, part_of, grant_mark, mark_of}
+use Rattle.capture_core.specs.Image.{gives_one}
+use Rattle.base_core.specs.Privileges.{to_select}
+use Rattle.base_core.specs.declared.name.Name.{Name}
+use Rattle.base_core.specs.declared.value.Column.{Column}
 
 -- a grant that gives the user the atom has the mark of both
 gives-mark : (user : User) (atom : Atom) (g : Grant) → gives user atom g ≡ true → grant_mark g ≡ mark_of user atom.table
@@ -71,3 +75,28 @@ mark_there marks grants i g are below read =
 -- what passes among the first items or the others passes among all
 pub any_of_parts : {X : Type 0} (p : X → Bool) (n : ℕ) (xs : List X) → list_any p xs ≡ (list_any p (take n xs) || list_any p (drop n xs))
 any_of_parts p n xs = ap (list_any p) (sym (take-append-drop n xs)) ∙ list_any-append p (take n xs) (drop n xs)
+
+-- and so it gives him SELECT of no column of the table
+pub another-mark-of_one : (user : User) (table : Name) (columns : List Column) (g : Grant) → (grant_mark g ≡ mark_of user table → ⊥) → gives_one user table columns g ≡ false
+another-mark-of_one user table [] g other = refl
+another-mark-of_one user table (c ∷ cs) g other =
+    ap (λ b. b || gives_one user table cs g) (another-mark user (to_select table c.name) g other) ∙ another-mark-of_one user table cs g other
+
+any_false : {Y : Type 0} (ys : List Y) → list_any (λ y. false) ys ≡ false
+any_false [] = refl
+any_false (y ∷ ys) = any_false ys
+
+any_or : {Y : Type 0} (p q : Y → Bool) (ys : List Y) → list_any (λ y. p y || q y) ys ≡ (list_any p ys || list_any q ys)
+any_or p q [] = refl
+any_or p q (y ∷ ys) = ap (λ b. (p y || q y) || b) (any_or p q ys) ∙ four (p y) (q y) (list_any p ys) (list_any q ys)
+  where
+    four : (a b x y : Bool) → ((a || b) || (x || y)) ≡ ((a || x) || (b || y))
+    four true b x y = refl
+    four false true true y = refl
+    four false true false y = refl
+    four false false x y = refl
+
+-- whether for one of the ones one of the others passes: either may be gone over first
+pub any_turned : {X Y : Type 0} (p : X → Y → Bool) (xs : List X) (ys : List Y) → list_any (λ x. list_any (p x) ys) xs ≡ list_any (λ y. list_any (λ x. p x y) xs) ys
+any_turned p [] ys = sym (any_false ys)
+any_turned p (x ∷ xs) ys = ap (λ b. list_any (p x) ys || b) (any_turned p xs ys) ∙ sym (any_or (p x) (λ y. list_any (λ z. p z y) xs) ys)

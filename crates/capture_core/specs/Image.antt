@@ -9,9 +9,11 @@ use Rattle.base_core.specs.declared.name.Name.{Name}
 use Rattle.base_core.specs.declared.name.User.{User}
 use Rattle.base_core.specs.declared.privilege.Atom.{Atom}
 use Rattle.base_core.specs.declared.value.Column.{Column}
+use Rattle.base_core.specs.Privileges.{to_select}
 use Rattle.base_core.specs.declared.value.Moment.{Moment}
 use Rattle.tables_core.specs.Contents.{Contents}
 use Rattle.grants_core.specs.Content.{Content, gives}
+use Rattle.grants_core.specs.declared.grant.Grant.{Grant}
 use Rattle.capture_core.specs.declared.image.Image.{Image}
 use Rattle.capture_core.specs.declared.image.TableImage.{TableImage}
 
@@ -53,6 +55,10 @@ has image name = list_any (λ t. same_name name t.name) image.tables
 abbrev pub columns_in : Image → Name → List Column
 columns_in image name =
     option_map_or (λ t. t.columns) (find (λ t. same_name name t.name) image.tables) []
+
+-- whether the grant gives the user SELECT of one of the columns of the table
+abbrev pub gives_one : User → Name → List Column → Grant → Bool
+gives_one user table columns g = list_any (λ c. gives user (to_select table c.name) g) columns
 
 -- whether the user owns the atom's table there
 unfoldable pub owns_in_image : Image → User → Atom → Bool

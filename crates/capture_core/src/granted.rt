@@ -5,10 +5,12 @@ ghost use Rattle.base_core.specs.declared.privilege.Atom.{Atom as atoms};
 ghost use Rattle.indexmap.specs.IndexSet.{contains_by};
 ghost use Rattle.grants_core.specs.Content as rights;
 ghost use Rattle.grants_core.specs.Keys.{same_key};
+ghost use Rattle.base_core.specs.Privileges.{to_select};
+ghost use Rattle.capture_core.specs.Image.{gives_one};
 ghost use Rattle.capture_core.specs.Marks as marks;
 ghost use Rattle.capture_core.specs.Marks.{grant_mark};
 
-use base_core::{Atom, Name, NoMemory, User};
+use base_core::{Atom, Column, Kind, Name, NoMemory, User};
 use grants_core::Grant;
 use graph_core::{Graph, Key};
 use indexmap::IndexSet;
@@ -143,6 +145,46 @@ fn given_privileges(
     Ok(given)
 }
 
+// Whether the grant gives the user SELECT of one of the columns of the table.
+fn gives_one(grant: &Grant, user: &User, table: Name, columns: &[Column]) -> bool
+    ensures { result ≡ gives_one user.now table columns.now grant.now }
+{
+    columns.iter().any(|column| {
+        let kind = Kind::Select(column.name);
+        grant.gives(user, &Atom { table, kind })
+    })
+}
+
+// Whether one of the grants that have a mark does.
+fn any_marked_one(
+    marked: &[u32],
+    grants: &[Grant],
+    user: &User,
+    table: Name,
+    columns: &[Column],
+) -> bool
+    requires { marked.now ≡ map grant_mark (take (length marked.now) grants.now) }
+    ensures { result ≡ list_any (gives_one user.now table columns.now)
+        (take (length marked.now) grants.now) }
+{
+    let wanted = mark_of(user, &table);
+    for at in 0..marked.len() {
+        let grant = &grants[at];
+        if marked[at] == wanted && gives_one(grant, user, table, columns) {
+            return true;
+        }
+    }
+    false
+}
+
+fn any_gives_one(grants: &[Grant], user: &User, table: Name, columns: &[Column]) -> bool
+    ensures { result ≡ list_any (gives_one user.now table columns.now) grants.now }
+{
+    grants
+        .iter()
+        .any(|grant| gives_one(grant, user, table, columns))
+}
+
 fn any_gives(grants: &[Grant], user: &User, atom: &Atom) -> bool
     ensures { result ≡ list_any (rights.gives user.now atom.now) grants.now }
 {
@@ -189,6 +231,16 @@ impl Grants {
     {
         any_marked(&self.marks, &self.grants, user, atom)
             || any_gives(&self.grants[self.marks.len()..], user, atom)
+    }
+
+    /// Whether one of them gives the user SELECT of one of the columns of the table. It goes over
+    /// them once, and takes no memory.
+    pub fn give_one(&self, user: &User, table: Name, columns: &[Column]) -> bool
+        ensures { result ≡ list_any
+            (λ c. list_any (rights.gives user.now (to_select table c.name)) self.now) columns.now }
+    {
+        any_marked_one(&self.marks, &self.grants, user, table, columns)
+            || any_gives_one(&self.grants[self.marks.len()..], user, table, columns)
     }
 
     /// The privileges that one of them gives the user. `NoMemory` where a request for memory was

@@ -1,11 +1,13 @@
 //! What a checkpoint keeps.
 ghost use Rattle.std.specs.Prelude.{◌≡◌, false, find};
 ghost use Rattle.std.specs.Option.{option_copied};
+ghost use Rattle.std.specs.List.{list_any};
 ghost use Rattle.base_core.specs.Words.{same_name};
+ghost use Rattle.base_core.specs.Privileges.{to_select};
 ghost use Rattle.capture_core.specs.Image as images;
 
 use crate::granted::Grants;
-use base_core::{Atom, Column, Moment, Name, Row, Sequence, User};
+use base_core::{Atom, Column, Kind, Moment, Name, Row, Sequence, User};
 
 /// A table as it stood at a checkpoint's point.
 #[derive(Drop)]
@@ -78,5 +80,21 @@ impl Image {
         ensures { result ≡ images.holds_in_image self.now user atom.now }
     {
         self.owns(&user, atom) || self.grants.gives(&user, atom)
+    }
+
+    /// Whether the user held SELECT of one of these columns of the table at the point. It goes over
+    /// the grants once, and takes no memory.
+    pub fn holds_one(&self, user: User, table: Name, columns: &[Column]) -> bool
+        ensures { result ≡ list_any
+            (λ c. images.holds_in_image self.now user (to_select table c.name)) columns.now }
+    {
+        match columns {
+            [] => false,
+            [first, ..] => {
+                let kind = Kind::Select(first.name);
+                self.owns(&user, &Atom { table, kind })
+                    || self.grants.give_one(&user, table, columns)
+            }
+        }
     }
 }

@@ -1,38 +1,109 @@
 -- A turn of the turn lock, with the core as its object, is a turn at the desk.
-use Rattle.std.proofs.Common.{◌≡◌, ◌≤◌, ◌<◌, ◌+◌, ◌^◌, ℕ, List, ◌++◌, length, drop, refl, sym, ap, ◌∙◌}
+use Rattle.std.proofs.Common.{◌≡◌, ◌≤◌, ◌<◌, ◌+◌, ◌^◌, ℕ, Bool, true, false, List, ◌++◌, length, drop, refl, sym, ap, ◌∙◌, subst, arith, length-append}
+use Rattle.std.specs.Prelude.{Result, Ok, Err, IfOk, OnOk, OnErr, MatchResult}
 use Rattle.std.proofs.lemmas.List.{drop_at}
+use Rattle.std.proofs.lemmas.List.Elements.{All-weaker}
+use Rattle.base_core.specs.Full.{IsFull}
+use Rattle.base_core.specs.declared.limits.Limits.{Limits}
 use Rattle.turnstile.specs.Logs.{gained}
 use Rattle.turnstile.specs.Passes.{Lock, Held, mine}
 use Rattle.turnstile.specs.Turned.{Turned}
+use Rattle.turnstile.specs.Closed.{Closed, Kept}
 use Rattle.desk_core.specs.declared.object.Ask.{Ask}
+use Rattle.desk_core.specs.declared.object.Basis.{Basis}
+use Rattle.desk_core.specs.declared.object.Unkept.{Unkept}
 use Rattle.system_core.specs.declared.machine.event.Entry.{Entry}
+use Rattle.system_core.specs.declared.machine.event.Event.{Event}
 use Rattle.system_core.specs.declared.machine.event.Reply.{Reply}
 use Rattle.system_core.specs.Entering.{entered}
+use Rattle.system_core.specs.Step.{Step}
+use Rattle.system_core.specs.World.{World, IsLawfulWorld}
 use Rattle.system_core.proofs.Entered.{step_enters}
-use Rattle.desk_core.specs.Acting.{event_of, Acts}
-use Rattle.desk_core.specs.Turns.{asked_by, journal_of, begun_of, chunk_of, Took}
+use Rattle.journal_core.specs.Keeping.{KeepsAll}
+use Rattle.desk_core.specs.Guarded.{Guarded, Spoken}
+use Rattle.desk_core.specs.Kept.{KeepsEntered, HasKept, IsKept}
+use Rattle.desk_core.specs.Acting.{event_of, basis, Acts}
+use Rattle.desk_core.specs.Turns.{asked_by, journal_of, begun_of, basis_of, Took, Answered, took, Ended}
+use Rattle.desk_core.proofs.Entering.{keeps_on, told_works}
 
 gained-is : (old new entries : List Entry) → new ≡ old ++ entries → gained old new ≡ entries
 gained-is old new entries e = ap (λ log. drop (length old) log) e ∙ drop_at old entries (length old) refl
 
-pub turn_taken : (desk : Lock ℕ) (ask : Ask) (reply : Reply) (old new : Held Entry ℕ)
-    → Turned journal_of asked_by begun_of chunk_of Acts desk ask reply old new
-    → (old.drawn < new.drawn) × (new.drawn ≤ 2 ^ 62) → new.turns ≡ old.turns + 1
-    → Took desk ask reply old new
-turn_taken desk ask reply old new t drawn counted =
-    let m = step_enters t.before t.after (event_of old.number ask) reply t.acted.2 in
-    record {
-      before = t.before;
-      after = t.after;
-      lawful = t.acted.0;
-      full = t.acted.1;
-      chunk = t.fixed_is;
-      seen_before = t.seen_before;
-      mark_before = t.mark_before;
-      step = t.acted.2;
-      seen_after = t.seen_after;
-      mark_after = t.mark_after;
-      mine_after = t.mine_after ∙ ap (λ es. mine asked_by old ++ es) (gained-is t.before.journal t.after.journal (entered (event_of old.number ask) reply) m.journal);
-      drawn = drawn;
-      counted = counted;
-    }
+-- a step between worlds that are called otherwise
+pub step_at : (old old' new new' : World) (event event' : Event) (reply : Reply) → old ≡ old' → event ≡ event' → new' ≡ new → Step old event reply new → Step old' event' reply new'
+step_at old old' new new' event event' reply was is last step = subst (λ (t : World × Event × World). Step t.0 t.1 reply t.2) (λ i. (was i, is i, sym last i)) step
+
+module _ {K : Type 0} (keeps fails : K → Entry → K → Type 0) (failed : K → Bool) where
+  -- what the core stands for stays in order
+  pub act_stands : (old new : World) (event : Event) (reply : Reply) (told : Bool) (chunk front : ℕ) (k k' : K)
+      → (old.chunk ≡ chunk) × IsFull old.limits × (front ≤ length old.journal) × HasKept keeps failed front old.journal k
+      → Step old event reply new → KeepsEntered keeps fails failed k (entered event reply) told k'
+      → (new.chunk ≡ chunk) × IsFull new.limits × (front ≤ length new.journal) × HasKept keeps failed front new.journal k'
+  act_stands old new event reply told chunk front k k' (is, full, low, had) step keeping = let m = step_enters old new event reply step in (
+    m.chunk ∙ is,
+    subst (λ (l : Limits). IsFull l) (sym m.limits) full,
+    (let long = ap length m.journal ∙ length-append old.journal (entered event reply) in omega arith),
+    keeps_on keeps fails failed front old.journal (entered event reply) new.journal k k' told low m.journal had keeping,
+  )
+
+  module _ (desk : Lock Basis) (ask : Ask) (answer : Spoken) (old new : Held Entry Basis)
+      (t : Turned {O = Guarded K} (λ c. c.world.journal) asked_by (λ c. c.world.begun) basis (Acts keeps fails failed) desk ask answer old new) where
+    pub turn_taken : (old.drawn < new.drawn) × (new.drawn ≤ 2 ^ 62) → new.turns ≡ old.turns + 1 → Took desk ask answer.reply old new
+    turn_taken drawn counted =
+        let m = step_enters t.before.world t.after.world (event_of old.number ask) answer.reply t.acted.step in
+        record {
+          before = t.before.world;
+          after = t.after.world;
+          lawful = t.acted.lawful;
+          full = t.acted.full;
+          chunk = ap (λ (b : Basis). b.chunk) t.fixed_is;
+          seen_before = t.seen_before;
+          mark_before = t.mark_before;
+          step = t.acted.step;
+          seen_after = t.seen_after;
+          mark_after = t.mark_after;
+          mine_after = t.mine_after ∙ ap (λ es. mine asked_by old ++ es) (gained-is t.before.world.journal t.after.world.journal (entered (event_of old.number ask) answer.reply) m.journal);
+          drawn = drawn;
+          counted = counted;
+        }
+
+    -- what may be told is kept
+    pub turn_kept : answer.told ≡ true → IsKept keeps failed desk.fixed.front new.seen
+    turn_kept told =
+        let works = told_works keeps fails failed t.before.keeper t.after.keeper (entered (event_of old.number ask) answer.reply) answer.told t.acted.keeping told in
+        let h = t.acted.has_kept works in
+        record {
+          start = h.0;
+          keeper = t.after.keeper;
+          works = works;
+          kept = subst (λ (z : ℕ × List Entry). KeepsAll keeps h.0 (drop z.0 z.1) t.after.keeper) (λ i. ((t.acted.front ∙ ap (λ (b : Basis). b.front) t.fixed_is) i, sym t.seen_after i)) h.1;
+        }
+
+  -- the core that comes out of the turn lock
+  pub closed_ended : (desk : Lock Basis) (passes : List (Held Entry Basis)) (core : Guarded K) (w : World) → core.world ≡ w → IsLawfulWorld w → IsFull w.limits
+      → Closed {O = Guarded K} (λ c. c.world.journal) asked_by (λ c. c.world.begun) basis desk passes core → Ended desk passes w
+  closed_ended desk passes core w is lawful full c = record {
+    lawful = lawful;
+    full = full;
+    closed = subst (Closed journal_of asked_by begun_of (basis_of desk.fixed.front) desk passes) is record {
+      fixed_is = (λ i. record { chunk = ap (λ (b : Basis). b.chunk) c.fixed_is i; front = desk.fixed.front });
+      bears = c.bears;
+      kept = All-weaker (Kept {O = Guarded K} (λ c. c.world.journal) asked_by (λ c. c.world.begun) core) (Kept journal_of asked_by begun_of core.world)
+          (λ p k. record { seen = k.seen; made = k.made; marked = k.marked }) passes c.kept;
+      drawn = c.drawn;
+      bound = c.bound;
+    };
+  }
+
+module _ (desk : Lock Basis) (ask : Ask) (said : Reply) (told : Bool) (old new : Held Entry Basis) where
+  pub answered_if : (r : Result Reply Unkept) → MatchResult r (λ reply. (told ≡ true) × (reply ≡ said)) (λ _. told ≡ false) → Took desk ask said old new → IfOk r (λ reply. Answered desk ask reply old new)
+  answered_if (Ok reply) h t = took (subst (λ z. Took desk ask z old new) (sym h.1) t)
+  answered_if (Err e) h t = tt
+
+  pub kept_if : {P : Type 0} (r : Result Reply Unkept) → MatchResult r (λ reply. (told ≡ true) × (reply ≡ said)) (λ _. told ≡ false) → (told ≡ true → P) → OnOk r P
+  kept_if (Ok reply) h p = p h.0
+  kept_if (Err e) h p = tt
+
+  pub withheld_if : (r : Result Reply Unkept) → MatchResult r (λ reply. (told ≡ true) × (reply ≡ said)) (λ _. told ≡ false) → Took desk ask said old new → OnErr r ((reply : Reply) × Took desk ask reply old new)
+  withheld_if (Ok reply) h t = tt
+  withheld_if (Err e) h t = (said, t)

@@ -1,44 +1,74 @@
 -- The core as what threads take turns at: what is asked through a pass, and what comes of it.
-use Rattle.std.specs.Prelude.{ℕ}
+use Rattle.std.specs.Prelude.{ℕ, ◌≡◌, Bool}
 use Rattle.std.proofs.Common.{inl, ◌∙◌, append-nil}
 use Rattle.base_core.specs.Full.{IsFull}
 use Rattle.turnstile.specs.Logs.{Grown}
 use Rattle.desk_core.specs.declared.object.Ask.{Ask}
 use Rattle.desk_core.specs.declared.object.Ask.TheVariants as asks
+use Rattle.desk_core.specs.declared.object.Basis.{Basis}
 use Rattle.system_core.specs.declared.machine.event.Entry.{Entry}
 use Rattle.system_core.specs.declared.machine.event.Event.{Event}
 use Rattle.system_core.specs.declared.machine.event.Event.TheVariants as events
-use Rattle.system_core.specs.declared.machine.event.Reply.{Reply}
-use Rattle.system_core.specs.World.{World, IsLawfulWorld}
+use Rattle.system_core.specs.Entering.{entered}
+use Rattle.system_core.specs.World.{IsLawfulWorld}
 use Rattle.system_core.specs.Step.{Step}
 use Rattle.system_core.proofs.Entered.{step_enters, one_at_most}
+use Rattle.desk_core.specs.Guarded.{Guarded, Spoken}
+use Rattle.desk_core.specs.Kept.{KeepsEntered, HasKept}
 
 -- what is asked through a pass, as an event
 abbrev pub event_of : ℕ → Ask → Event
-event_of pass (asks.Say user asked) = events.Say pass user asked
+event_of pass (asks.Say said) = events.Say pass said.user said.statement
 event_of pass asks.Step = events.Step
 event_of pass asks.Abandon = events.Abandon
 
--- a step of the machine from a lawful world with full limits, asked through a pass
-abbrev pub Acts : World → ℕ → Ask → Reply → World → Type 0
-Acts old pass ask reply new =
-    IsLawfulWorld old × IsFull old.limits × Step old (event_of pass ask) reply new
+-- what no act changes of the core: its chunk, and how many entries it had
+abbrev pub basis : {K : Type 0} → Guarded K → Basis
+basis c = record { chunk = c.world.chunk; front = c.front }
 
--- it enters one entry of the pass at most, no checkpoint is unbegun, and the chunk stays
-pub acts_grow : (old : World) (pass : ℕ) (ask : Ask) (reply : Reply) (new : World)
-    → Acts old pass ask reply new
-    → Grown {O = World} (λ w. w.journal) (λ (e : Entry). e.pass) (λ w. w.begun) (λ w. w.chunk) pass
-    old new
-acts_grow old pass (asks.Say user asked) reply new h =
-    let m = step_enters old new (events.Say pass user asked) reply h.2 in
-    record {
-      adds = one_at_most pass user asked reply old.journal new.journal m.journal;
-      rises = m.begun;
-      stays = m.chunk;
-    }
-acts_grow old pass asks.Step reply new h =
-    let m = step_enters old new events.Step reply h.2 in
-    record { adds = inl (m.journal ∙ append-nil old.journal); rises = m.begun; stays = m.chunk }
-acts_grow old pass asks.Abandon reply new h =
-    let m = step_enters old new events.Abandon reply h.2 in
-    record { adds = inl (m.journal ∙ append-nil old.journal); rises = m.begun; stays = m.chunk }
+module _ {K : Type 0} (keeps fails : K → Entry → K → Type 0) (failed : K → Bool) where
+  -- A step of the machine from a lawful world with full limits, asked through a pass. What it entered
+  -- is kept before the reply may be told.
+  pub record Acts (old : Guarded K) (pass : ℕ) (ask : Ask) (answer : Spoken) (new : Guarded K)
+      : Type 0 where
+    pub lawful : IsLawfulWorld old.world
+    pub full : IsFull old.world.limits
+    pub step : Step old.world (event_of pass ask) answer.reply new.world
+    pub keeping : KeepsEntered keeps fails failed old.keeper
+        (entered (event_of pass ask) answer.reply)
+        answer.told
+        new.keeper
+    pub front : new.front ≡ old.front
+    pub has_kept : HasKept keeps failed new.front new.world.journal new.keeper
+
+  -- it enters one entry of the pass at most, no checkpoint is unbegun, and the basis stays
+  pub acts_grow : (old : Guarded K) (pass : ℕ) (ask : Ask) (answer : Spoken) (new : Guarded K)
+      → Acts old pass ask answer new
+      → Grown {O = Guarded K} (λ c. c.world.journal) (λ (e : Entry). e.pass) (λ c. c.world.begun)
+      basis pass old new
+  acts_grow old pass (asks.Say said) answer new h =
+      let m =
+      step_enters old.world new.world (events.Say pass said.user said.statement) answer.reply
+      h.step
+      in
+      record {
+        adds =
+            one_at_most pass said.user said.statement answer.reply old.world.journal
+            new.world.journal m.journal;
+        rises = m.begun;
+        stays = (λ i. record { chunk = m.chunk i; front = h.front i });
+      }
+  acts_grow old pass asks.Step answer new h =
+      let m = step_enters old.world new.world events.Step answer.reply h.step in
+      record {
+        adds = inl (m.journal ∙ append-nil old.world.journal);
+        rises = m.begun;
+        stays = (λ i. record { chunk = m.chunk i; front = h.front i });
+      }
+  acts_grow old pass asks.Abandon answer new h =
+      let m = step_enters old.world new.world events.Abandon answer.reply h.step in
+      record {
+        adds = inl (m.journal ∙ append-nil old.world.journal);
+        rises = m.begun;
+        stays = (λ i. record { chunk = m.chunk i; front = h.front i });
+      }

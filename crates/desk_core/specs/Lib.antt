@@ -1,3 +1,6 @@
+pub mod Guarded
+pub mod Saying
+pub mod Kept
 pub mod Acting
 pub mod Turns
 pub use Rattle.base_core.specs.Full
@@ -7,3 +10,4 @@ pub use Rattle.turnstile.specs.Closed
 pub use Rattle.system_core.specs.World
 pub use Rattle.system_core.specs.Step
 pub use Rattle.system_core.specs.Entering
+pub use Rattle.journal_core.specs.Keeping

@@ -6,6 +6,7 @@ use Rattle.turnstile.specs.Logs.{StartsWith}
 use Rattle.turnstile.specs.Passes.{Lock, Held, mine}
 use Rattle.turnstile.specs.Closed.{Closed}
 use Rattle.desk_core.specs.declared.object.Ask.{Ask}
+use Rattle.desk_core.specs.declared.object.Basis.{Basis}
 use Rattle.system_core.specs.declared.machine.event.Entry.{Entry}
 use Rattle.system_core.specs.declared.machine.event.Reply.{Reply}
 use Rattle.system_core.specs.declared.machine.event.Reply.TheVariants as replies
@@ -24,8 +25,9 @@ journal_of w = w.journal
 abbrev pub begun_of : World → ℕ
 begun_of w = w.begun
 
-abbrev pub chunk_of : World → ℕ
-chunk_of w = w.chunk
+-- what no turn changes of a world: its chunk, beside the number of entries that it had
+abbrev pub basis_of : ℕ → World → Basis
+basis_of front w = record { chunk = w.chunk; front = front }
 
 -- the answer where all turns are drawn, which no step of the machine gives
 abbrev pub worn : Reply
@@ -34,12 +36,12 @@ worn = replies.Refused (record { 0 = 0 }) lacks.Worn
 -- A turn: the core stood for a lawful world that has all that the pass had seen, and made one step
 -- from there. The pass has then seen the world after it, and has made what the step entered, and
 -- nothing else.
-pub record Took (desk : Lock ℕ) (ask : Ask) (reply : Reply) (old new : Held Entry ℕ) : Type 0 where
+pub record Took (desk : Lock Basis) (ask : Ask) (reply : Reply) (old new : Held Entry Basis) : Type 0 where
   pub before : World
   pub after : World
   pub lawful : IsLawfulWorld before
   pub full : IsFull before.limits
-  pub chunk : before.chunk ≡ desk.fixed
+  pub chunk : before.chunk ≡ desk.fixed.chunk
   pub seen_before : StartsWith before.journal old.seen
   pub mark_before : old.mark ≤ before.begun
   pub step : Step before (event_of old.number ask) reply after
@@ -50,13 +52,13 @@ pub record Took (desk : Lock ℕ) (ask : Ask) (reply : Reply) (old new : Held En
   pub counted : new.turns ≡ old.turns + 1
 
 -- what comes of asking: a turn, or else that all turns are drawn
-pub data Answered (desk : Lock ℕ) (ask : Ask) (reply : Reply)
-    (old new : Held Entry ℕ) : Type 0 where
+pub data Answered (desk : Lock Basis) (ask : Ask) (reply : Reply)
+    (old new : Held Entry Basis) : Type 0 where
   took : Took desk ask reply old new → Answered desk ask reply old new
   spent : reply ≡ worn → new ≡ record old { drawn = 2 ^ 62 } → Answered desk ask reply old new
 
 -- the world that the desk leaves, of these passes
-pub record Ended (desk : Lock ℕ) (passes : List (Held Entry ℕ)) (w : World) : Type 0 where
+pub record Ended (desk : Lock Basis) (passes : List (Held Entry Basis)) (w : World) : Type 0 where
   pub lawful : IsLawfulWorld w
   pub full : IsFull w.limits
-  pub closed : Closed journal_of asked_by begun_of chunk_of desk passes w
+  pub closed : Closed journal_of asked_by begun_of (basis_of desk.fixed.front) desk passes w

@@ -1,13 +1,17 @@
 //! The core behind a turn lock.
-ghost use Rattle.std.specs.Prelude.{◌≡◌, ◌≢◌, ◌+◌, ◌<◌, ◌≤◌, ◌^◌, length, All, Some, IfOk, IfErr, OnOk, OnErr};
+ghost use Rattle.std.specs.Prelude.{◌≡◌, ◌≢◌, ◌+◌, ◌<◌, ◌≤◌, ◌^◌, ℕ, List, length, All, Some, false, IfOk, IfErr, OnOk, OnErr};
 ghost use Rattle.turnstile.specs.Logs.{StartsWith};
 ghost use Rattle.turnstile.specs.Passes.{IsSamePass, mine, new_passes};
 ghost use Rattle.turnstile.specs.Closed.{AreAll};
 ghost use Rattle.desk_core.specs.declared.object.Ask.TheVariants as asks;
-ghost use Rattle.desk_core.specs.Turns.{asked_by, Answered, Ended};
+ghost use Rattle.base_core.specs.Full.{IsFull};
+ghost use Rattle.reader_core.specs.Language.{Spells};
+ghost use Rattle.desk_core.specs.Kept.{HasKept, IsKept};
+ghost use Rattle.desk_core.specs.Turns.{asked_by, Took, Answered, Ended};
 
-use crate::object::{Ask, Core};
+use crate::object::{Ask, Core, Said, Unkept};
 use base_core::{Lack, Moment, NoMemory, User};
+use journal_core::Keeper;
 use reader_core::Statement;
 use std::alloc::Global;
 use std::marker::Model;
@@ -16,113 +20,153 @@ use system_core::{Reply, System};
 use turnstile::{Turnstile, Worn};
 
 /// What its holder knows of the core: the beginning of the journal that he has seen.
-pub type Pass = turnstile::Pass<Core>;
+pub type Pass<K> = turnstile::Pass<Core<K>>;
 
 /// What a pass had seen, for another to meet.
-pub type Note = turnstile::Note<Core>;
+pub type Note<K> = turnstile::Note<Core<K>>;
 
-/// A core that threads share by turns. Contracts see the turn lock: how many passes it has, and the
-/// chunk of its core.
+/// A core that threads share by turns, with what keeps its changes. Contracts see the turn lock: how
+/// many passes it has, the chunk of its core, and how many entries the journal had at first.
 #[derive(Drop)]
-pub struct Desk {
-    turnstile: Turnstile<Core>,
+pub struct Desk<K: Keeper + Drop> {
+    turnstile: Turnstile<Core<K>>,
 }
 
-impl Model for Desk {
-    ghost use Rattle.std.specs.Prelude.{ℕ};
+impl<K: Keeper + Drop> Model for Desk<K> {
+    ghost use Rattle.desk_core.specs.declared.object.Basis.{Basis};
     ghost use Rattle.turnstile.specs.Passes.{Lock};
 
-    ghost Value = { Lock ℕ };
+    ghost Value = { Lock Basis };
 
     ghost view = { λ d. d.turnstile };
 }
 
-impl Desk {
-    /// A desk with `count` passes, from 1 to 64, and a core with nothing entered and full limits. The
-    /// chunk is from 1 to 64, and turns are counted from 0. The passes are numbered from 0 and have
-    /// seen nothing. `NoMemory` where a request for memory was refused.
-    pub fn build(alloc: Global, count: usize, chunk: usize) -> Result<(Desk, Vec<Pass>), NoMemory>
+impl<K: Keeper + Drop> Desk<K> {
+    /// A desk with `count` passes, from 1 to 64, and this system, which has full limits, this chunk,
+    /// and no checkpoint that was begun. Each entry of its journal bears the number of a pass. The
+    /// keeper, which has not failed, keeps what is entered from now on. Turns are counted from 0. The
+    /// passes are numbered from 0 and have seen the journal. `NoMemory` where a request for memory was
+    /// refused.
+    pub fn build(
+        alloc: Global,
+        system: System,
+        chunk: usize,
+        keeper: K,
+        count: usize,
+    ) -> Result<(Desk<K>, Vec<Pass<K>>), NoMemory>
         requires counts { (0 < count) × (count ≤ 64) }
-        requires some { 0 < chunk }
-        requires small { chunk ≤ 64 }
-        ensures desk { IfOk result
-            (λ b. (b.0.count ≡ count) × (b.0.start ≡ 0) × (b.0.fixed ≡ chunk)) }
-        ensures passes { IfOk result (λ b. b.1.items ≡ new_passes b.0) }
+        requires chunk { system.chunk ≡ chunk }
+        requires full { IsFull system.limits }
+        requires unbegun { system.begun ≡ 0 }
+        requires bears { All (λ e. e.pass < count) system.journal }
+        requires works { K.failed keeper ≡ false }
+        ensures desk { IfOk result (λ b. (b.0.count ≡ count)
+            × (b.0.start ≡ 0)
+            × (b.0.fixed ≡ record { chunk = chunk; front = length system.journal })) }
+        ensures passes { IfOk result (λ b. b.1.items ≡ new_passes system.journal b.0) }
     {
-        Desk::build_at(alloc, count, chunk, 0)
+        Desk::build_at(alloc, system, chunk, keeper, count, 0)
     }
 
     /// The same, with the turns counted from `start`, at most 2^62.
     pub fn build_at(
         alloc: Global,
-        count: usize,
+        system: System,
         chunk: usize,
+        keeper: K,
+        count: usize,
         start: u64,
-    ) -> Result<(Desk, Vec<Pass>), NoMemory>
+    ) -> Result<(Desk<K>, Vec<Pass<K>>), NoMemory>
         requires counts { (0 < count) × (count ≤ 64) }
-        requires some { 0 < chunk }
-        requires small { chunk ≤ 64 }
+        requires chunk { system.chunk ≡ chunk }
+        requires full { IsFull system.limits }
+        requires unbegun { system.begun ≡ 0 }
+        requires bears { All (λ e. e.pass < count) system.journal }
+        requires works { K.failed keeper ≡ false }
         requires start { start ≤ 2 ^ 62 }
-        ensures desk { IfOk result
-            (λ b. (b.0.count ≡ count) × (b.0.start ≡ start) × (b.0.fixed ≡ chunk)) }
-        ensures passes { IfOk result (λ b. b.1.items ≡ new_passes b.0) }
+        ensures desk { IfOk result (λ b. (b.0.count ≡ count)
+            × (b.0.start ≡ start)
+            × (b.0.fixed ≡ record { chunk = chunk; front = length system.journal })) }
+        ensures passes { IfOk result (λ b. b.1.items ≡ new_passes system.journal b.0) }
     {
-        let core = Core::new(alloc, chunk)?;
+        let core = Core::new(alloc, system, chunk, keeper)?;
         let (turnstile, passes) = Turnstile::build_at(alloc, core, count, start)?;
         Ok((Desk { turnstile }, passes))
     }
 
     /// A turn of the pass. What the core gives to be freed is freed behind the turn.
-    fn turn<R: Wait>(&self, rt: &R, pass: &mut Pass, ask: Ask) -> Reply
+    fn turn<R: Wait>(&self, rt: &R, pass: &mut Pass<K>, ask: Ask) -> Result<Reply, Unkept>
         requires { pass.old.lock ≡ Some self.now }
         ensures same { IsSamePass pass.old pass.new }
-        ensures answered { Answered self.now ask result pass.old pass.new }
+        ensures answered { IfOk result (λ reply. Answered self.now ask reply pass.old pass.new) }
+        ensures kept { OnOk result (pass.old.turns < pass.new.turns
+            → IsKept K.keeps K.failed self.now.fixed.front pass.new.seen) }
+        ensures withheld { OnErr result ((reply : Reply)
+            × Took self.now ask reply pass.old pass.new) }
     {
         match self.turnstile.turn(rt, pass, ask) {
             Ok(answer) => answer.into_reply(),
-            Err(Worn) => Reply::Refused {
+            Err(Worn) => Ok(Reply::Refused {
                 at: Moment(0),
                 lack: Lack::Worn,
-            },
+            }),
         }
     }
 
-    /// One statement: an event of the core, in a turn of the pass. Where all turns are drawn it is
-    /// refused with `Worn`, at 0, and the core is untouched.
+    /// One statement, which some line spells: an event of the core, in a turn of the pass. Where all
+    /// turns are drawn it is refused with `Worn`, at 0, and the core is untouched. Where a reply is
+    /// answered in a turn, all that was entered since the desk was built is kept. `Unkept` where a
+    /// change could not be kept, in this turn or before: then the reply is withheld.
     pub fn execute<R: Wait>(
         &self,
         rt: &R,
-        pass: &mut Pass,
+        pass: &mut Pass<K>,
         user: User,
         statement: Statement,
-    ) -> Reply
-        requires { pass.old.lock ≡ Some self.now }
+    ) -> Result<Reply, Unkept>
+        requires pass { pass.old.lock ≡ Some self.now }
+        requires spelled { (line : List ℕ) × Spells line statement }
         ensures same { IsSamePass pass.old pass.new }
-        ensures answered { Answered self.now (asks.Say user statement) result pass.old pass.new }
+        ensures answered { IfOk result (λ reply. Answered self.now
+            (asks.Say (record { user = user; statement = statement })) reply pass.old pass.new) }
+        ensures kept { OnOk result (pass.old.turns < pass.new.turns
+            → IsKept K.keeps K.failed self.now.fixed.front pass.new.seen) }
+        ensures withheld { OnErr result ((reply : Reply)
+            × Took self.now
+            (asks.Say (record { user = user; statement = statement })) reply pass.old pass.new) }
     {
-        self.turn(rt, pass, Ask::Say { user, statement })
+        self.turn(rt, pass, Ask::Say(Said::new(user, statement)))
     }
 
-    /// One step of the checkpointer, in a turn of the pass. `Worn` as in `execute`.
-    pub fn checkpoint_turn<R: Wait>(&self, rt: &R, pass: &mut Pass) -> Reply
+    /// One step of the checkpointer, in a turn of the pass. `Worn` and `Unkept` as in `execute`.
+    pub fn checkpoint_turn<R: Wait>(&self, rt: &R, pass: &mut Pass<K>) -> Result<Reply, Unkept>
         requires { pass.old.lock ≡ Some self.now }
         ensures same { IsSamePass pass.old pass.new }
-        ensures answered { Answered self.now asks.Step result pass.old pass.new }
+        ensures answered { IfOk result (λ reply. Answered self.now asks.Step reply pass.old pass.new) }
+        ensures kept { OnOk result (pass.old.turns < pass.new.turns
+            → IsKept K.keeps K.failed self.now.fixed.front pass.new.seen) }
+        ensures withheld { OnErr result ((reply : Reply)
+            × Took self.now asks.Step reply pass.old pass.new) }
     {
         self.turn(rt, pass, Ask::Step)
     }
 
-    /// Gives the active checkpoint up, in a turn of the pass. `Worn` as in `execute`.
-    pub fn abandon_turn<R: Wait>(&self, rt: &R, pass: &mut Pass) -> Reply
+    /// Gives the active checkpoint up, in a turn of the pass. `Worn` and `Unkept` as in `execute`.
+    pub fn abandon_turn<R: Wait>(&self, rt: &R, pass: &mut Pass<K>) -> Result<Reply, Unkept>
         requires { pass.old.lock ≡ Some self.now }
         ensures same { IsSamePass pass.old pass.new }
-        ensures answered { Answered self.now asks.Abandon result pass.old pass.new }
+        ensures answered { IfOk result
+            (λ reply. Answered self.now asks.Abandon reply pass.old pass.new) }
+        ensures kept { OnOk result (pass.old.turns < pass.new.turns
+            → IsKept K.keeps K.failed self.now.fixed.front pass.new.seen) }
+        ensures withheld { OnErr result ((reply : Reply)
+            × Took self.now asks.Abandon reply pass.old pass.new) }
     {
         self.turn(rt, pass, Ask::Abandon)
     }
 
     /// What the pass has seen, for another pass of this desk to meet.
-    pub fn note(&self, pass: &mut Pass) -> Note
+    pub fn note(&self, pass: &mut Pass<K>) -> Note<K>
         requires { pass.old.lock ≡ Some self.now }
         ensures same { pass.new ≡ pass.old }
         ensures told { result
@@ -132,7 +176,7 @@ impl Desk {
     }
 
     /// From now on the pass has seen what the note tells too.
-    pub fn meet(&self, pass: &mut Pass, note: Note)
+    pub fn meet(&self, pass: &mut Pass<K>, note: Note<K>)
         requires pass { pass.old.lock ≡ Some self.now }
         requires note { note.lock ≡ Some self.now }
         ensures same { IsSamePass pass.old pass.new }
@@ -145,20 +189,28 @@ impl Desk {
         self.turnstile.meet(pass, note);
     }
 
-    /// The core, where these are all passes of the desk. Where one is missing, the desk and the passes
-    /// are given back.
-    pub fn close(self, passes: Vec<Pass>) -> Result<System, (Desk, Vec<Pass>)>
+    /// The core and its keeper, where these are all passes of the desk. Unless it has failed, the
+    /// keeper has kept all that was entered since the desk was built, in order. Where a pass is
+    /// missing, the desk and the passes are given back.
+    pub fn close(self, passes: Vec<Pass<K>>) -> Result<(System, K), (Desk<K>, Vec<Pass<K>>)>
         requires { All (λ p. p.lock ≡ Some self) passes.items }
         ensures all { OnOk result (AreAll self passes.items) }
-        ensures ok { IfOk result (λ w. Ended self passes.items w) }
+        ensures ok { IfOk result (λ b. Ended self passes.items b.0) }
+        ensures kept { IfOk result
+            (λ b. HasKept K.keeps K.failed self.fixed.front b.0.journal b.1) }
         ensures missing { OnErr result (¬ AreAll self passes.items) }
         ensures err { IfErr result (λ e. (e.0 ≡ self) × (e.1 ≡ passes)) }
     {
         let Desk { turnstile } = self;
         match turnstile.close(passes) {
             Ok(core) => {
-                let _ = core.system.journal();
-                Ok(Box::into_inner(core.system))
+                let Core {
+                    basis: _,
+                    system,
+                    keeper,
+                } = core;
+                let _ = system.journal();
+                Ok((Box::into_inner(system), keeper))
             }
             Err((turnstile, passes)) => Err((Desk { turnstile }, passes)),
         }

@@ -1,10 +1,11 @@
 //! The desk: a core that threads share.
 //!
-//! A [`Desk`] is a core behind a turn lock. It is made with all its [`Pass`]es, one for each
-//! thread, and stands for how many they are, with the chunk of its core, whose limits are full. A
-//! pass stands for what its holder knows: his number, the beginning of the journal that he has
-//! seen, and how many checkpoints he knows to be begun. What he made are the entries there that
-//! bear his number.
+//! A [`Desk`] is a core behind a turn lock, with a keeper of its changes. It is made of any core
+//! with full limits in which no checkpoint was begun, with all its [`Pass`]es, one for each thread,
+//! and stands for how many they are, with the chunk of its core and the number of entries that its
+//! journal had at first. A pass stands for what its holder knows: his number, the beginning of the
+//! journal that he has seen, and how many checkpoints he knows to be begun. At first that is the
+//! journal of the core. What he made are the entries there that bear his number.
 //!
 //! **The one contract.** [`Desk::execute`] is one step of the core, in a turn of its own, and so
 //! are [`Desk::checkpoint_turn`] and [`Desk::abandon_turn`]. There was a lawful world that has all
@@ -16,27 +17,36 @@
 //! no change is lost, doubled or invented, over whatever order in which the threads come. Once 2^62
 //! turns were drawn each call is refused with `Worn`, and none is before.
 //!
+//! **Kept before it is told.** A change is kept in the turn that enters it, before its reply is
+//! answered. So where a reply was answered in a turn, all that was entered since the desk was built
+//! is kept, in order and each once. A change that could not be kept stays entered, and its reply is
+//! withheld: [`Unkept`]. From then on each turn is still a step of the core, nothing is kept, and
+//! each reply is withheld. [`Desk::close`] gives the keeper too.
+//!
 //! ```text
-//! let (desk, mut passes) = Desk::build(alloc, 2, 16)?;
+//! let system = System::new(alloc, 16)?;
+//! let (desk, mut passes) = Desk::build(alloc, system, 16, NoKeeper, 2)?;
 //! let mut second = passes.pop()?;
 //! let mut first = passes.pop()?;
-//! desk.execute(&rt, &mut first, ann, create);    // Done { at: Moment(1) }
+//! desk.execute(&rt, &mut first, ann, create)?;    // Done { at: Moment(1) }
 //! let note = desk.note(&mut first);
 //! desk.meet(&mut second, note);
-//! desk.execute(&rt, &mut second, ann, select);   // Rows, at moment 1 or later
+//! desk.execute(&rt, &mut second, ann, select)?;   // Rows, at moment 1 or later
 //! ```
 //!
 //! # Mechanism
 //!
-//! The turn lock is the turnstile's; a turn does one step of the core, and neither reads, writes
-//! nor waits in it. Nothing else is locked.
+//! The turn lock is the turnstile's; a turn does one step of the core and keeps its change, and
+//! reads or writes nothing else, nor waits for anything else. Nothing else is locked.
 //!
 //! # Cost
 //!
-//! A turn costs what the core's step does, two moves of a pointer to it, and six atomic steps.
+//! A turn costs what the core's step and its keeper do, two moves of a pointer to the core and of
+//! the keeper, and six atomic steps.
 #![tactic(auto)]
 
 mod desk;
 mod object;
 
 pub use desk::{Desk, Note, Pass};
+pub use object::{Basis, Unkept};

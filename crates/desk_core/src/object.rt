@@ -1,20 +1,56 @@
 //! The core as what a turn lock guards.
-ghost use Rattle.std.specs.Prelude.{◌≡◌, ◌<◌, ◌≤◌, IfOk};
+ghost use Rattle.std.specs.Prelude.{◌≡◌, ◌<◌, ◌≤◌, ℕ, List, [], ◌∷◌, ◌++◌, length, true, false, Bool, IfOk, MatchResult, OnOk, OnErr};
 ghost use Rattle.base_core.specs.Full.{IsFull};
-ghost use Rattle.system_core.specs.World.{World, opening};
+ghost use Rattle.reader_core.specs.Language.{Spells};
+ghost use Rattle.system_core.specs.declared.machine.event.Entry.{Entry};
+ghost use Rattle.system_core.specs.Entering.{entered};
+ghost use Rattle.system_core.specs.Step.{Step};
+ghost use Rattle.system_core.specs.World.{World};
 ghost use Rattle.desk_core.specs.Acting.{event_of};
+ghost use Rattle.system_core.specs.declared.machine.event.Event.{Event};
+ghost use Rattle.desk_core.specs.Kept.{KeepsEntered};
+ghost use Rattle.desk_core.specs.Saying.{IsSpelled, is_done};
 
-use base_core::{NoMemory, User};
+use base_core::{Broken, NoMemory, User};
+use journal_core::Keeper;
 use reader_core::Statement;
 use std::alloc::Global;
 use std::marker::Model;
 use system_core::{Entry, Event, Parting, Reply, System};
 use turnstile::Object;
 
+/// A statement of a user, as some line spells it. Contracts see who says what.
+#[derive(Drop)]
+pub struct Said {
+    user: User,
+    statement: Statement,
+}
+
+impl Model for Said {
+    ghost use Rattle.std.specs.Prelude.{ℕ, List};
+    ghost use Rattle.reader_core.specs.Language.{Spells};
+    ghost use Rattle.desk_core.specs.Saying.{Saying};
+
+    ghost Value = { Saying };
+
+    ghost view = { λ s. record { user = s.user; statement = s.statement } };
+
+    ghost invariant = { λ s. (line : List ℕ) × Spells line s.statement };
+}
+
+impl Said {
+    pub fn new(user: User, statement: Statement) -> Said
+        requires spelled { (line : List ℕ) × Spells line statement }
+        ensures { result ≡ record { user = user; statement = statement } }
+    {
+        Said { user, statement }
+    }
+}
+
 /// What is asked through a pass.
 #[derive(Drop)]
 pub enum Ask {
-    Say { user: User, statement: Statement },
+    Say(Said),
     /// A step of the checkpointer.
     Step,
     /// To give up the active checkpoint.
@@ -24,79 +60,162 @@ pub enum Ask {
 impl Ask {
     /// What is asked, as an event of the pass of this number.
     fn event(self, pass: u64) -> Event
-        ensures { result ≡ event_of pass self }
+        ensures event { result ≡ event_of pass self }
+        ensures spelled { IsSpelled result }
     {
         match self {
-            Ask::Say { user, statement } => Event::Say {
-                pass,
-                user,
-                statement,
-            },
+            Ask::Say(said) => {
+                let Said { user, statement } = said;
+                Event::Say {
+                    pass,
+                    user,
+                    statement,
+                }
+            }
             Ask::Step => Event::Step,
             Ask::Abandon => Event::Abandon,
         }
     }
 }
 
-/// A reply, and what is freed behind the turn. Contracts see the reply.
+/// A reply is withheld: a change could not be kept.
+#[derive(Clone, Copy)]
+pub struct Unkept;
+
+/// A reply, whether it may be told, and what is freed behind the turn. Contracts see the reply, and
+/// whether it may be told.
 #[derive(Drop)]
 pub struct Answer {
     reply: Reply,
+    told: bool,
     parting: Parting,
 }
 
 impl Model for Answer {
-    ghost use Rattle.system_core.specs.declared.machine.event.Reply.{Reply};
+    ghost use Rattle.desk_core.specs.Guarded.{Spoken};
 
-    ghost Value = { Reply };
+    ghost Value = { Spoken };
 
-    ghost view = { λ a. a.reply };
+    ghost view = { λ a. record { reply = a.reply; told = a.told } };
 }
 
 impl Answer {
-    /// The reply. What is to be freed is freed here.
-    pub fn into_reply(self) -> Reply
-        ensures { result ≡ self }
+    /// The reply, if it may be told. What is to be freed is freed here.
+    pub fn into_reply(self) -> Result<Reply, Unkept>
+        ensures { MatchResult result
+            (λ reply. (self.told ≡ true) × (reply ≡ self.reply)) (λ _. self.told ≡ false) }
     {
-        let Answer { reply, parting } = self;
+        let Answer {
+            reply,
+            told,
+            parting,
+        } = self;
         parting.free();
-        reply
+        if told { Ok(reply) } else { Err(Unkept) }
     }
 }
 
-/// A core with full limits. Contracts see its world.
-#[derive(Drop)]
-pub struct Core {
+/// What no turn changes: the number of records in a step of the checkpointer, and the number of
+/// entries that the journal had when the desk was built.
+#[derive(Clone, Copy)]
+pub struct Basis {
     pub chunk: usize,
+    pub front: usize,
+}
+
+/// A core with full limits, and what keeps its changes. Contracts see its world, the keeper, and
+/// how many entries the journal had before this keeper.
+#[derive(Drop)]
+pub struct Core<K: Keeper> {
+    pub basis: Basis,
     pub system: Box<System>,
+    pub keeper: K,
 }
 
-impl Model for Core {
-    ghost use Rattle.std.specs.Prelude.{◌≡◌};
+impl<K: Keeper> Model for Core<K> {
+    ghost use Rattle.std.specs.Prelude.{◌≡◌, ◌≤◌, length};
     ghost use Rattle.base_core.specs.Full.{IsFull};
-    ghost use Rattle.system_core.specs.World.{World};
+    ghost use Rattle.desk_core.specs.Guarded.{Guarded};
+    ghost use Rattle.desk_core.specs.Kept.{HasKept};
 
-    ghost Value = { World };
+    ghost Value = { Guarded K };
 
-    ghost view = { λ c. c.system.value };
+    ghost view = { λ c. record {
+      world = c.system.value;
+      keeper = c.keeper;
+      front = c.basis.front;
+    } };
 
-    ghost invariant = { λ c. (c.system.value.chunk ≡ c.chunk) × IsFull c.system.value.limits };
+    ghost invariant = { λ c. (c.system.value.chunk ≡ c.basis.chunk)
+        × IsFull c.system.value.limits
+        × (c.basis.front ≤ length c.system.value.journal)
+        × HasKept K.keeps K.failed c.basis.front c.system.value.journal c.keeper };
 }
 
-impl Core {
-    /// Nothing entered. The chunk is from 1 to 64. `NoMemory` where a request for memory was refused.
-    pub fn new(alloc: Global, chunk: usize) -> Result<Core, NoMemory>
-        requires some { 0 < chunk }
-        requires small { chunk ≤ 64 }
-        ensures { IfOk result (λ c. c ≡ opening chunk c.limits) }
+impl<K: Keeper + Drop> Core<K> {
+    /// This system, of this chunk, whose changes from now on the keeper keeps. `NoMemory` where a
+    /// request for memory was refused.
+    pub fn new(alloc: Global, system: System, chunk: usize, keeper: K) -> Result<Core<K>, NoMemory>
+        requires chunk { system.chunk ≡ chunk }
+        requires full { IsFull system.limits }
+        ensures { IfOk result (λ c. c
+            ≡ record { world = system; keeper = keeper; front = length system.journal }) }
     {
-        let system = Box::new(alloc, System::new(alloc, chunk)?)?;
-        Ok(Core { chunk, system })
+        let front = system.journal().len();
+        let system = Box::new(alloc, system)?;
+        Ok(Core {
+            basis: Basis { chunk, front },
+            system,
+            keeper,
+        })
     }
 }
 
-impl Object for Core {
-    ghost use Rattle.desk_core.specs.Acting.{Acts, acts_grow};
+/// Keeps the last entry of the journal.
+fn keep_last<K: Keeper>(system: &System, keeper: &mut K) -> Result<(), Broken>
+    requires works { K.failed keeper.old ≡ false }
+    requires last { (front : List Entry) × (last : Entry) × (line : List ℕ)
+        × (system.now.journal ≡ front ++ last ∷ []) × Spells line last.statement }
+    ensures failed { MatchResult result (λ _. K.failed keeper.new ≡ false)
+        (λ _. K.failed keeper.new ≡ true) }
+    ensures ok { OnOk result ((front : List Entry) (last : Entry)
+        → system.now.journal ≡ front ++ last ∷ [] → K.keeps keeper.old last keeper.new) }
+    ensures err { OnErr result ((front : List Entry) (last : Entry)
+        → system.now.journal ≡ front ++ last ∷ [] → K.fails keeper.old last keeper.new) }
+{
+    let Some(entry) = system.journal().last() else {
+        unreachable!()
+    };
+    keeper.keep(entry)
+}
+
+fn is_done(reply: &Reply) -> bool
+    ensures { result ≡ is_done reply.now }
+{
+    match reply {
+        Reply::Done { .. } => true,
+        _ => false,
+    }
+}
+
+/// Keeps what a step entered, by its reply, and says whether the reply may be told.
+fn keep_entered<K: Keeper>(system: &System, keeper: &mut K, reply: &Reply) -> bool
+    requires stepped { (old : World) × (event : Event)
+        × Step old event reply.now system.now × IsSpelled event }
+    ensures { (old : World) (event : Event) → Step old event reply.now system.now
+        → KeepsEntered K.keeps K.fails K.failed keeper.old (entered event reply.now) result keeper.new }
+{
+    if keeper.has_failed() {
+        return false;
+    }
+    if is_done(reply) {
+        return keep_last(system, keeper).is_ok();
+    }
+    true
+}
+
+impl<K: Keeper + Drop> Object for Core<K> {
+    ghost use Rattle.desk_core.specs.Acting.{Acts, acts_grow, basis};
 
     type Ask = Ask;
 
@@ -104,29 +223,33 @@ impl Object for Core {
 
     type Entry = Entry;
 
-    /// The chunk.
-    type Fixed = usize;
+    type Fixed = Basis;
 
-    ghost log = { λ w. w.journal };
+    ghost log = { λ c. c.world.journal };
 
     ghost by = { λ e. e.pass };
 
-    ghost mark = { λ w. w.begun };
+    ghost mark = { λ c. c.world.begun };
 
-    ghost fixed = { λ w. w.chunk };
+    ghost fixed = { basis };
 
-    ghost acts = { Acts };
+    ghost acts = { Acts K.keeps K.fails K.failed };
 
     fn act(&mut self, pass: u64, ask: Ask) -> Answer {
         let _ = self.system.journal();
         let reply = self.system.step(ask.event(pass));
+        let told = keep_entered(&self.system, &mut self.keeper, &reply);
         let parting = self.system.take_parting();
-        Answer { reply, parting }
+        Answer {
+            reply,
+            told,
+            parting,
+        }
     }
 
-    fn fixed_part(&self) -> usize {
-        self.chunk
+    fn fixed_part(&self) -> Basis {
+        self.basis
     }
 
-    ghost grows = { acts_grow };
+    ghost grows = { acts_grow K.keeps K.fails K.failed };
 }

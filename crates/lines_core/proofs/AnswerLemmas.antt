@@ -3,8 +3,7 @@ use Rattle.std.proofs.Common.{◌≤◌, ◌<◌, ◌+◌, ◌-◌, ℕ, List, [
 use Rattle.std.specs.Str.Lines.{strip_carriage_return}
 use Rattle.std.proofs.lemmas.List.{take_all, length-take}
 use Rattle.std.proofs.lemmas.Bool.{cases_lt}
-use Rattle.lexer_core.specs.declared.lexer.TheConstants.{MAX_LINE}
-use Rattle.lines_core.specs.declared.line.TheConstants.{KEPT_BYTES}
+use Rattle.lines_core.specs.declared.line.TheConstants.{KEPT_BYTES, LONGEST_LINE}
 use Rattle.lines_core.specs.Serving.{AnswersAll}
 
 strip_length : (l : List ℕ) → length l ≤ length (strip_carriage_return l) + 1
@@ -27,7 +26,7 @@ module _ {X : Type 0} (R : X → List ℕ → List ℕ → X → Type 0) where
 
 -- no answer depends on what wasn't kept
 module _ {X : Type 0} (R : X → List ℕ → List ℕ → X → Type 0)
-    (too_long : (old new : X) (line other text : List ℕ) → MAX_LINE < length line → MAX_LINE < length other → R old line text new → R old other text new) where
+    (too_long : (old new : X) (line other text : List ℕ) → LONGEST_LINE < length line → LONGEST_LINE < length other → R old line text new → R old other text new) where
   pub R-kept : (l : List ℕ) (old new : X) (text : List ℕ) → R old (take KEPT_BYTES l) text new → R old l text new
   R-kept l old new text p = ⊎_elim
       (λ h. too_long old new (take KEPT_BYTES l) l text (omega (arith, length-take KEPT_BYTES l)) (omega arith) p)

@@ -10,8 +10,7 @@ use Rattle.std.proofs.lemmas.Bool.Decides.{nat_tests}
 use Rattle.std.proofs.KnownBytes.{Appends-trans, Appends-nil, Appends-kept}
 use Rattle.memchr.specs.Find.{IsFirstByte, is_byte}
 use Rattle.base_core.specs.Streams.{WritesFront}
-use Rattle.lexer_core.specs.declared.lexer.TheConstants.{MAX_LINE}
-use Rattle.lines_core.specs.declared.line.TheConstants.{KEPT_BYTES}
+use Rattle.lines_core.specs.declared.line.TheConstants.{KEPT_BYTES, LONGEST_LINE}
 use Rattle.lines_core.specs.Lines.{Cut, NoFeed}
 use Rattle.lines_core.specs.Serving.{AnswersAll, WritesAnswer, BreaksAnswer, AnswersPiece, BreaksPiece}
 use Rattle.lines_core.proofs.LineLemmas.{Cut-append, Cut-feed, Cut-open, ByRecursion-append}
@@ -92,7 +91,7 @@ pub WritesFront-whole : (before between after : Option (List ℕ)) (text : List 
 WritesFront-whole before between after text wrote keeps = record { part = text; unwritten = []; front = sym (append-nil text); wrote = Appends-kept before between after text wrote keeps }
 
 module _ {X : Type 0} (R : X → List ℕ → List ℕ → X → Type 0)
-    (too_long : (old new : X) (line other text : List ℕ) → MAX_LINE < length line → MAX_LINE < length other → R old line text new → R old other text new) where
+    (too_long : (old new : X) (line other text : List ℕ) → LONGEST_LINE < length line → LONGEST_LINE < length other → R old line text new → R old other text new) where
   -- and its answer
   answer_line : (old mid new : X) (now part line text more : List ℕ) (parts : List (List ℕ)) → line ≡ take KEPT_BYTES (now ++ part)
       → AnswersAll R old (map strip_carriage_return parts) text mid → R mid (strip_carriage_return line) more new

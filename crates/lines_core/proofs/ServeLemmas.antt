@@ -4,8 +4,7 @@ use Rattle.std.specs.Str.Lines.{lines, strip_carriage_return}
 use Rattle.std.specs.Io.KnownBytes.{Consumes, Keeps, IsAtEnd}
 use Rattle.std.proofs.lemmas.List.{map-append, length-append}
 use Rattle.std.proofs.KnownBytes.{Appends-trans, Appends-kept, Consumes-trans, Consumes-kept, Consumes-nil}
-use Rattle.lexer_core.specs.declared.lexer.TheConstants.{MAX_LINE}
-use Rattle.lines_core.specs.declared.line.TheConstants.{KEPT_BYTES}
+use Rattle.lines_core.specs.declared.line.TheConstants.{KEPT_BYTES, LONGEST_LINE}
 use Rattle.lines_core.specs.Lines.{Cut, NoFeed, whole_lines}
 use Rattle.lines_core.specs.Serving.{AnswersAll, WritesAnswer, BreaksAnswer, AnswersPiece, BreaksPiece, AnswersInput, BreaksInput, HasServed, WasOpen}
 use Rattle.lines_core.proofs.LineLemmas.{Cut-append, lines-Cut, whole_lines-Cut, last_line}
@@ -16,7 +15,7 @@ at_end : (left0 left1 left2 : Option (List ℕ)) (bytes : List ℕ) → Consumes
 at_end left0 left1 left2 bytes p q = subst (λ b. Consumes left0 left2 b) (append-nil bytes) (Consumes-trans left0 left1 left2 bytes [] p q)
 
 module _ {X : Type 0} (R : X → List ℕ → List ℕ → X → Type 0)
-    (too_long : (old new : X) (line other text : List ℕ) → MAX_LINE < length line → MAX_LINE < length other → R old line text new → R old other text new) where
+    (too_long : (old new : X) (line other text : List ℕ) → LONGEST_LINE < length line → LONGEST_LINE < length other → R old line text new → R old other text new) where
   pub Serving-none : (start : X) (left taken : Option (List ℕ)) → HasServed R [] start start (2 ^ 32) left left taken taken
   Serving-none start left taken = record { bytes = []; count = refl; read = Consumes-nil left; fed = Feeds-none R too_long [] [] start taken tt refl }
 

@@ -6,8 +6,10 @@ use Rattle.std.specs.Prelude.{◌≡◌, ◌⊎◌, Bool, true, false, ◌+◌, 
 use Rattle.std.specs.Str.Lines.{lines, strip_carriage_return}
 use Rattle.std.specs.Io.KnownBytes.{Appends, Consumes, Keeps, IsAtEnd}
 use Rattle.base_core.specs.Streams.{WritesFront}
-use Rattle.lines_core.specs.Lines.{Cut, whole_lines}
+use Rattle.lines_core.specs.Lines.{Cut, whole_lines, IsWhole, IsCutOff}
 use Rattle.lines_core.specs.declared.line.TheConstants.{KEPT_BYTES}
+use Rattle.lines_core.specs.declared.serving.Ending.{Ending}
+use Rattle.lines_core.specs.declared.serving.Ending.TheVariants as endings
 use Rattle.lines_core.specs.declared.serving.SessionFault.{SessionFault}
 use Rattle.lines_core.specs.declared.serving.SessionFault.TheVariants as faults
 
@@ -117,6 +119,35 @@ Ends answers over (Err faults.Write) old new left left' taken taken' =
 -- nothing was read or written
 Ends answers over (Err faults.NoMemory) old new left left' taken taken' =
     (new ≡ old) × Keeps left left' × Keeps taken taken'
+
+-- the same, where it is told which end it was: of the input, whose lines have all their line feeds, or
+-- whose last has none; or of the server
+abbrev pub EndsTold : {X : Type 0} → (X → List ℕ → List ℕ → X → Type 0) → (X → Bool)
+    → Result Ending SessionFault → X → X
+    → Option (List ℕ) → Option (List ℕ) → Option (List ℕ) → Option (List ℕ) → Type 0
+EndsTold answers over (Ok endings.Whole) old new left left' taken taken' =
+    (bytes : List ℕ)
+    × AnswersInput answers lines old new left left' taken taken' bytes
+    × IsAtEnd left'
+    × WasOpen answers over old new bytes
+    × IsWhole bytes
+    × (lines bytes ≡ whole_lines bytes)
+EndsTold answers over (Ok endings.CutOff) old new left left' taken taken' =
+    (bytes : List ℕ)
+    × AnswersInput answers lines old new left left' taken taken' bytes
+    × IsAtEnd left'
+    × WasOpen answers over old new bytes
+    × IsCutOff bytes
+EndsTold answers over (Ok endings.Over) old new left left' taken taken' =
+    (bytes : List ℕ)
+    × AnswersInput answers whole_lines old new left left' taken taken' bytes × (over new ≡ true)
+EndsTold answers over (Err fault) old new left left' taken taken' =
+    Ends answers over (Err fault) old new left left' taken taken'
+
+-- how an input ends, by what its last line has behind the last line feed
+abbrev pub ending_at : List ℕ → Ending
+ending_at [] = endings.Whole
+ending_at (b ∷ bs) = endings.CutOff
 
 -- How far a server has come: the bytes read so far were cut into lines, which were answered; of the
 -- rest the front is kept.

@@ -15,6 +15,9 @@
 //! serve(alloc, &mut server, &mut reader, &mut writer)?;             // a, then b: a answered, then b
 //! ```
 //!
+//! [`serve_told`] is the same, and tells which end it came to: so a caller can refuse an input whose last
+//! line has no line feed.
+//!
 //! [`fault_text`] and [`fault_name`] say what is told of a fault that ended the answering, [`audit_end`]
 //! how an audit ends, and [`give_up`] ends a process that could not go on. A [`Steady`] stream makes a call
 //! again that a signal interrupted, so that no signal ends the answering.
@@ -24,7 +27,7 @@
 //! The input comes in pieces of at most 65,536 bytes, which are cut at line feeds. What is kept between two
 //! pieces is the front of the line that has begun, of which no more is kept than an answer can depend on:
 //! the longest line, a carriage return, and one byte that makes it too long. For that a server has to answer
-//! all lines that are too long alike (`too_long`).
+//! all lines of more than [`LONGEST_LINE`] bytes alike (`too_long`), though its own longest may be shorter.
 //!
 //! # Cost
 //!
@@ -39,5 +42,6 @@ mod serving;
 mod steady;
 
 pub use ending::{NO_MEMORY, audit_end, fault_name, fault_text, give_up};
-pub use serving::{LineServer, MOST_BYTES, SessionFault, serve};
+pub use line::LONGEST_LINE;
+pub use serving::{Ending, LineServer, MOST_BYTES, SessionFault, serve, serve_told};
 pub use steady::Steady;

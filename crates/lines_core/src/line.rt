@@ -3,13 +3,18 @@ ghost use Rattle.std.specs.Prelude.{◌≡◌, ◌++◌, [], take, length, IfOk}
 ghost use Rattle.std.specs.Str.Lines.{strip_carriage_return};
 ghost use Rattle.lines_core.specs.declared.line.TheConstants.{KEPT_BYTES};
 
+use base_core::MAX_NAME;
 use lexer_core::MAX_LINE;
 use std::alloc::{AllocError, Global};
 use std::marker::Model;
 
+/// The most bytes of a line that a server may tell from any longer one: 4,128, which is room for a
+/// user's name, a colon and a blank, and a statement.
+pub const LONGEST_LINE: usize = MAX_NAME + 2 + MAX_LINE;
+
 /// The most bytes of a line that are kept: those of the longest, a carriage return, and one that
 /// makes the line too long.
-pub const KEPT_BYTES: usize = MAX_LINE + 2;
+pub const KEPT_BYTES: usize = LONGEST_LINE + 2;
 
 const CARRIAGE_RETURN: u8 = b'\r';
 

@@ -2,10 +2,9 @@
 ghost use Rattle.std.specs.Prelude.{◌≡◌, ◌≤◌, ◌<◌, ◌↔◌, ◌⊎◌, ◌^◌, ◌++◌, ℕ, List, [], Bool, true, false, take, length, IfOk, OnOk, OnErr, MatchResult, IsErrOf, IsOk};
 ghost use Rattle.std.specs.Io.KnownBytes.{Consumes, Keeps, IsAtEnd};
 ghost use Rattle.std.specs.Str.Lines.{strip_carriage_return};
-ghost use Rattle.lexer_core.specs.declared.lexer.TheConstants.{MAX_LINE};
-ghost use Rattle.lines_core.specs.declared.line.TheConstants.{KEPT_BYTES};
+ghost use Rattle.lines_core.specs.declared.line.TheConstants.{KEPT_BYTES, LONGEST_LINE};
 ghost use Rattle.lines_core.specs.Lines.{NoFeed};
-ghost use Rattle.lines_core.specs.Serving.{WritesAnswer, BreaksAnswer, AnswersPiece, BreaksPiece, Ends};
+ghost use Rattle.lines_core.specs.Serving.{WritesAnswer, BreaksAnswer, AnswersPiece, BreaksPiece, Ends, EndsTold, ending_at};
 
 use crate::line::{Line, without_carriage_return};
 use base_core::{Broken, Sink, Source};
@@ -24,6 +23,17 @@ pub enum SessionFault {
     Bound,
     #[error("no memory")]
     NoMemory,
+}
+
+/// Which end the answering of lines came to.
+#[derive(Drop)]
+pub enum Ending {
+    /// That of the input, of which each line has its line feed.
+    Whole,
+    /// That of the input, whose last line has none.
+    CutOff,
+    /// The server was over.
+    Over,
 }
 
 /// The most bytes that are read.
@@ -45,8 +55,8 @@ pub trait LineServer {
         ensures { result ≡ over self.now };
 
     /// Answers one line, which comes without its line feed and without one carriage return before
-    /// that, and of a line that is too long a front that is too long. On an `Err` the writer failed,
-    /// and a front of an answer was written.
+    /// that, and of a line of more than 4,128 bytes a front that has more too. On an `Err` the
+    /// writer failed, and a front of an answer was written.
     fn answer<W: Sink>(&mut self, writer: &mut W, line: &[u8]) -> Result<(), Broken>
         requires { W.failed writer.old ≡ false }
         ensures failed { MatchResult result (λ _. W.failed writer.new ≡ false)
@@ -56,9 +66,9 @@ pub trait LineServer {
         ensures err { OnErr result (BreaksAnswer answers line.now self.old self.new
             (W.taken writer.old) (W.taken writer.new)) };
 
-    // Lines that are too long are answered alike.
+    // Lines that are too long for any server are answered alike.
     ghost too_long: { (old new : Self) (line other text : List ℕ)
-        → MAX_LINE < length line → MAX_LINE < length other
+        → LONGEST_LINE < length line → LONGEST_LINE < length other
         → answers old line text new → answers old other text new };
 }
 
@@ -172,6 +182,17 @@ fn finish<D: LineServer, W: Sink>(server: &mut D, line: &Line, writer: &mut W) -
     writer.flush()
 }
 
+/// How an input ends behind whose last line feed this line has begun.
+fn ending_at(line: &Line) -> Ending
+    ensures { result ≡ ending_at line.now }
+{
+    if line.as_slice().is_empty() {
+        Ending::Whole
+    } else {
+        Ending::CutOff
+    }
+}
+
 /// Reads to the end and answers each line, from a line with nothing in it.
 fn serve_lines<D: LineServer, S: Source, W: Sink>(
     server: &mut D,
@@ -179,16 +200,18 @@ fn serve_lines<D: LineServer, S: Source, W: Sink>(
     buffer: &mut [u8],
     reader: &mut S,
     writer: &mut W,
-) -> Result<(), SessionFault>
+) -> Result<Ending, SessionFault>
     requires source { S.failed reader.old ≡ false }
     requires sink { W.failed writer.old ≡ false }
     requires start { (line.old ≡ []) × (0 < length buffer.old) }
     ensures read { IsErrOf result SessionFault.Read ↔ (S.failed reader.new ≡ true) }
     ensures write { IsErrOf result SessionFault.Write ↔ (W.failed writer.new ≡ true) }
     ensures memory { IsErrOf result SessionFault.NoMemory → ⊥ }
+    ensures not_over { W.failed writer.new ≡ false
+        → OnErr result (D.over server.old ≡ false → D.over server.new ≡ false) }
     ensures flushed { W.flushed writer.old ≡ true → W.failed writer.new ≡ false
         → W.flushed writer.new ≡ true }
-    ensures ends { Ends D.answers D.over result server.old server.new
+    ensures ends { EndsTold D.answers D.over result server.old server.new
         (S.left reader.old) (S.left reader.new) (W.taken writer.old) (W.taken writer.new) }
 {
     let mut unread = MOST_BYTES;
@@ -198,8 +221,9 @@ fn serve_lines<D: LineServer, S: Source, W: Sink>(
             return Err(SessionFault::Read);
         };
         if n == 0 {
+            let ending = ending_at(line);
             return match finish(server, line, writer) {
-                Ok(()) => Ok(()),
+                Ok(()) => Ok(ending),
                 Err(Broken) => Err(SessionFault::Write),
             };
         }
@@ -207,7 +231,7 @@ fn serve_lines<D: LineServer, S: Source, W: Sink>(
             return Err(SessionFault::Write);
         };
         if server.is_over() {
-            return Ok(());
+            return Ok(Ending::Over);
         }
         unread -= n as u64;
     }
@@ -227,8 +251,8 @@ fn new_buffer(alloc: Global) -> Result<Vec<u8>, AllocError>
 /// reader or the writer has failed, `Bound` where 2^32 bytes were read and the end had not come, and
 /// `NoMemory` before the first read. On `Read` and `Bound` the lines whose line feed has come were
 /// answered. On `Write` what was written is a front of the answers to lines of which the last has
-/// its line feed or ends the input. What was written is handed on before each further read, and at
-/// the end.
+/// its line feed or ends the input. On each fault but `Write` the server was not over. What was
+/// written is handed on before each further read, and at the end.
 pub fn serve<D: LineServer, S: Source, W: Sink>(
     alloc: Global,
     server: &mut D,
@@ -241,7 +265,33 @@ pub fn serve<D: LineServer, S: Source, W: Sink>(
     ensures write { IsErrOf result SessionFault.Write ↔ (W.failed writer.new ≡ true) }
     ensures flushed { W.flushed writer.old ≡ true → W.failed writer.new ≡ false
         → W.flushed writer.new ≡ true }
+    ensures not_over { W.failed writer.new ≡ false
+        → OnErr result (D.over server.old ≡ false → D.over server.new ≡ false) }
     ensures ends { Ends D.answers D.over result server.old server.new
+        (S.left reader.old) (S.left reader.new) (W.taken writer.old) (W.taken writer.new) }
+{
+    match serve_told(alloc, server, reader, writer) {
+        Ok(_) => Ok(()),
+        Err(fault) => Err(fault),
+    }
+}
+
+/// As [`serve`], and tells which end it came to.
+pub fn serve_told<D: LineServer, S: Source, W: Sink>(
+    alloc: Global,
+    server: &mut D,
+    reader: &mut S,
+    writer: &mut W,
+) -> Result<Ending, SessionFault>
+    requires source { S.failed reader.old ≡ false }
+    requires sink { W.failed writer.old ≡ false }
+    ensures read { IsErrOf result SessionFault.Read ↔ (S.failed reader.new ≡ true) }
+    ensures write { IsErrOf result SessionFault.Write ↔ (W.failed writer.new ≡ true) }
+    ensures flushed { W.flushed writer.old ≡ true → W.failed writer.new ≡ false
+        → W.flushed writer.new ≡ true }
+    ensures not_over { W.failed writer.new ≡ false
+        → OnErr result (D.over server.old ≡ false → D.over server.new ≡ false) }
+    ensures ends { EndsTold D.answers D.over result server.old server.new
         (S.left reader.old) (S.left reader.new) (W.taken writer.old) (W.taken writer.new) }
 {
     let Ok(mut buffer) = new_buffer(alloc) else {

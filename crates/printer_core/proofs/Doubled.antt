@@ -1,26 +1,54 @@
--- Quotes that are doubled, byte by byte and character by character.
-use Rattle.std.proofs.Common.{◌≡◌, ℕ, ◌+◌, ◌/◌, ◌%◌, ◌<◌, ◌≤◌, Bool, true, false, cond, List, [], ◌∷◌, ◌++◌, length, get_or, drop, refl, sym, ◌∙◌, ap, arith, ltb, append_assoc}
-use Rattle.std.proofs.lemmas.List.{append-nil, at_drop_more, at_drop_all, length_push}
-use Rattle.std.proofs.lemmas.Str.{encodes-chars}
+-- Quotes that are doubled: in runs of bytes up to a quote, and character by character.
+use Rattle.std.proofs.Common.{◌≡◌, ℕ, zero, suc, ◌+◌, ◌/◌, ◌%◌, ◌<◌, ◌≤◌, Bool, true, false, cond, List, [], ◌∷◌, ◌++◌, length, get_or, take, drop, Some, None, refl, sym, ◌∙◌, ap, arith, add-one, ltb, append_assoc}
+use Rattle.std.proofs.lemmas.List.Quantifiers.{position-Some}
+use Rattle.std.proofs.lemmas.List.Sums.{fails_before_first}
 use Rattle.std.proofs.lemmas.Bool.Decides.{nat_tests}
-use Rattle.std.specs.Prelude.{◌==◌, if◌then◌else◌}
+use Rattle.std.specs.Prelude.{◌==◌, if◌then◌else◌, position}
+use Rattle.std.specs.List.{position_or_len}
 use Rattle.std.specs.Char.{encode_utf8}
-use Rattle.std.specs.Str.{chars, IsUtf8, encode_utf8_all}
+use Rattle.std.specs.Str.{encode_utf8_all}
 use Rattle.lexer_core.specs.Text.{written, written_all}
 use Rattle.lexer_core.proofs.Texts.{quote_encoded, not_quote}
 use Rattle.lexer_core.proofs.Numbers.{equal}
 use Rattle.printer_core.specs.Printing.{doubled}
 
--- ---- along the characters
-pub turned : (cs yielded : List ℕ) (c : ℕ) (old new : List ℕ) {all : List ℕ} → (length yielded < length cs) × (c ≡ get_or cs (length yielded) c) → new ≡ old ++ written c → old ++ written_all (drop (length yielded) cs) ≡ all → new ++ written_all (drop (length (yielded ++ c ∷ [])) cs) ≡ all
-turned cs yielded c old new t e i =
-    let n = length yielded in
-    let front : written_all (drop n cs) ≡ written c ++ written_all (drop (n + 1) cs) = at_drop_more written_all cs n c t.0 ∙ ap (λ (x : ℕ). written x ++ written_all (drop (n + 1) cs)) (sym t.1) in
-    ap (λ (k : ℕ). new ++ written_all (drop k cs)) (length_push yielded c)
-    ∙ ap (λ (x : List ℕ). x ++ written_all (drop (n + 1) cs)) e
-    ∙ append_assoc old (written c) (written_all (drop (n + 1) cs))
-    ∙ ap (λ (x : List ℕ). old ++ x) (sym front)
-    ∙ i
+-- ---- runs up to a quote
+
+-- up to the first quote nothing is doubled
+doubled_run : (text : List ℕ) (n : ℕ) → n < length text → get_or text n 0 ≡ 39 → ((k : ℕ) → k < n → (get_or text k 0 == 39) ≡ false)
+    → doubled text ≡ (take (suc n) text ++ 39 ∷ []) ++ doubled (drop (suc n) text)
+doubled_run [] n lt at before = absurd (omega arith)
+doubled_run (b ∷ rest) zero lt at before = rw at refl
+doubled_run (b ∷ rest) (suc n) lt at before =
+    let plain : (b == 39) ≡ false = before 0 (omega arith) in
+    let k : n < length rest = omega arith in
+    rw plain (ap (λ (t : List ℕ). b ∷ t) (doubled_run rest n k at (λ i below. before (suc i) (omega arith))))
+
+-- without a quote nothing is
+doubled_none : (text : List ℕ) → ((k : ℕ) → k < length text → (get_or text k 0 == 39) ≡ false) → doubled text ≡ text
+doubled_none [] plain = refl
+doubled_none (b ∷ rest) plain =
+    let first : (b == 39) ≡ false = plain 0 (omega arith) in
+    rw first (ap (λ (t : List ℕ). b ∷ t) (doubled_none rest (λ k below. plain (suc k) (omega arith))))
+
+-- the same at the place that a search for a quote gave
+doubled_at : (text : List ℕ) (n : ℕ) → position (λ b. b == 39) text ≡ Some n → doubled text ≡ (take (n + 1) text ++ 39 ∷ []) ++ doubled (drop (n + 1) text)
+doubled_at text n found =
+    let first = position-Some (λ b. b == 39) text n 0 found in
+    rw add-one (doubled_run text n first.0 (equal (get_or text n 0) 39 first.1) first.2)
+
+-- and where it gave none
+pub doubled_nowhere : (text : List ℕ) → position (λ b. b == 39) text ≡ None → doubled text ≡ text
+doubled_nowhere text none =
+    let far : length text ≤ position_or_len (λ b. b == 39) text = grind (arith, nat_tests) in
+    doubled_none text (λ k below. fails_before_first (λ b. b == 39) text k 0 (omega arith))
+
+-- one more run, and what is left of the text
+pub next_run : (part rest text run left : List ℕ) (n : ℕ) → position (λ b. b == 39) rest ≡ Some n → run ≡ take (n + 1) rest → left ≡ drop (n + 1) rest
+    → part ++ doubled rest ≡ text → (part ++ (run ++ 39 ∷ [])) ++ doubled left ≡ text
+next_run part rest text run left n found is_run is_left whole =
+    let split : doubled rest ≡ (run ++ 39 ∷ []) ++ doubled left = rw (is_run, is_left) (doubled_at rest n found) in
+    append_assoc part (run ++ 39 ∷ []) (doubled left) ∙ ap (λ (t : List ℕ). part ++ t) (sym split) ∙ whole
 
 -- ---- byte by byte
 above_ascii : (b : ℕ) → 128 ≤ b → (b == 39) ≡ false
@@ -55,9 +83,3 @@ doubled_by c r false e = other_stays c r (λ is. let clash : true ≡ false = ap
 pub doubled_written : (cs : List ℕ) → doubled (encode_utf8_all cs) ≡ written_all cs
 doubled_written [] = refl
 doubled_written (c ∷ cs) = doubled_by c (encode_utf8_all cs) (c == 39) refl ∙ ap (λ (u : List ℕ). written c ++ u) (doubled_written cs)
-
-pub chars_written : (bytes : List ℕ) → IsUtf8 bytes → written_all (chars bytes) ≡ doubled bytes
-chars_written bytes h = sym (doubled_written (chars bytes)) ∙ ap doubled (encodes-chars bytes h)
-
-pub ended : (cs yielded : List ℕ) (old : List ℕ) {all : List ℕ} → length cs ≤ length yielded → old ++ written_all (drop (length yielded) cs) ≡ all → old ≡ all
-ended cs yielded old h i = sym (append-nil old) ∙ ap (λ (x : List ℕ). old ++ x) (sym (at_drop_all written_all cs (length yielded) h)) ∙ i

@@ -1,4 +1,11 @@
 pub mod Doubled
 pub mod Names
+pub mod Room
 pub mod Writing
+pub mod Spelling
+pub mod Utf8
 pub mod Back
+pub mod Shortest
+pub mod Plain
+pub mod JournalLine
+pub mod NoLiterals

@@ -24,5 +24,5 @@ bytes_small (b ∷ bs) e =
 pub name_word : (bs : List ℕ) → IsName bs → is_word bs ≡ true
 name_word bs n = (and_parts (is_word bs) (nat_le (length bs) 30) (and_parts (is_word bs && nat_le (length bs) 30) (not (is_some (keyword_of bs))) n.named).0).0
 
-pub name_ascii : (bs : List ℕ) → IsName bs → IsAscii bs
-name_ascii bs n = IsAscii-from_all bs (bytes_small bs (and_parts (is_ascii_alphabetic (slice_index bs 0)) (list_all is_word_byte bs) (name_word bs n)).1)
+pub word_ascii : (bs : List ℕ) → is_word bs ≡ true → IsAscii bs
+word_ascii bs w = IsAscii-from_all bs (bytes_small bs (and_parts (is_ascii_alphabetic (slice_index bs 0)) (list_all is_word_byte bs) w).1)

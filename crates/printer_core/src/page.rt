@@ -1,102 +1,142 @@
-//! A page that statements are written on, token by token.
-ghost use Rattle.std.specs.Prelude.{◌≡◌, ◌++◌, ◌∷◌, [], true, false, OnOk, if◌then◌else◌, string_bytes};
-ghost use Rattle.base_core.specs.Words.{text_of};
-ghost use Rattle.lexer_core.specs.Text.{written};
+//! A page that lines are written on, token by token.
+ghost use Rattle.std.specs.Prelude.{◌≡◌, ◌<◌, ◌+◌, ◌^◌, ◌++◌, ◌∷◌, ◌==◌, [], false, length, position, nat_le, IfOk, IfSome, MatchOption};
+ghost use Rattle.base_core.specs.Words.{IsName};
 ghost use Rattle.lexer_core.specs.Lexing.{Key, Named, Number, Text as Quoted, Sign};
 ghost use Rattle.reader_core.specs.Saying.{separator_lexeme, value_says};
-ghost use Rattle.printer_core.specs.Printing.{Sheet, Prints, doubled};
+ghost use Rattle.printer_core.specs.Printing.{IsStarted, Adds, OpensToken, Prints, colon_text, doubled};
 
-use base_core::{Keyword, Name, NoMemory, Text, Value};
-use lexer_core::Mark;
+use crate::spacing::{LastToken, Spacing};
+use arrayvec::ArrayVec;
+use base_core::{Keyword, MAX_NAME, Name, NoMemory, Text, User, Value};
+use itoa::Buffer;
+use lexer_core::{MAX_LINE, Mark, byte_at};
 use reader_core::Separator;
-use std::alloc::{AllocError, Global};
+use std::alloc::Global;
 use std::marker::Model;
 
-/// A text, and whether a token may stand right behind it.
+/// The most bytes of a page: those of the longest line of a journal.
+pub const PAGE_BYTES: usize = MAX_NAME + 2 + MAX_LINE;
+
+/// Room for a line, made once. Contracts see the text, if all of it has found room, how it is
+/// spaced, and what stands last.
 #[derive(Drop)]
 pub struct Page {
-    text: String,
-    is_tight: bool,
+    bytes: Box<ArrayVec<u8, PAGE_BYTES>>,
+    /// Whether something has found no room.
+    is_over: bool,
+    spacing: Spacing,
+    last: LastToken,
 }
 
 impl Model for Page {
-    ghost use Rattle.std.specs.Prelude.{string_bytes};
+    ghost use Rattle.std.specs.Prelude.{◌≤◌, Some, None, if◌then◌else◌, length};
     ghost use Rattle.printer_core.specs.Printing.{Sheet};
+    ghost use Rattle.printer_core.specs.declared.page.TheConstants.{PAGE_BYTES};
 
     ghost Value = { Sheet };
 
-    ghost view = { λ p. record { text = string_bytes p.text; tight = p.is_tight } };
+    ghost view = { λ p. record {
+      text = if p.is_over then None else Some p.bytes.value.items;
+      spacing = p.spacing;
+      last = p.last;
+    } };
+
+    ghost invariant = { λ p. length p.bytes.value.items ≤ PAGE_BYTES };
 }
 
-/// A character as a quoted text writes it: a quote twice.
-fn push_written(into: &mut String, char: char) -> Result<(), AllocError>
-    ensures { OnOk result (string_bytes into.new ≡ string_bytes into.old ++ written char) }
+/// The index of the first quote.
+fn quote_at(text: &[u8]) -> Option<usize>
+    ensures at { result ≡ position (λ b. b == 39) text.now }
+    ensures within { IfSome result (λ n. n < length text.now) }
+    ensures fits { IfSome result (λ n. n + 1 < 2 ^ 64) }
 {
-    if char == '\'' {
-        return into.push_str("''");
-    }
-    into.push(char)
-}
-
-fn push_doubled(into: &mut String, text: &str) -> Result<(), AllocError>
-    ensures { OnOk result (string_bytes into.new ≡ string_bytes into.old ++ doubled text.now) }
-{
-    for char in text.chars() {
-        push_written(into, char)?;
-    }
-    Ok(())
+    text.iter().position(|b| *b == b'\'')
 }
 
 impl Page {
-    pub fn new(alloc: Global) -> Page
-        ensures { result ≡ record { text = []; tight = true } }
+    /// An empty page, and the memory for all that is written on it. `NoMemory` where the request
+    /// was refused.
+    pub fn new(alloc: Global) -> Result<Page, NoMemory>
+        ensures { IfOk result (IsStarted [] Spacing.Canonical) }
     {
-        Page {
-            text: String::new(alloc),
-            is_tight: true,
+        let bytes = Box::new(alloc, ArrayVec::new())?;
+        Ok(Page {
+            bytes,
+            is_over: false,
+            spacing: Spacing::Canonical,
+            last: LastToken::Open,
+        })
+    }
+
+    /// Whether the text is on the page, and has no more bytes than this.
+    pub(crate) fn fits(&self, most: usize) -> bool
+        ensures { MatchOption self.now.text (result ≡ false)
+            (λ text. result ≡ nat_le (length text) most) }
+    {
+        !self.is_over && self.bytes.len() <= most
+    }
+
+    pub(crate) fn as_slice(&self) -> &[u8]
+        ensures { IfSome self.now.text (λ text. result.now ≡ text) }
+    {
+        self.bytes.as_slice()
+    }
+
+    /// Adds the bytes, where they have room. It takes no memory.
+    #[inline(always)]
+    fn push(&mut self, part: &[u8])
+        ensures { Adds part.now self.old self.new }
+    {
+        match self.bytes.try_extend_from_slice(part) {
+            Ok(()) => {}
+            Err(_) => self.is_over = true,
         }
     }
 
-    pub fn into_string(self) -> String
-        ensures { string_bytes result ≡ self.text }
+    /// Takes all away that stands on the page, and writes who says what follows.
+    pub(crate) fn start(&mut self, spacing: Spacing, user: &User)
+        ensures started { IsStarted (user.now.0 ++ colon_text spacing) spacing self.new }
+        ensures name { IsName user.now.0 }
     {
-        let Page { text, is_tight: _ } = self;
-        text
-    }
-
-    /// The space before a token, where one has to stand.
-    fn space(&mut self) -> Result<(), NoMemory>
-        ensures text { OnOk result (self.new.text ≡ self.old.text
-            ++ (if self.old.tight then [] else 32 ∷ [])) }
-    {
-        if !self.is_tight {
-            self.text.push(' ')?;
+        self.bytes.clear();
+        self.is_over = false;
+        self.spacing = spacing;
+        self.last = LastToken::Open;
+        self.push(user.0.as_bytes());
+        match spacing {
+            Spacing::Canonical => self.push(b": "),
+            Spacing::Minified => self.push(b":"),
         }
-        Ok(())
     }
 
-    pub fn keyword(&mut self, keyword: Keyword) -> Result<(), NoMemory>
-        ensures { OnOk result (Prints (Key keyword ∷ []) self.old self.new) }
+    /// The first bytes of a token, behind a blank where one has to stand.
+    #[inline(always)]
+    fn begin(&mut self, token: LastToken, bytes: &[u8])
+        ensures { OpensToken token bytes.now self.old self.new }
     {
-        self.space()?;
-        self.text.push_str(keyword.text())?;
-        self.is_tight = false;
-        Ok(())
-    }
-
-    pub fn mark(&mut self, mark: Mark) -> Result<(), NoMemory>
-        ensures { OnOk result (Prints (Sign mark ∷ []) self.old self.new) }
-    {
-        if mark != Mark::Close && mark != Mark::Comma {
-            self.space()?;
+        if self.last.is_parted(self.spacing, byte_at(bytes, 0)) {
+            self.push(b" ");
         }
-        self.text.push_str(mark.text())?;
-        self.is_tight = mark == Mark::Open;
-        Ok(())
+        self.last = token;
+        self.push(bytes);
     }
 
-    pub fn separator(&mut self, separator: Separator) -> Result<(), NoMemory>
-        ensures { OnOk result (Prints (separator_lexeme separator ∷ []) self.old self.new) }
+    #[inline(always)]
+    pub(crate) fn keyword(&mut self, keyword: Keyword)
+        ensures { Prints (Key keyword ∷ []) self.old self.new }
+    {
+        self.begin(LastToken::Word, keyword.text().as_bytes());
+    }
+
+    #[inline(always)]
+    pub(crate) fn mark(&mut self, mark: Mark)
+        ensures { Prints (Sign mark ∷ []) self.old self.new }
+    {
+        self.begin(LastToken::from_mark(mark), mark.text().as_bytes());
+    }
+
+    pub(crate) fn separator(&mut self, separator: Separator)
+        ensures { Prints (separator_lexeme separator ∷ []) self.old self.new }
     {
         match separator {
             Separator::Comma => self.mark(Mark::Comma),
@@ -104,40 +144,42 @@ impl Page {
         }
     }
 
-    pub fn name(&mut self, name: Name) -> Result<(), NoMemory>
-        ensures { OnOk result (Prints (Named name ∷ []) self.old self.new) }
+    pub(crate) fn name(&mut self, name: &Name)
+        ensures { Prints (Named name.now ∷ []) self.old self.new }
     {
-        self.space()?;
-        match str::from_utf8(name.as_bytes()) {
-            Ok(text) => self.text.push_str(text)?,
-            Err(_) => unreachable!(),
+        self.begin(LastToken::Word, name.as_bytes());
+    }
+
+    pub(crate) fn number(&mut self, number: i64)
+        ensures { Prints (Number number ∷ []) self.old self.new }
+    {
+        let mut digits = Buffer::new();
+        self.begin(LastToken::Word, digits.format(number).as_bytes());
+    }
+
+    /// Adds a text with each quote twice, in runs up to the next quote.
+    fn push_doubled(&mut self, text: &[u8])
+        ensures { Adds (doubled text.now) self.old self.new }
+    {
+        let mut rest = text;
+        while let Some(n) = quote_at(rest) {
+            self.push(&rest[..n + 1]);
+            self.push(b"'");
+            rest = &rest[n + 1..];
         }
-        self.is_tight = false;
-        Ok(())
+        self.push(rest);
     }
 
-    pub fn number(&mut self, number: i64) -> Result<(), NoMemory>
-        ensures { OnOk result (Prints (Number number ∷ []) self.old self.new) }
+    fn text(&mut self, text: &Text)
+        ensures { Prints (Quoted text.now ∷ []) self.old self.new }
     {
-        self.space()?;
-        write!(self.text, "{number}")?;
-        self.is_tight = false;
-        Ok(())
+        self.begin(LastToken::Quoted, b"'");
+        self.push_doubled(text.as_str().as_bytes());
+        self.push(b"'");
     }
 
-    fn text(&mut self, text: &Text) -> Result<(), NoMemory>
-        ensures { OnOk result (Prints (Quoted text.now ∷ []) self.old self.new) }
-    {
-        self.space()?;
-        self.text.push('\'')?;
-        push_doubled(&mut self.text, text.as_str())?;
-        self.text.push('\'')?;
-        self.is_tight = false;
-        Ok(())
-    }
-
-    pub fn value(&mut self, value: &Value) -> Result<(), NoMemory>
-        ensures { OnOk result (Prints (value_says value.now) self.old self.new) }
+    pub(crate) fn value(&mut self, value: &Value)
+        ensures { Prints (value_says value.now) self.old self.new }
     {
         match value {
             Value::Int(number) => self.number(*number),

@@ -1,5 +1,5 @@
 //! Items and lists on a page.
-ghost use Rattle.std.specs.Prelude.{◌≡◌, ◌∷◌, ◌++◌, [], List, All, OnOk};
+ghost use Rattle.std.specs.Prelude.{◌≡◌, ◌∷◌, ◌++◌, [], List, All};
 ghost use Rattle.std.specs.List.{flat_map};
 ghost use Rattle.lexer_core.specs.Lexing as lexemes;
 ghost use Rattle.lexer_core.specs.Lexing.{Lexeme};
@@ -11,8 +11,7 @@ ghost use Rattle.printer_core.specs.Printing.{Prints};
 
 use crate::page::Page;
 use base_core::{
-    Assignment, ColType, Column, Comparison, Condition, Distinct, Keyword, Name, NoMemory, User,
-    Value,
+    Assignment, ColType, Column, Comparison, Condition, Distinct, Keyword, Name, User, Value,
 };
 use lexer_core::Mark;
 use reader_core::{MAX_ITEMS, Privilege, Separator};
@@ -28,37 +27,31 @@ pub trait Printed: Sized {
 
     const SEPARATOR: Separator;
 
-    fn write(&self, page: &mut Page) -> Result<(), NoMemory>
-        ensures written { OnOk result (Prints (Self.says self.now) page.old page.new) }
-        ensures well_formed { OnOk result (Self.well_formed self.now) };
+    fn write(&self, page: &mut Page)
+        ensures written { Prints (Self.says self.now) page.old page.new }
+        ensures well_formed { Self.well_formed self.now };
 }
 
-fn write_behind<T: Printed>(page: &mut Page, items: &[T]) -> Result<(), NoMemory>
-    ensures written { OnOk result
-        (Prints (flat_map (λ x. separator_lexeme T.SEPARATOR ∷ T.says x) items.now)
-        page.old page.new) }
-    ensures well_formed { OnOk result (All T.well_formed items.now) }
+fn write_behind<T: Printed>(page: &mut Page, items: &[T])
+    ensures written { Prints (flat_map (λ x. separator_lexeme T.SEPARATOR ∷ T.says x) items.now)
+        page.old page.new }
+    ensures well_formed { All T.well_formed items.now }
 {
     for item in items {
-        page.separator(T::SEPARATOR)?;
-        item.write(page)?;
+        page.separator(T::SEPARATOR);
+        item.write(page);
     }
-    Ok(())
 }
 
 /// The items, with a separator between each two.
-pub fn write_list<T: Printed>(page: &mut Page, items: &[T]) -> Result<(), NoMemory>
-    ensures written { OnOk result
-        (Prints (listed (separator_lexeme T.SEPARATOR) T.says items.now) page.old page.new) }
-    ensures well_formed { OnOk result (All T.well_formed items.now) }
+pub fn write_list<T: Printed>(page: &mut Page, items: &[T])
+    ensures written { Prints (listed (separator_lexeme T.SEPARATOR) T.says items.now)
+        page.old page.new }
+    ensures well_formed { All T.well_formed items.now }
 {
-    match items {
-        [] => Ok(()),
-        [first, rest @ ..] => {
-            first.write(page)?;
-            write_behind(page, rest)?;
-            Ok(())
-        }
+    if let [first, rest @ ..] = items {
+        first.write(page);
+        write_behind(page, rest);
     }
 }
 
@@ -72,8 +65,8 @@ impl Printed for Name {
 
     ghost says = { name_says };
 
-    fn write(&self, page: &mut Page) -> Result<(), NoMemory> {
-        page.name(*self)
+    fn write(&self, page: &mut Page) {
+        page.name(self);
     }
 }
 
@@ -87,8 +80,8 @@ impl Printed for User {
 
     ghost says = { user_says };
 
-    fn write(&self, page: &mut Page) -> Result<(), NoMemory> {
-        page.name(self.0)
+    fn write(&self, page: &mut Page) {
+        page.name(&self.0);
     }
 }
 
@@ -111,10 +104,9 @@ impl Printed for Column {
 
     ghost says = { column_says };
 
-    fn write(&self, page: &mut Page) -> Result<(), NoMemory> {
-        page.name(self.name)?;
-        page.keyword(type_keyword(self.ty))?;
-        Ok(())
+    fn write(&self, page: &mut Page) {
+        page.name(&self.name);
+        page.keyword(type_keyword(self.ty));
     }
 }
 
@@ -128,8 +120,8 @@ impl Printed for Value {
 
     ghost says = { value_says };
 
-    fn write(&self, page: &mut Page) -> Result<(), NoMemory> {
-        page.value(self)
+    fn write(&self, page: &mut Page) {
+        page.value(self);
     }
 }
 
@@ -143,11 +135,10 @@ impl Printed for Assignment {
 
     ghost says = { set_says };
 
-    fn write(&self, page: &mut Page) -> Result<(), NoMemory> {
-        page.name(self.column)?;
-        page.mark(Mark::Equal)?;
-        page.value(&self.value)?;
-        Ok(())
+    fn write(&self, page: &mut Page) {
+        page.name(&self.column);
+        page.mark(Mark::Equal);
+        page.value(&self.value);
     }
 }
 
@@ -174,53 +165,42 @@ impl Printed for Condition {
 
     ghost says = { condition_says };
 
-    fn write(&self, page: &mut Page) -> Result<(), NoMemory> {
-        page.name(self.column)?;
-        page.mark(comparison_mark(self.comparison))?;
-        page.value(&self.literal)?;
-        Ok(())
+    fn write(&self, page: &mut Page) {
+        page.name(&self.column);
+        page.mark(comparison_mark(self.comparison));
+        page.value(&self.literal);
     }
 }
 
-fn write_in_brackets(page: &mut Page, names: &Distinct<Name, MAX_ITEMS>) -> Result<(), NoMemory>
-    ensures written { OnOk result (Prints
+fn write_in_brackets(page: &mut Page, names: &Distinct<Name, MAX_ITEMS>)
+    ensures written { Prints
         (lexemes.Sign marks.Open ∷ (names_say names.now ++ lexemes.Sign marks.Close ∷ []))
-        page.old page.new) }
-    ensures well_formed { OnOk result (AreNamed 32 (λ n. n) names.now) }
+        page.old page.new }
+    ensures well_formed { AreNamed 32 (λ n. n) names.now }
 {
-    page.mark(Mark::Open)?;
-    write_list(page, names.as_slice())?;
-    page.mark(Mark::Close)?;
-    Ok(())
+    page.mark(Mark::Open);
+    write_list(page, names.as_slice());
+    page.mark(Mark::Close);
 }
 
 /// Columns in brackets, or nothing for all of them.
-fn write_columns(
-    page: &mut Page,
-    columns: &Option<Distinct<Name, MAX_ITEMS>>,
-) -> Result<(), NoMemory>
-    ensures written { OnOk result (Prints (columns_say columns.now) page.old page.new) }
-    ensures well_formed { OnOk result (IsSelection columns.now) }
+fn write_columns(page: &mut Page, columns: &Option<Distinct<Name, MAX_ITEMS>>)
+    ensures written { Prints (columns_say columns.now) page.old page.new }
+    ensures well_formed { IsSelection columns.now }
 {
-    match columns {
-        Some(names) => write_in_brackets(page, names),
-        None => Ok(()),
+    if let Some(names) = columns {
+        write_in_brackets(page, names);
     }
 }
 
 /// A privilege's word, and the columns that it is limited to.
-fn write_by_column(
-    page: &mut Page,
-    word: Keyword,
-    columns: &Option<Distinct<Name, MAX_ITEMS>>,
-) -> Result<(), NoMemory>
-    ensures written { OnOk result (Prints (lexemes.Key word ∷ columns_say columns.now)
-        page.old page.new) }
-    ensures well_formed { OnOk result (IsSelection columns.now) }
+fn write_by_column(page: &mut Page, word: Keyword, columns: &Option<Distinct<Name, MAX_ITEMS>>)
+    ensures written { Prints (lexemes.Key word ∷ columns_say columns.now)
+        page.old page.new }
+    ensures well_formed { IsSelection columns.now }
 {
-    page.keyword(word)?;
-    write_columns(page, columns)?;
-    Ok(())
+    page.keyword(word);
+    write_columns(page, columns);
 }
 
 impl Printed for Privilege {
@@ -236,7 +216,7 @@ impl Printed for Privilege {
 
     ghost well_formed = { IsWellFormedPrivilege };
 
-    fn write(&self, page: &mut Page) -> Result<(), NoMemory> {
+    fn write(&self, page: &mut Page) {
         match self {
             Privilege::Select(columns) => write_by_column(page, Keyword::Select, columns),
             Privilege::Insert => page.keyword(Keyword::Insert),

@@ -1,5 +1,5 @@
 -- What is written for a line is an answer to it.
-use Rattle.std.proofs.Common.{◌≡◌, ℕ, true, false, not, List, [], ◌++◌, Option, Some, None, Result, Ok, is_some, refl, sym, subst}
+use Rattle.std.proofs.Common.{◌≡◌, ℕ, true, false, not, List, [], ◌++◌, Option, Some, None, Ok, is_some, refl, sym, subst}
 use Rattle.reply_core.specs.Texts.{reply_text}
 use Rattle.reply_core.specs.Telling.{TellsReply}
 use Rattle.reply_core.proofs.WritingLemmas.{Both, some_records}
@@ -10,9 +10,7 @@ use Rattle.monitor_core.specs.Verdict.{is_change}
 use Rattle.system_core.specs.Journal.{verdict_at}
 use Rattle.system_core.specs.World.{World, ActiveCheckpoint, entry}
 use Rattle.system_core.specs.declared.machine.event.Reply.{Reply}
-use Rattle.base_core.specs.declared.value.Moment.{Moment}
-use Rattle.base_core.specs.declared.memory.NoMemory.{NoMemory}
-use Rattle.system_core.specs.Step.{change_reply, Advances, CarriesOut, Step}
+use Rattle.system_core.specs.Step.{Advances, CarriesOut, Step}
 use Rattle.system_core.specs.declared.machine.event.Entry.{Entry}
 use Rattle.system_core.proofs.Judged.{change-responds}
 use Rattle.system_core.specs.declared.machine.event.Reply.TheVariants as replies
@@ -77,9 +75,3 @@ asked-then old mid new e reply step text tells = (reply, mid, step, tells)
 -- an allowed change
 pub changed-then : (old mid new : World) (e : Entry) (reply : Reply) → verdict_at old.limits old.journal e.user e.statement ≡ Ok tt → is_change e.statement ≡ true → CarriesOut old e reply mid → (text : List ℕ) → TellsThen (says.Answer reply) mid new text → TellsAsked e old new text
 changed-then old mid new e reply allowed change carries text tells = asked-then old mid new e reply (change-responds old mid e reply allowed change carries) text tells
-
--- one behind which the step does nothing
-pub changed-idle : (old mid : World) (e : Entry) (at made : Moment) → verdict_at old.limits old.journal e.user e.statement ≡ Ok tt → is_change e.statement ≡ true → (result : Result Moment NoMemory) → result ≡ Ok made → CarriesOut old e (change_reply at result) mid → not (is_some mid.active) ≡ true → (text : List ℕ) → TellsReply (replies.Done made) text → TellsAsked e old mid text
-changed-idle old mid e at made allowed change result is carries idle text tells =
-    let done : CarriesOut old e (replies.Done made) mid = subst (λ (r : Result Moment NoMemory). CarriesOut old e (change_reply at r) mid) is carries in
-    changed-then old mid mid e (replies.Done made) allowed change done text (said-idle mid (says.Answer (replies.Done made)) idle text tells)

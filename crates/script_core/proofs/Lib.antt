@@ -2,3 +2,5 @@ pub mod Offsets
 pub mod Answering
 pub mod OneOutput
 pub mod Memory
+pub mod KeptLemmas
+pub mod KeptAnswers

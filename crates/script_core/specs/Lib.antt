@@ -1,8 +1,10 @@
 pub mod Script
 pub mod Replying
 pub mod InFull
+pub mod Keeping
 pub use Rattle.lines_core.specs.Lines
 pub use Rattle.lines_core.specs.Serving
+pub use Rattle.lines_core.specs.Endings
 pub use Rattle.base_core.specs.Words
 pub use Rattle.base_core.specs.Full
 pub use Rattle.base_core.specs.Users

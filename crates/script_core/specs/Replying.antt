@@ -1,5 +1,5 @@
 -- What is said of a line before it is written, and how that comes of the line.
-use Rattle.std.specs.Prelude.{ℕ, ◌≡◌, true, false, List, [], ◌++◌, Option, Some, None, Ok}
+use Rattle.std.specs.Prelude.{ℕ, ◌≡◌, Bool, true, false, List, [], ◌++◌, Option, Some, None, Ok}
 use Rattle.base_core.specs.declared.name.User.{User}
 use Rattle.reader_core.specs.declared.statement.Statement.{Statement}
 use Rattle.reply_core.specs.Texts.{fault_text, unread_text}
@@ -7,6 +7,7 @@ use Rattle.reply_core.specs.Telling.{TellsReply}
 use Rattle.system_core.specs.World.{World}
 use Rattle.system_core.specs.Step.{Step}
 use Rattle.script_core.specs.Script.{addressed, Asks, IsFaulty, is_refused}
+use Rattle.script_core.specs.Keeping.{WithKeeper, KeepsNew, FailsNew}
 use Rattle.system_core.specs.declared.machine.event.Event.TheVariants as events
 use Rattle.system_core.specs.declared.machine.event.Entry.{Entry}
 use Rattle.system_core.specs.declared.machine.event.Reply.{Reply}
@@ -69,3 +70,18 @@ TellsAsked e old new text =
     × (mid : World)
     × Step old (events.Say e.pass e.user e.statement) reply mid
     × TellsThen (says.Answer reply) mid new text
+
+-- The same with a keeper. Where the change could not be kept, nothing is written of the reply, and no
+-- step follows.
+pub data TellsKept {K : Type 0} (keeps fails : K → Entry → K → Type 0) (failed : K → Bool)
+    (e : Entry) (old new : WithKeeper K) : List ℕ → Type 0 where
+  told : {text : List ℕ}
+      → failed new.keeper ≡ false
+      → TellsAsked e old.world new.world text
+      → KeepsNew keeps old new
+      → TellsKept keeps fails failed e old new text
+  withheld : (reply : Reply)
+      → failed new.keeper ≡ true
+      → Step old.world (events.Say e.pass e.user e.statement) reply new.world
+      → FailsNew fails old new
+      → TellsKept keeps fails failed e old new []

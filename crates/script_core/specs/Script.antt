@@ -18,6 +18,7 @@ use Rattle.base_core.specs.declared.word.TheConstants.{MAX_NAME}
 use Rattle.reader_core.specs.Language.{Spells, IsReadFault}
 use Rattle.reader_core.specs.declared.statement.Statement.{Statement}
 use Rattle.lines_core.specs.Serving.{Ends}
+use Rattle.lines_core.specs.declared.line.TheConstants.{LONGEST_LINE}
 use Rattle.reply_core.specs.Texts.{fault_text, unread_text}
 use Rattle.reply_core.specs.Telling.{TellsReply}
 use Rattle.system_core.specs.World.{World, opening}
@@ -47,12 +48,16 @@ addressed_by n line =
     else if slice_index line n == colon then spoken_by (name_of (take n line)) n
     else Err (codes.Expected, 0)
 
--- how a line begins: its length and whether it is blank are judged first
-abbrev pub addressed : List ℕ → Address
-addressed line =
-    if nat_lt MAX_LINE (length line) then Err (codes.TooLong, MAX_LINE)
+-- how a line begins that may have so many bytes: its length and whether it is blank are judged first
+abbrev pub addressed_up_to : ℕ → List ℕ → Address
+addressed_up_to most line =
+    if nat_lt most (length line) then Err (codes.TooLong, most)
     else if list_all is_blank line then Err (codes.Empty, 0)
     else addressed_by (prefix_len is_word_byte line) line
+
+-- how a script's line begins
+abbrev pub addressed : List ℕ → Address
+addressed line = addressed_up_to MAX_LINE line
 
 -- the user asks this
 pub record Asks (line : List ℕ) (user : User) (asked : Statement) : Type 0 where
@@ -117,7 +122,7 @@ pub too_long : (line : List ℕ)
     → addressed line ≡ Err (codes.TooLong, MAX_LINE)
 too_long line h = grind (arith, nat_tests)
 
-AnswersLine-too_long : (old new : World) (line other text : List ℕ)
+pub AnswersLine-too_long : (old new : World) (line other text : List ℕ)
     → MAX_LINE < length line
     → MAX_LINE < length other
     → AnswersLine old line text new
@@ -132,15 +137,15 @@ AnswersLine-too_long old _ line other _ h k (unread user start e) = let l = too_
 
 -- lines that are too long are answered alike
 pub Answers-too_long : (old new : World) (line other text : List ℕ)
-    → MAX_LINE < length line
-    → MAX_LINE < length other
+    → LONGEST_LINE < length line
+    → LONGEST_LINE < length other
     → Answers old line text new
     → Answers old other text new
 Answers-too_long old new line other text h k a = record {
   first = a.first;
   mid = a.mid;
   second = a.second;
-  answered = AnswersLine-too_long old a.mid line other a.first h k a.answered;
+  answered = AnswersLine-too_long old a.mid line other a.first (omega (arith, h)) (omega (arith, k)) a.answered;
   followed = a.followed;
   text_is = a.text_is;
 }

@@ -2,4 +2,5 @@
 
 pub mod address;
 pub mod answer;
+pub mod fault;
 pub mod server;

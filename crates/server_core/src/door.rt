@@ -27,6 +27,8 @@ const EOPNOTSUPP: i32 = 95;
 pub enum ServeFault {
     /// The listener is gone, so that no session can be accepted.
     Accept,
+    /// A change could not be kept.
+    Journal,
     /// A request for memory was refused, or a thread could not be started.
     NoMemory,
 }

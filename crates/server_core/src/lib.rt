@@ -24,7 +24,8 @@
 //!
 //! A session that has ended is shut for writing and then read for a while, since to close a socket
 //! with unread bytes would take the last replies from the client. A fault of a session ends that
-//! session, and is told on the error stream. [`Notes`] are taken of each session, for a log of
+//! session, and is told on the error stream. One of which a reply was withheld, since a change could
+//! not be kept, shuts the door besides. [`Notes`] are taken of each session, for a log of
 //! where sessions begin and end.
 //!
 //! A client that sends nothing holds its worker, and so does one that takes nothing of its replies,

@@ -2,7 +2,7 @@
 use crate::door::Guest;
 use crate::notes::Notes;
 use base_core::Moment;
-use lines_core::{SessionFault, fault_name};
+use session_core::{SessionEnd, end_name};
 use std::io::{Result, Write};
 use std::sync::{Mutex, Wait};
 
@@ -12,8 +12,8 @@ pub trait Log {
     /// Tells that a session begins.
     fn begun<R: Wait>(&self, rt: &R, guest: &Guest);
 
-    /// Tells the fault that ended a session.
-    fn tell<R: Wait>(&self, rt: &R, fault: SessionFault);
+    /// Tells why a session ended before its input did.
+    fn tell<R: Wait>(&self, rt: &R, end: SessionEnd);
 
     /// Tells that a session ended, and what was noted of it.
     fn ended<R: Wait>(&self, rt: &R, guest: &Guest, notes: &Notes);
@@ -35,8 +35,8 @@ impl<'a, W: Write> Log for SharedLog<'a, W> {
         }
     }
 
-    fn tell<R: Wait>(&self, rt: &R, fault: SessionFault) {
-        let _ = writeln!(self.writer.lock(rt), "session fault: {}", fault_name(fault));
+    fn tell<R: Wait>(&self, rt: &R, end: SessionEnd) {
+        let _ = writeln!(self.writer.lock(rt), "session fault: {}", end_name(end));
     }
 
     fn ended<R: Wait>(&self, rt: &R, guest: &Guest, notes: &Notes) {

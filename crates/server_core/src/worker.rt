@@ -2,13 +2,14 @@
 ghost use Rattle.std.specs.Prelude.{◌≡◌, Some};
 ghost use Rattle.server_core.specs.Sessions.{IsOf, Attends, Attended};
 
-use crate::door::Door;
+use crate::door::{Door, ServeFault};
 use crate::log::Log;
 use crate::notes::Notes;
 use base_core::{StdSink, StdSource};
 use desk_core::{Desk, Pass};
+use journal_core::Keeper;
 use lines_core::{SessionFault, Steady};
-use session_core::serve_session;
+use session_core::{SessionEnd, serve_session};
 use std::alloc::Global;
 use std::io::{BufWriter, Read};
 use std::net::{Shutdown, TcpListener, TcpStream};
@@ -42,15 +43,15 @@ fn let_go(stream: &TcpStream) {
 
 /// Serves one session to its end, through the pass and through nothing else. A read or a write that
 /// waits for longer than `idle` is its fault.
-fn attend<R: Wait>(
+fn attend<K: Keeper + Drop, R: Wait>(
     rt: &R,
     alloc: Global,
-    desk: &Desk,
-    pass: &mut Pass,
+    desk: &Desk<K>,
+    pass: &mut Pass<K>,
     stream: &TcpStream,
     idle: Option<Duration>,
     notes: &Notes,
-) -> Result<u64, SessionFault>
+) -> Result<u64, SessionEnd>
     requires { IsOf desk.now pass.old }
     ensures { Attends desk.now result pass.old pass.new }
 {
@@ -59,7 +60,7 @@ fn attend<R: Wait>(
     let _ = stream.set_write_timeout(idle);
     let output = Steady::new(stream);
     let Ok(buffered) = BufWriter::with_capacity(alloc, OUTPUT_BYTES, output) else {
-        return Err(SessionFault::NoMemory);
+        return Err(SessionEnd::Session(SessionFault::NoMemory));
     };
     let mut reader = StdSource::new(Steady::new(stream));
     let mut writer = StdSink::new(buffered);
@@ -68,19 +69,21 @@ fn attend<R: Wait>(
     served
 }
 
-/// Takes sessions one by one and serves each through the pass, until all are taken or the listener
-/// is gone. Nothing else is done through it. A session ends with a fault whose client sends nothing
-/// for as long as `idle` says, or takes nothing; without it a session waits.
-pub fn work<R: Wait + Clock, L: Log>(
+/// Takes sessions one by one and serves each through the pass, until all are taken or the door is
+/// shut. Nothing else is done through it. A session ends with a fault whose client sends nothing for
+/// as long as `idle` says, or takes nothing; without it a session waits. One of which a reply was
+/// withheld, since a change could not be kept, shuts the door, so that no further session is taken;
+/// those that run end at their next statement.
+pub fn work<K: Keeper + Drop, R: Wait + Clock, L: Log>(
     rt: &R,
     alloc: Global,
-    desk: &Desk,
-    pass: Pass,
+    desk: &Desk<K>,
+    pass: Pass<K>,
     listener: &TcpListener,
     door: &Mutex<Door>,
     idle: Option<Duration>,
     log: &L,
-) -> Pass
+) -> Pass<K>
     requires { IsOf desk.now pass }
     ensures { Attended desk.now pass result }
 {
@@ -91,8 +94,11 @@ pub fn work<R: Wait + Clock, L: Log>(
         };
         log.begun(rt, &guest);
         let notes = Notes::new();
-        if let Err(fault) = attend(rt, alloc, desk, &mut pass, &guest.stream, idle, &notes) {
-            log.tell(rt, fault);
+        if let Err(end) = attend(rt, alloc, desk, &mut pass, &guest.stream, idle, &notes) {
+            log.tell(rt, end);
+            if let SessionEnd::Journal = end {
+                door.lock(rt).shut(ServeFault::Journal);
+            }
         }
         log.ended(rt, &guest, &notes);
     }

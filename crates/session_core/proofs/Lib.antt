@@ -1,4 +1,6 @@
 pub mod Pieces
+pub mod Ending
+pub mod Telling
 pub mod Growing
 pub mod Sessions
 pub mod Checked

@@ -1,6 +1,7 @@
 pub mod Greeting
 pub mod Gains
 pub mod Checking
+pub mod EndNames
 pub mod Session
 pub mod TooLong
 pub use Rattle.base_core.specs.Words

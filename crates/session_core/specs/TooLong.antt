@@ -1,17 +1,19 @@
 -- Lines that are too long are answered alike.
 use Rattle.std.specs.Prelude.{◌≡◌, ℕ, ◌<◌, List, length, Err}
+use Rattle.desk_core.specs.declared.object.Basis.{Basis}
 use Rattle.std.proofs.Common.{arith, sym, ◌∙◌}
 use Rattle.std.proofs.lemmas.Bool.Decides.{nat_tests}
 use Rattle.base_core.specs.declared.name.User.{User}
 use Rattle.lexer_core.specs.declared.fault.Code.{Code}
 use Rattle.lexer_core.specs.declared.fault.Code.TheVariants as faults
 use Rattle.lexer_core.specs.declared.lexer.TheConstants.{MAX_LINE}
+use Rattle.lines_core.specs.declared.line.TheConstants.{LONGEST_LINE}
 use Rattle.lexer_core.specs.Lexing.{long_line, behind}
 use Rattle.reader_core.specs.Language.{IsReadFault, lexical, nothing, ungrammatical}
 use Rattle.turnstile.specs.Passes.{Lock, Held}
 use Rattle.system_core.specs.declared.machine.event.Entry.{Entry}
 use Rattle.session_core.specs.Greeting.{greeting}
-use Rattle.session_core.specs.Session.{Progress, AnswersUser, faulty, said, unread, AnswersSession, ended, greeted, dismissed, served}
+use Rattle.session_core.specs.Session.{Progress, AnswersUser, faulty, said, unread, AnswersSession, ended, greeted, dismissed, served, withheld}
 
 greeting-too_long : (line : List ℕ) → MAX_LINE < length line → greeting line ≡ Err (faults.TooLong, MAX_LINE)
 greeting-too_long line h = grind (arith, nat_tests)
@@ -26,7 +28,7 @@ fault-too_long line other _ _ h k (lexical (behind short lexed fails)) = absurd 
 fault-too_long line other _ _ h k (nothing are) = let s = are.short in absurd (omega (arith, h, s))
 fault-too_long line other _ _ h k (ungrammatical are fault) = let s = are.short in absurd (omega (arith, h, s))
 
-AnswersUser-too_long : (desk : Lock ℕ) (user : User) (old new : Held Entry ℕ) (line other text : List ℕ)
+AnswersUser-too_long : (desk : Lock Basis) (user : User) (old new : Held Entry Basis) (line other text : List ℕ)
     → MAX_LINE < length line
     → MAX_LINE < length other
     → AnswersUser desk user line old text new
@@ -36,14 +38,16 @@ AnswersUser-too_long desk user old new line other text h k (said asked reply spe
     let s = spelled.says.short in absurd (omega (arith, h, s))
 AnswersUser-too_long desk user old _ line other _ h k (unread s) = absurd (omega (arith, h, s))
 
-pub AnswersSession-too_long : (desk : Lock ℕ) (old new : Progress) (line other text : List ℕ)
-    → MAX_LINE < length line
-    → MAX_LINE < length other
+pub AnswersSession-too_long : (desk : Lock Basis) (old new : Progress) (line other text : List ℕ)
+    → LONGEST_LINE < length line
+    → LONGEST_LINE < length other
     → AnswersSession desk old line text new
     → AnswersSession desk old other text new
 AnswersSession-too_long desk old _ line other _ h k (ended o) = ended o
-AnswersSession-too_long desk old _ line other _ h k (greeted o n e) = let l = greeting-too_long line h in cc
+AnswersSession-too_long desk old _ line other _ h k (greeted o n e) = let l = greeting-too_long line (omega (arith, h)) in cc
 AnswersSession-too_long desk old _ line other _ h k (dismissed o n e) =
-    dismissed o n (greeting-too_long other k ∙ sym (greeting-too_long line h) ∙ e)
+    dismissed o n (greeting-too_long other (omega (arith, k)) ∙ sym (greeting-too_long line (omega (arith, h))) ∙ e)
 AnswersSession-too_long desk old _ line other _ h k (served {text} {pass} user o u a) =
-    served user o u (AnswersUser-too_long desk user old.pass pass line other text h k a)
+    served user o u (AnswersUser-too_long desk user old.pass pass line other text (omega (arith, h)) (omega (arith, k)) a)
+AnswersSession-too_long desk old _ line other _ h k (withheld {pass} user o u w) =
+    let s = w.spelled.says.short in absurd (omega (arith, h, s))

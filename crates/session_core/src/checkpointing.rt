@@ -1,32 +1,47 @@
 //! The checkpointer.
-ghost use Rattle.std.specs.Prelude.{◌≡◌, ◌^◌, Some, OnErr};
-ghost use Rattle.session_core.specs.Checking.{Looks, Checks};
+ghost use Rattle.std.specs.Prelude.{◌≡◌, ◌^◌, Some, IfOk, OnOk, OnErr, IsErrOf};
+ghost use Rattle.system_core.specs.declared.machine.event.Reply.{Reply};
+ghost use Rattle.session_core.specs.Checking.{Looks, CutOff, Checks, HasChecked};
 ghost use Rattle.session_core.specs.Gains.{Watches};
 
 use base_core::Lack;
-use desk_core::{Desk, Pass};
+use desk_core::{Desk, Pass, Unkept};
 use export_core::Gate;
+use journal_core::Keeper;
 use std::sync::Wait;
 use std::sync::atomic::{AtomicBool, Ordering};
 use std::thread;
 use std::time::{Clock, Duration};
 use system_core::Reply;
-use turnstile::Worn;
+
+/// Why the checkpointer ended before it was told to stop.
+#[derive(Clone, Copy, Debug, PartialEq, Eq)]
+pub enum CheckFault {
+    /// All turns are drawn.
+    Worn,
+    /// A change could not be kept, so that each reply is withheld.
+    Unkept,
+}
 
 // How long it sleeps where no checkpoint is active.
 const IDLE_MILLIS: u64 = 2;
 
 /// A step of the active checkpoint, which is given up exactly where the step was refused memory.
-fn step<R: Wait>(rt: &R, desk: &Desk, pass: &mut Pass) -> Reply
+fn step<K: Keeper + Drop, R: Wait>(
+    rt: &R,
+    desk: &Desk<K>,
+    pass: &mut Pass<K>,
+) -> Result<Reply, Unkept>
     requires { pass.old.lock ≡ Some desk.now }
-    ensures { Looks desk.now result pass.old pass.new }
+    ensures told { IfOk result (λ reply. Looks desk.now reply pass.old pass.new) }
+    ensures withheld { OnErr result ((reply : Reply) × CutOff desk.now reply pass.old pass.new) }
 {
-    match desk.checkpoint_turn(rt, pass) {
+    match desk.checkpoint_turn(rt, pass)? {
         Reply::Refused { at, lack } => match lack {
             Lack::NoMemory => desk.abandon_turn(rt, pass),
-            lack => Reply::Refused { at, lack },
+            lack => Ok(Reply::Refused { at, lack }),
         },
-        reply => reply,
+        reply => Ok(reply),
     }
 }
 
@@ -34,30 +49,36 @@ fn step<R: Wait>(rt: &R, desk: &Desk, pass: &mut Pass) -> Reply
 /// checkpoint is given up exactly where its step was refused memory, in the turn of the pass behind
 /// that. The pass makes no entry. Where no checkpoint is active it sleeps two milliseconds before
 /// it looks again; between two steps it calls the gate with the number of records that are left.
-/// `Worn` where all turns are drawn.
-pub fn checkpointer<R: Wait + Clock, G: Gate>(
+/// `Worn` where all turns are drawn, and `Unkept` where a reply was withheld.
+pub fn checkpointer<K: Keeper + Drop, R: Wait + Clock, G: Gate>(
     rt: &R,
-    desk: &Desk,
-    pass: &mut Pass,
+    desk: &Desk<K>,
+    pass: &mut Pass<K>,
     gate: &G,
     stop: &AtomicBool,
-) -> Result<(), Worn>
+) -> Result<(), CheckFault>
     requires { pass.old.lock ≡ Some desk.now }
-    ensures checks { Checks desk.now pass.old pass.new }
+    ensures checks { HasChecked desk.now pass.old pass.new }
+    ensures told { OnOk result (Checks desk.now pass.old pass.new) }
     ensures watches { Watches pass.old pass.new }
-    ensures worn { OnErr result (pass.new.drawn ≡ 2 ^ 62) }
+    ensures worn { IsErrOf result CheckFault.Worn
+        → Checks desk.now pass.old pass.new × (pass.new.drawn ≡ 2 ^ 62) }
 {
     for _ in rt.forever() {
         if stop.load(Ordering::SeqCst) {
             return Ok(());
         }
-        match step(rt, desk, pass) {
-            Reply::Stepped { left, .. } => gate.before_step(left),
+        let reply = match step(rt, desk, pass) {
+            Ok(reply) => reply,
+            Err(Unkept) => return Err(CheckFault::Unkept),
+        };
+        match &reply {
+            Reply::Stepped { left, .. } => gate.before_step(*left),
             Reply::Idle => thread::sleep(rt, Duration::from_millis(IDLE_MILLIS)),
-            Reply::Refused {
-                lack: Lack::Worn,
-                ..
-            } => return Err(Worn),
+            Reply::Refused { lack, .. } => match lack {
+                Lack::Worn => return Err(CheckFault::Worn),
+                _ => {}
+            },
             _ => {}
         }
     }

@@ -7,11 +7,14 @@
 //! the pass has seen; and the entries that the pass gains bear that user (`specs/Session.antt`).
 //! [`serve_line`] is one such line.
 //!
-//! [`checkpointer`] steps the active checkpoint through a pass of its own until it is told to stop.
-//! It makes no entry.
+//! A reply that the desk withholds, since a change could not be kept, is not written, and the
+//! session is over: it ends with [`SessionEnd::Journal`].
+//!
+//! [`checkpointer`] steps the active checkpoint through a pass of its own until it is told to stop,
+//! or a reply is withheld. It makes no entry.
 //!
 //! ```text
-//! let (desk, mut passes) = Desk::build(alloc, 2, 16)?;
+//! let (desk, mut passes) = Desk::build(alloc, System::new(alloc, 16)?, 16, NoKeeper, 2)?;
 //! serve_session(&rt, alloc, &desk, &mut pass, &mut reader, &mut writer, &NoGate)?;
 //! // USER ann                           welcome ann
 //! // CREATE TABLE pay (wage INTEGER)    done @1
@@ -37,8 +40,10 @@ mod checkpointing;
 mod greeting;
 mod line;
 mod session;
+mod session_end;
 
-pub use checkpointing::checkpointer;
+pub use checkpointing::{CheckFault, checkpointer};
 pub use line::serve_line;
 pub use lines_core::SessionFault;
 pub use session::serve_session;
+pub use session_end::{SessionEnd, end_name};

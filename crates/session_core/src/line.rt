@@ -1,13 +1,14 @@
 //! One line of a user.
-ghost use Rattle.std.specs.Prelude.{◌≡◌, ◌≤◌, Some, true, false, OnOk, OnErr, MatchResult};
+ghost use Rattle.std.specs.Prelude.{◌≡◌, ◌≤◌, Some, Ok, Err, true, false, IfOk, OnOk, OnErr, MatchResult};
 ghost use Rattle.lexer_core.specs.declared.lexer.TheConstants.{MAX_LINE};
 ghost use Rattle.base_core.specs.Streams.{Writes, WritesFrontOf};
 ghost use Rattle.turnstile.specs.Passes.{IsSamePass};
-ghost use Rattle.session_core.specs.Session.{AnswersUser};
+ghost use Rattle.session_core.specs.Session.{AnswersUser, Withholds};
 
 use base_core::{Broken, Moment, Sink, User};
-use desk_core::{Desk, Pass};
+use desk_core::{Desk, Pass, Unkept};
 use export_core::Gate;
+use journal_core::Keeper;
 use lexer_core::{Code, MAX_LINE, ReadFault, Token};
 use reader_core::read_with;
 use reply_core::{ReplyBuffer, write_fault, write_reply, write_unread};
@@ -30,39 +31,45 @@ fn moment_of(reply: &Reply) -> Option<Moment> {
 }
 
 /// Tells the gate of a line that was answered.
-fn tell<G: Gate>(gate: &G, at: Option<Moment>, written: Result<(), Broken>) -> Result<(), Broken>
-    ensures { result ≡ written }
+fn tell<G: Gate>(
+    gate: &G,
+    at: Option<Moment>,
+    written: Result<(), Broken>,
+) -> Result<Result<(), Unkept>, Broken>
+    ensures { MatchResult written (λ _. result ≡ Ok (Ok tt)) (λ e. result ≡ Err e) }
 {
-    if written.is_ok() {
-        gate.answered(at);
-    }
-    written
+    written?;
+    gate.answered(at);
+    Ok(Ok(()))
 }
 
 /// One line of a user, answered through a pass of the desk: what it says is asked in a turn, and
-/// the reply is written after it, with the records of an export. Then the gate is told. `Broken`
-/// exactly where the writer failed: then a front of an answer was written. What the vector of
-/// tokens and the buffer have before and behind the call means nothing.
-pub fn serve_line<R: Wait, W: Sink, G: Gate>(
+/// the reply is written after it, with the records of an export. Then the gate is told. `Unkept`
+/// where the desk withholds the reply: then nothing is written. `Broken` exactly where the writer
+/// failed: then a front of an answer was written. What the vector of tokens and the buffer have
+/// before and behind the call means nothing.
+pub fn serve_line<K: Keeper + Drop, R: Wait, W: Sink, G: Gate>(
     rt: &R,
     alloc: Global,
-    desk: &Desk,
-    pass: &mut Pass,
+    desk: &Desk<K>,
+    pass: &mut Pass<K>,
     user: User,
     line: &[u8],
     tokens: &mut Vec<Token>,
     buffer: &mut ReplyBuffer,
     writer: &mut W,
     gate: &G,
-) -> Result<(), Broken>
+) -> Result<Result<(), Unkept>, Broken>
     requires pass { pass.old.lock ≡ Some desk.now }
     requires sink { W.failed writer.old ≡ false }
     ensures same { IsSamePass pass.old pass.new }
     ensures failed { MatchResult result (λ _. W.failed writer.new ≡ false)
         (λ _. W.failed writer.new ≡ true) }
-    ensures ok { OnOk result
+    ensures ok { IfOk result (λ told. OnOk told
         (Writes (λ text. AnswersUser desk.now user line.now pass.old text pass.new)
-        (W.taken writer.old) (W.taken writer.new)) }
+        (W.taken writer.old) (W.taken writer.new))) }
+    ensures withheld { IfOk result (λ told. OnErr told
+        ((writer.new ≡ writer.old) × Withholds desk.now user line.now pass.old pass.new)) }
     ensures err { OnErr result
         (WritesFrontOf (λ text. AnswersUser desk.now user line.now pass.old text pass.new)
         (W.taken writer.old) (W.taken writer.new)) }
@@ -73,7 +80,10 @@ pub fn serve_line<R: Wait, W: Sink, G: Gate>(
     }
     match read_with(alloc, tokens, line) {
         Ok(statement) => {
-            let reply = desk.execute(rt, pass, user, statement);
+            let reply = match desk.execute(rt, pass, user, statement) {
+                Ok(reply) => reply,
+                Err(Unkept) => return Ok(Err(Unkept)),
+            };
             let at = moment_of(&reply);
             let written = write_reply(buffer, reply, writer, gate);
             tell(gate, at, written)

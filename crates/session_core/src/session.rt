@@ -7,9 +7,11 @@ ghost use Rattle.session_core.specs.Session.{AnswersSession, progress, welcome_t
 
 use crate::greeting::greeting;
 use crate::line::serve_line;
+use crate::session_end::SessionEnd;
 use base_core::{Broken, Sink, Source, User, write_all};
-use desk_core::{Desk, Pass};
+use desk_core::{Desk, Pass, Unkept};
 use export_core::Gate;
+use journal_core::Keeper;
 use lexer_core::Token;
 use lines_core::{LineServer, SessionFault, serve};
 use reply_core::{ReplyBuffer, write_fault};
@@ -18,16 +20,17 @@ use std::sync::Wait;
 
 /// What answers the lines of a session.
 #[derive(Drop)]
-struct Session<'a, R, G> {
+struct Session<'a, K: Keeper + Drop, R, G> {
     rt: &'a R,
     alloc: Global,
-    desk: &'a Desk,
-    pass: &'a mut Pass,
+    desk: &'a Desk<K>,
+    pass: &'a mut Pass<K>,
     gate: &'a G,
     tokens: &'a mut Vec<Token>,
     buffer: &'a mut ReplyBuffer,
     user: Option<User>,
     over: bool,
+    unkept: bool,
     answered: u64,
     ghost own: { pass.now.lock ≡ Some desk.now },
 }
@@ -46,7 +49,7 @@ fn write_welcome<W: Sink>(writer: &mut W, user: &User) -> Result<(), Broken>
     write_all(writer, b"\n")
 }
 
-impl<'a, R: Wait, G: Gate> Session<'a, R, G> {
+impl<'a, K: Keeper + Drop, R: Wait, G: Gate> Session<'a, K, R, G> {
     /// Answers the first line. One that names no user ends the session.
     fn greet<W: Sink>(&mut self, writer: &mut W, line: &[u8]) -> Result<(), Broken>
         requires first { (self.old.over ≡ false) × (self.old.user ≡ None) }
@@ -57,13 +60,15 @@ impl<'a, R: Wait, G: Gate> Session<'a, R, G> {
             × (self.new.desk ≡ self.old.desk) }
         ensures ok { OnOk result (Writes
             (λ text. AnswersSession self.old.desk.now
-            (progress self.old.user self.old.over self.old.answered self.old.pass.now) line.now text
-            (progress self.new.user self.new.over self.new.answered self.new.pass.now))
+            (progress self.old.user self.old.over self.old.unkept self.old.answered
+            self.old.pass.now) line.now text
+            (progress self.new.user self.new.over self.new.unkept self.new.answered self.new.pass.now))
             (W.taken writer.old) (W.taken writer.new)) }
         ensures err { OnErr result (WritesFrontOf
             (λ text. AnswersSession self.old.desk.now
-            (progress self.old.user self.old.over self.old.answered self.old.pass.now) line.now text
-            (progress self.new.user self.new.over self.new.answered self.new.pass.now))
+            (progress self.old.user self.old.over self.old.unkept self.old.answered
+            self.old.pass.now) line.now text
+            (progress self.new.user self.new.over self.new.unkept self.new.answered self.new.pass.now))
             (W.taken writer.old) (W.taken writer.new)) }
     {
         match greeting(line) {
@@ -79,7 +84,7 @@ impl<'a, R: Wait, G: Gate> Session<'a, R, G> {
         }
     }
 
-    /// Answers a later line.
+    /// Answers a later line. One whose reply is withheld ends the session.
     fn attend<W: Sink>(&mut self, writer: &mut W, user: User, line: &[u8]) -> Result<(), Broken>
         requires later { (self.old.over ≡ false) × (self.old.user ≡ Some user) }
         requires sink { W.failed writer.old ≡ false }
@@ -89,17 +94,19 @@ impl<'a, R: Wait, G: Gate> Session<'a, R, G> {
             × (self.new.desk ≡ self.old.desk) }
         ensures ok { OnOk result (Writes
             (λ text. AnswersSession self.old.desk.now
-            (progress self.old.user self.old.over self.old.answered self.old.pass.now) line.now text
-            (progress self.new.user self.new.over self.new.answered self.new.pass.now))
+            (progress self.old.user self.old.over self.old.unkept self.old.answered
+            self.old.pass.now) line.now text
+            (progress self.new.user self.new.over self.new.unkept self.new.answered self.new.pass.now))
             (W.taken writer.old) (W.taken writer.new)) }
         ensures err { OnErr result (WritesFrontOf
             (λ text. AnswersSession self.old.desk.now
-            (progress self.old.user self.old.over self.old.answered self.old.pass.now) line.now text
-            (progress self.new.user self.new.over self.new.answered self.new.pass.now))
+            (progress self.old.user self.old.over self.old.unkept self.old.answered
+            self.old.pass.now) line.now text
+            (progress self.new.user self.new.over self.new.unkept self.new.answered self.new.pass.now))
             (W.taken writer.old) (W.taken writer.new)) }
     {
         self.answered = self.answered.saturating_add(1);
-        serve_line(
+        let told = serve_line(
             self.rt,
             self.alloc,
             self.desk,
@@ -110,18 +117,24 @@ impl<'a, R: Wait, G: Gate> Session<'a, R, G> {
             self.buffer,
             writer,
             self.gate,
-        )
+        )?;
+        if let Err(Unkept) = told {
+            self.over = true;
+            self.unkept = true;
+        }
+        Ok(())
     }
 }
 
-impl<'a, R: Wait, G: Gate> LineServer for Session<'a, R, G> {
+impl<'a, K: Keeper + Drop, R: Wait, G: Gate> LineServer for Session<'a, K, R, G> {
     ghost use Rattle.std.specs.Prelude.{◌≡◌};
     ghost use Rattle.session_core.specs.Session.{progress, AnswersSession};
     ghost use Rattle.session_core.specs.TooLong.{AnswersSession-too_long};
 
     ghost answers = { λ old line text new.
-        AnswersSession old.desk.now (progress old.user old.over old.answered old.pass.now) line text
-        (progress new.user new.over new.answered new.pass.now)
+        AnswersSession old.desk.now
+        (progress old.user old.over old.unkept old.answered old.pass.now) line text
+        (progress new.user new.over new.unkept new.answered new.pass.now)
         × (new.pass.ghost_name ≡ old.pass.ghost_name)
         × (new.desk ≡ old.desk) };
 
@@ -149,23 +162,26 @@ impl<'a, R: Wait, G: Gate> LineServer for Session<'a, R, G> {
 /// answered as his. It gives the number of lines that were answered after the first.
 ///
 /// A first line that names no user is told its fault, and ends the session. What was answered to
-/// the lines read is handed on before more is read, and at the end. `Read` and `Write` are answered
-/// exactly where the reader or the writer has failed, `Bound` where 2^32 bytes were read and the
-/// end had not come, and `NoMemory` before the first read.
-pub fn serve_session<R: Wait, S: Source, W: Sink, G: Gate>(
+/// the lines read is handed on before more is read, and at the end. `Journal` is answered exactly
+/// where the desk withholds a reply: nothing is written for that line, and the session is over. Else
+/// `Read` and `Write` are answered exactly where the reader or the writer has failed, `Bound` where
+/// 2^32 bytes were read and the end had not come, and `NoMemory` before the first read.
+pub fn serve_session<K: Keeper + Drop, R: Wait, S: Source, W: Sink, G: Gate>(
     rt: &R,
     alloc: Global,
-    desk: &Desk,
-    pass: &mut Pass,
+    desk: &Desk<K>,
+    pass: &mut Pass<K>,
     reader: &mut S,
     writer: &mut W,
     gate: &G,
-) -> Result<u64, SessionFault>
+) -> Result<u64, SessionEnd>
     requires pass { pass.old.lock ≡ Some desk.now }
     requires source { S.failed reader.old ≡ false }
     requires sink { W.failed writer.old ≡ false }
-    ensures read { IsErrOf result SessionFault.Read ↔ (S.failed reader.new ≡ true) }
-    ensures write { IsErrOf result SessionFault.Write ↔ (W.failed writer.new ≡ true) }
+    ensures read { IsErrOf result (SessionEnd.Session SessionFault.Read)
+        ↔ (S.failed reader.new ≡ true) }
+    ensures write { IsErrOf result (SessionEnd.Session SessionFault.Write)
+        ↔ ((W.failed writer.new ≡ true) × ¬ IsErrOf result SessionEnd.Journal) }
     ensures flushed { W.flushed writer.old ≡ true → W.failed writer.new ≡ false
         → W.flushed writer.new ≡ true }
     ensures same { IsSamePass pass.old pass.new }
@@ -173,7 +189,7 @@ pub fn serve_session<R: Wait, S: Source, W: Sink, G: Gate>(
         (S.left reader.old) (S.left reader.new) (W.taken writer.old) (W.taken writer.new) }
 {
     let Ok(mut buffer) = ReplyBuffer::new(alloc) else {
-        return Err(SessionFault::NoMemory);
+        return Err(SessionEnd::Session(SessionFault::NoMemory));
     };
     let mut tokens = Vec::new(alloc);
     let mut session = Session {
@@ -186,12 +202,16 @@ pub fn serve_session<R: Wait, S: Source, W: Sink, G: Gate>(
         buffer: &mut buffer,
         user: None,
         over: false,
+        unkept: false,
         answered: 0,
     };
     let served = serve(alloc, &mut session, reader, writer);
-    let answered = session.answered;
+    let (answered, unkept) = (session.answered, session.unkept);
+    if unkept {
+        return Err(SessionEnd::Journal);
+    }
     match served {
         Ok(()) => Ok(answered),
-        Err(fault) => Err(fault),
+        Err(fault) => Err(SessionEnd::Session(fault)),
     }
 }

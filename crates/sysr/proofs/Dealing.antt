@@ -1,37 +1,80 @@
 -- New passes, and what threads make of them.
-use Rattle.std.proofs.Common.{◌≡◌, ℕ, zero, suc, List, [], ◌∷◌, ◌++◌, Some, All, refl, subst, sym, ap, ◌∙◌}
-use Rattle.std.proofs.lemmas.List.Elements.{All-nil, All-cons, All-push, All-weaker}
-use Rattle.turnstile.specs.Passes.{Lock, Held, passes_from, new_passes}
+use Rattle.std.proofs.Common.{◌≡◌, ℕ, zero, suc, List, [], ◌∷◌, ◌++◌, Some, All, refl, subst, sym, ap, ◌∙◌, append_assoc}
+use Rattle.std.specs.Prelude.{Result, Ok, Err, OnOk, IfOk, ◌+◌, length}
+use Rattle.std.proofs.lemmas.List.Elements.{All-nil, All-cons, All-push, All-pop, All-weaker}
+use Rattle.turnstile.specs.Logs.{StartsWith}
+use Rattle.turnstile.specs.Closed.{Kept, AreAll}
+use Rattle.turnstile.specs.Passes.{Lock, Held, IsSamePass, passes_from, new_passes}
+use Rattle.desk_core.specs.declared.object.Basis.{Basis}
+use Rattle.desk_core.specs.Turns.{asked_by, journal_of, begun_of, Ended}
+use Rattle.system_core.specs.World.{World}
 use Rattle.system_core.specs.declared.machine.event.Entry.{Entry}
-use Rattle.system_core.specs.declared.machine.event.Reply.{Reply}
-use Rattle.session_core.specs.Checking.{Checks, unchecked, checked}
-use Rattle.session_core.proofs.Checked.{looks_watches}
-use Rattle.server_core.specs.Sessions.{IsOf, IsNew, new_pass, Attended, IsWorkers, IsCheckpointers, AreServers}
+use Rattle.session_core.specs.Checking.{Checks, unchecked, checked, HasChecked, told, cut_off}
+use Rattle.session_core.specs.Gains.{Watches}
+use Rattle.session_core.proofs.Checked.{looks_watches, cut_watches}
+use Rattle.session_core.proofs.Growing.{Watches-refl, Watches-trans}
+use Rattle.server_core.specs.Sessions.{IsOf, IsNew, new_pass, Attended, IsWorkers, IsCheckpointers, AreServers, Leaves}
 use Rattle.server_core.proofs.Attending.{attended_same}
 
-all_from : (desk : Lock ℕ) (first count : ℕ) → All (IsNew desk) (passes_from desk first count)
-all_from desk first zero = All-nil (IsNew desk)
-all_from desk first (suc n) = All-cons (IsNew desk) (new_pass desk first) (passes_from desk (suc first) n) refl (all_from desk (suc first) n)
+all_from : (journal : List Entry) (desk : Lock Basis) (first count : ℕ) → All (IsNew journal desk) (passes_from journal desk first count)
+all_from journal desk first zero = All-nil (IsNew journal desk)
+all_from journal desk first (suc n) = All-cons (IsNew journal desk) (new_pass journal desk first) (passes_from journal desk (suc first) n) refl (all_from journal desk (suc first) n)
 
-pub all_new : (desk : Lock ℕ) (passes : List (Held Entry ℕ)) → passes ≡ new_passes desk → All (IsNew desk) passes
-all_new desk passes e = subst (λ z. All (IsNew desk) z) (sym e) (all_from desk 0 desk.count)
+pub all_new : (journal : List Entry) (desk : Lock Basis) (passes : List (Held Entry Basis)) → passes ≡ new_passes journal desk → All (IsNew journal desk) passes
+all_new journal desk passes e = subst (λ z. All (IsNew journal desk) z) (sym e) (all_from journal desk 0 desk.count)
 
 -- since the pass was new, sessions were served through it
-pub worker_of : (desk : Lock ℕ) (old new : Held Entry ℕ) → IsNew desk old → Attended desk old new → IsWorkers desk new
-worker_of desk old new fresh served =
+pub worker_of : (journal : List Entry) (desk : Lock Basis) (old new : Held Entry Basis) → IsNew journal desk old → Attended desk old new → IsWorkers journal desk new
+worker_of journal desk old new fresh served =
     let same = attended_same desk old new served in
-    let start : old ≡ new_pass desk new.number = fresh ∙ ap (new_pass desk) (sym same.1) in
+    let start : old ≡ new_pass journal desk new.number = fresh ∙ ap (new_pass journal desk) (sym same.1) in
     subst (λ z. Attended desk z new) start served
 
-checks_lock : (desk : Lock ℕ) (old new : Held Entry ℕ) → Checks desk old new → new.lock ≡ old.lock
-checks_lock desk old _ unchecked = refl
-checks_lock desk old _ (checked reply between new before look) =
-    let watched = looks_watches desk reply between new look in
-    watched.same.0 ∙ checks_lock desk old between before
+checks_watch : (desk : Lock Basis) (old new : Held Entry Basis) → Checks desk old new → Watches old new
+checks_watch desk old _ unchecked = Watches-refl old
+checks_watch desk old _ (checked reply between new before look) = Watches-trans old between new (checks_watch desk old between before) (looks_watches desk reply between new look)
+
+checked_watch : (desk : Lock Basis) (old new : Held Entry Basis) → HasChecked desk old new → Watches old new
+checked_watch desk old new (told c) = checks_watch desk old new c
+checked_watch desk old new (cut_off reply between c cut) = Watches-trans old between new (checks_watch desk old between c) (cut_watches desk reply between new cut)
+
+-- since the pass was new, it looked after checkpoints
+pub checkpointer_of : (journal : List Entry) (desk : Lock Basis) (old new : Held Entry Basis) → IsNew journal desk old → HasChecked desk old new → IsSamePass old new → IsCheckpointers journal desk new
+checkpointer_of journal desk old new fresh looked same =
+    let start : old ≡ new_pass journal desk new.number = fresh ∙ ap (new_pass journal desk) (sym same.1) in
+    subst (λ z. HasChecked desk z new) start looked
 
 -- the passes of a server are of its desk
-pub servers_of : (desk : Lock ℕ) (passes : List (Held Entry ℕ)) → AreServers desk passes → All (IsOf desk) passes
-servers_of desk passes s =
-    let workers = All-weaker (IsWorkers desk) (IsOf desk) (λ p served. (attended_same desk (new_pass desk p.number) p served).0) s.workers s.served in
-    let last : s.checkpointer.lock ≡ Some desk = checks_lock desk (new_pass desk s.checkpointer.number) s.checkpointer s.checked in
+pub servers_of : (journal : List Entry) (desk : Lock Basis) (passes : List (Held Entry Basis)) → AreServers journal desk passes → All (IsOf desk) passes
+servers_of journal desk passes s =
+    let workers = All-weaker (IsWorkers journal desk) (IsOf desk) (λ p served. (attended_same desk (new_pass journal desk p.number) p served).0) s.workers s.served in
+    let last : s.checkpointer.lock ≡ Some desk = (checked_watch desk (new_pass journal desk s.checkpointer.number) s.checkpointer s.checked).same.0 in
     subst (λ z. All (IsOf desk) z) (sym s.passes_are) (All-push (IsOf desk) s.workers s.checkpointer workers last)
+
+-- and its journal begins with the one that it was built on
+pub begins_with : (journal : List Entry) (desk : Lock Basis) (passes : List (Held Entry Basis)) (w : World) → AreServers journal desk passes → Ended desk passes w → StartsWith w.journal journal
+begins_with journal desk passes w s e =
+    let all = subst (All (Kept journal_of asked_by begun_of w)) s.passes_are e.closed.kept in
+    let last = (All-pop (Kept journal_of asked_by begun_of w) (s.workers ++ s.checkpointer ∷ []) s.workers (Some s.checkpointer) refl all).1 in
+    let seen = (checked_watch desk (new_pass journal desk s.checkpointer.number) s.checkpointer s.checked).seen in
+    (seen.0 ++ last.seen.0, last.seen.1 ∙ (ap (λ z. z ++ last.seen.0) seen.1 ∙ append_assoc journal seen.0 last.seen.0))
+
+-- what a result tells of its value, from two things that it tells
+pub if_ok_with : {X Y : Type 0} (A : Type 0) (P Q : X → Type 0) (r : Result X Y) → OnOk r A → IfOk r P → ((x : X) → A → P x → Q x) → IfOk r Q
+if_ok_with A P Q (Ok x) a p f = f x a p
+if_ok_with A P Q (Err y) a p f = tt
+
+-- what a server leaves
+pub leaves_of : (workers chunk : ℕ) (start world : World) (desk : Lock Basis) (passes : List (Held Entry Basis)) → desk.count ≡ workers + 1 → desk.start ≡ 0 → desk.fixed ≡ record { chunk = chunk; front = length start.journal } → start.chunk ≡ chunk
+    → AreServers start.journal desk passes → AreAll desk passes → Ended desk passes world → Leaves workers start world
+leaves_of workers chunk start world desk passes count begins basis is servers all ended = record {
+  desk = desk;
+  passes = passes;
+  count_is = count;
+  start_is = begins;
+  basis_is = basis ∙ (λ i. record { chunk = sym is i; front = length start.journal });
+  all = all;
+  servers = servers;
+  ended = ended;
+  begins = begins_with start.journal desk passes world servers ended;
+}

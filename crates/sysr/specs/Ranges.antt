@@ -13,7 +13,9 @@ IsIdle idle = IfSome idle (λ seconds. (0 < seconds) × (seconds ≤ 86400))
 
 -- each number that is asked for is in its range
 abbrev pub IsInRange : CommandLine → Type 0
-IsInRange (asked.Run chunk audit) = IsChunk chunk
+IsInRange (asked.Run r) = IsChunk r.chunk
+IsInRange asked.Journal = Unit {0}
+IsInRange (asked.Dump load) = Unit {0}
 IsInRange (asked.Serve s) =
     ((0 < s.port) × (s.port ≤ 65535))
     × ((0 < s.workers) × (s.workers ≤ 16))

@@ -2,10 +2,11 @@
 ghost use Rattle.std.specs.Prelude.{◌<◌, ◌≤◌, IfOk};
 ghost use Rattle.sysr.specs.Ranges.{IsChunk, IsIdle, IsInRange};
 
+use crate::commands::program;
 use clap::error::ErrorKind;
-use clap::{Arg, ArgAction, ArgMatches, Command, Error};
+use clap::{ArgMatches, Error};
 use lines_core::{NO_MEMORY, SessionFault, fault_text, give_up};
-use std::alloc::{AllocError, Global};
+use std::alloc::Global;
 use std::convert::AsStr;
 use std::process::ExitCode;
 
@@ -23,40 +24,45 @@ const MAX_SESSIONS: u16 = 10_000;
 
 const MAX_IDLE: u32 = 86_400;
 
-// This edition of the program.
-const VERSION: &str = "0.1.0";
-
-const FORM_OF_A_LINE: &str = "\
-A line is `user: statement`, as in `ann: SELECT * FROM pay`. Replies go to standard output, in the
-order of the lines; standard error says why the program could not go on.";
-
-const FORM_OF_A_SESSION: &str = "\
-The first line of a session is `USER name`; each later line is a statement of that user, as in
-`SELECT * FROM pay`. Standard error says of each session that ended with a fault which one it was;
-with --log it also says where each session begins and ends.";
-
 /// What the command line asks for.
-#[derive(Clone, Copy, PartialEq, Eq)]
-pub enum CommandLine {
-    /// To answer the lines of standard input, with this number of records in a step of the
-    /// checkpointer, and whether to audit at the end.
-    Run { chunk: usize, audit: bool },
+#[derive(Clone, Copy)]
+pub enum CommandLine<'a> {
+    /// To answer the lines of standard input.
+    Run(Running<'a>),
+    /// To write the accepted changes of the lines of standard input.
+    Journal,
+    /// To write what would make the state that they leave, beginning with what this file says.
+    Dump { load: Option<&'a str> },
     /// To serve sessions.
-    Serve(Serving),
+    Serve(Serving<'a>),
+}
+
+/// How lines are answered: how many records a step of the checkpointer takes, from which file the
+/// first changes come, to which each change is written, and whether to audit at the end.
+#[derive(Clone, Copy)]
+pub struct Running<'a> {
+    pub chunk: usize,
+    pub load: Option<&'a str>,
+    pub journal: Option<&'a str>,
+    pub audit: bool,
 }
 
 /// The sessions that are asked for: at which port of this machine, how many, by how many threads,
 /// how many records a step of the checkpointer takes, for how many seconds a session waits for its
-/// client, if not for ever, whether it is told where sessions begin and end, and whether to audit at
-/// the end.
-#[derive(Clone, Copy, PartialEq, Eq)]
-pub struct Serving {
+/// client, if not for ever, and whether it is told where sessions begin and end; from which file the
+/// first changes come, to which each change is written, to which the state is written at the end,
+/// and whether to audit then.
+#[derive(Clone, Copy)]
+pub struct Serving<'a> {
     pub port: u16,
     pub workers: usize,
     pub sessions: u64,
     pub chunk: usize,
     pub idle: Option<u64>,
     pub log: bool,
+    pub load: Option<&'a str>,
+    pub journal: Option<&'a str>,
+    pub dump: Option<&'a str>,
     pub audit: bool,
 }
 
@@ -80,7 +86,7 @@ fn idle_of(matches: &ArgMatches<'_>) -> Option<u64>
 
 // clap has refused a command line without a port, and a number out of range: so none of the numbers
 // for that case is ever taken.
-fn serving_of(matches: &ArgMatches<'_>) -> Serving
+fn serving_of<'a>(matches: &ArgMatches<'a>) -> Serving<'a>
     ensures { IsInRange (CommandLine.Serve result) }
 {
     let port = matches.get_one::<u16>("port").unwrap_or(1).max(1);
@@ -93,89 +99,22 @@ fn serving_of(matches: &ArgMatches<'_>) -> Serving
         chunk: chunk_of(matches),
         idle: idle_of(matches),
         log: matches.get_flag("log"),
+        load: matches.get_str("load"),
+        journal: matches.get_str("journal"),
+        dump: matches.get_str("dump"),
         audit: matches.get_flag("audit"),
     }
 }
 
-fn chunk_arg<'a>(alloc: Global) -> Arg<'a> {
-    Arg::new(alloc, "chunk")
-        .long("chunk")
-        .value_name("k")
-        .value_parser(clap::value_parser!(u8).range(1..=64))
-        .help("Records in a step of the checkpointer, from 1 to 64; 16 where it is not given")
-}
-
-fn audit_arg<'a>(alloc: Global) -> Arg<'a> {
-    Arg::new(alloc, "audit")
-        .long("audit")
-        .action(ArgAction::SetTrue)
-        .help("At the end compares the rights in force with a replay of the journal")
-}
-
-fn run_command<'a>(alloc: Global) -> Result<Command<'a>, AllocError> {
-    Command::new(alloc, "run")
-        .about("Answers the lines of standard input on standard output")
-        .after_help(FORM_OF_A_LINE)
-        .arg(chunk_arg(alloc))?
-        .arg(audit_arg(alloc))
-}
-
-fn port_arg<'a>(alloc: Global) -> Arg<'a> {
-    Arg::new(alloc, "port")
-        .long("port")
-        .value_name("p")
-        .required(true)
-        .value_parser(clap::value_parser!(u16).range(1..=65535))
-        .help("The port of 127.0.0.1 at which it listens")
-}
-
-fn workers_arg<'a>(alloc: Global) -> Arg<'a> {
-    Arg::new(alloc, "workers")
-        .long("workers")
-        .value_name("n")
-        .value_parser(clap::value_parser!(u8).range(1..=16))
-        .help("Threads that serve sessions, from 1 to 16; 4 where it is not given")
-}
-
-fn sessions_arg<'a>(alloc: Global) -> Arg<'a> {
-    Arg::new(alloc, "sessions")
-        .long("sessions")
-        .value_name("k")
-        .value_parser(clap::value_parser!(u16).range(1..=10000))
-        .help(
-            "Sessions that are served before it ends, from 1 to 10,000; 10,000 where it is not given",
-        )
-}
-
-fn idle_arg<'a>(alloc: Global) -> Arg<'a> {
-    Arg::new(alloc, "idle")
-        .long("idle")
-        .value_name("s")
-        .value_parser(clap::value_parser!(u32).range(1..=86400))
-        .help(
-            "Seconds after which a session ends whose client sends nothing or takes nothing, \
-            from 1 to 86,400; it waits where it is not given",
-        )
-}
-
-fn log_arg<'a>(alloc: Global) -> Arg<'a> {
-    Arg::new(alloc, "log")
-        .long("log")
-        .action(ArgAction::SetTrue)
-        .help("Says on standard error where each session begins and ends")
-}
-
-fn serve_command<'a>(alloc: Global) -> Result<Command<'a>, AllocError> {
-    Command::new(alloc, "serve")
-        .about("Serves sessions over TCP")
-        .after_help(FORM_OF_A_SESSION)
-        .arg(port_arg(alloc))?
-        .arg(workers_arg(alloc))?
-        .arg(sessions_arg(alloc))?
-        .arg(chunk_arg(alloc))?
-        .arg(idle_arg(alloc))?
-        .arg(log_arg(alloc))?
-        .arg(audit_arg(alloc))
+fn running_of<'a>(matches: &ArgMatches<'a>) -> Running<'a>
+    ensures { IsInRange (CommandLine.Run result) }
+{
+    Running {
+        chunk: chunk_of(matches),
+        load: matches.get_str("load"),
+        journal: matches.get_str("journal"),
+        audit: matches.get_flag("audit"),
+    }
 }
 
 /// Reads the words of a command line, of which the first is the name of the program. Each number is
@@ -184,23 +123,21 @@ fn serve_command<'a>(alloc: Global) -> Result<Command<'a>, AllocError> {
 /// where none are given; the seconds of an idle session, if they are given, from 1 to 86,400. An
 /// error is clap's: the words were refused, help or the version was asked for, or there was no
 /// memory.
-pub fn options<S: AsStr>(alloc: Global, words: &[S]) -> Result<CommandLine, Error>
+pub fn options<'a, S: AsStr>(alloc: Global, words: &'a [S]) -> Result<CommandLine<'a>, Error>
     ensures { IfOk result IsInRange }
 {
-    let program = Command::new(alloc, "sysr")
-        .about("A table server in memory whose rights are delegated and revoked as in System R")
-        .version(VERSION)
-        .subcommand_required(true)
-        .subcommand(run_command(alloc)?)?
-        .subcommand(serve_command(alloc)?)?;
-    let matches = program.try_get_matches_from(words)?;
+    let matches = program(alloc)?.try_get_matches_from(words)?;
     if let Some(serve) = matches.subcommand_matches("serve") {
         return Ok(CommandLine::Serve(serving_of(serve)));
     }
-    let run = matches.subcommand_matches("run");
-    Ok(CommandLine::Run {
-        chunk: run.map_or(CHUNK as usize, |run| chunk_of(run)),
-        audit: run.is_some_and(|run| run.get_flag("audit")),
+    if let Some(dump) = matches.subcommand_matches("dump") {
+        return Ok(CommandLine::Dump {
+            load: dump.get_str("load"),
+        });
+    }
+    Ok(match matches.subcommand_matches("run") {
+        Some(run) => CommandLine::Run(running_of(run)),
+        None => CommandLine::Journal,
     })
 }
 

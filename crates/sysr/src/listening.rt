@@ -1,22 +1,28 @@
 //! Sessions over TCP.
-ghost use Rattle.std.specs.Prelude.{◌<◌, ◌≤◌};
+ghost use Rattle.std.specs.Prelude.{◌≡◌, ◌<◌, ◌≤◌, false};
 ghost use Rattle.sysr.specs.Ranges.{IsInRange};
+ghost use Rattle.sysr.specs.Ready.{IsReady};
 ghost use Rattle.sysr.specs.declared.command_line.CommandLine.TheVariants.{Serve};
 
 use crate::auditing::audit;
 use crate::command_line::Serving;
+use crate::files::{FileSink, writer_of};
+use crate::loading::begun_with;
+use crate::recording::dump_to;
+use crate::running::{goes_on, output};
 use crate::serving::{Served, serve_on};
-use base_core::StdSink;
-use lines_core::{NO_MEMORY, SessionFault, Steady, fault_text, give_up};
+use base_core::NoMemory;
+use journal_core::{Keeper, LineKeeper, NoKeeper};
+use lines_core::{NO_MEMORY, SessionFault, fault_text, give_up};
 use server_core::{Manners, ServeFault};
 use std::fs;
-use std::io::BufWriter;
 use std::mem::forget;
 use std::net::TcpListener;
 use std::process::ExitCode;
 use std::sync::Wait;
 use std::thread::Threads;
 use std::time::{Clock, Duration};
+use system_core::System;
 
 /// Fills the places of standard streams that are closed, for as long as the process runs: a socket
 /// there would be sent what is told on standard error. They are filled by what can only be read, so
@@ -27,35 +33,74 @@ fn fill_closed_streams(host: &HostRuntime) {
     }
 }
 
-/// Says how many sessions were served, and audits what they left, if that is asked for.
-fn tell_end(host: &HostRuntime, served: &Served, audited: bool) -> ExitCode {
-    if println!(host; "served {}", served.sessions).is_err() {
-        return give_up(host, fault_text(SessionFault::Write));
+/// The file that the dump goes to, if one is named. It is opened before the first session, so that
+/// no state is lost at the end for want of it.
+fn dump_of(host: &HostRuntime, path: Option<&str>) -> Result<Option<FileSink>, ExitCode> {
+    match path {
+        Some(path) => Ok(Some(writer_of(host, path, false)?)),
+        None => Ok(None),
     }
-    if !audited {
-        return ExitCode::SUCCESS;
-    }
-    let Ok(buffered) = BufWriter::new(host.alloc(), Steady::new(host.stdout())) else {
-        return give_up(host, NO_MEMORY);
-    };
-    audit(host, &served.system, &mut StdSink::new(buffered))
 }
 
-/// Serves the sessions that are asked for. It says at which port it listens, and at the end how
-/// many sessions it served, and how an audit ended.
-pub fn serve<R>(host: &HostRuntime, rt: &R, asked: Serving) -> ExitCode
+/// Says how many sessions were served, writes the dump of what they left, and audits it, each if
+/// that is asked for.
+fn tell_end(
+    host: &HostRuntime,
+    sessions: u64,
+    system: &System,
+    path: Option<&str>,
+    audited: bool,
+) -> Result<ExitCode, ExitCode> {
+    if println!(host; "served {sessions}").is_err() {
+        return Err(give_up(host, fault_text(SessionFault::Write)));
+    }
+    if let Some(path) = path {
+        dump_to(host, system, &mut writer_of(host, path, false)?)?;
+    }
+    if audited {
+        return Ok(audit(host, system, &mut output(host)?));
+    }
+    Ok(ExitCode::SUCCESS)
+}
+
+/// Listens at the port of this machine, and says so.
+fn listener_at(host: &HostRuntime, port: u16) -> Result<TcpListener, ExitCode> {
+    let Ok(listener) = TcpListener::bind(host, ("127.0.0.1", port)) else {
+        let _ = eprintln!(host; "sysr: cannot listen on {port}");
+        return Err(ExitCode::FAILURE);
+    };
+    if println!(host; "listening on {port}").is_err() {
+        return Err(give_up(host, fault_text(SessionFault::Write)));
+    }
+    Ok(listener)
+}
+
+/// What is told of a fault that ended a server.
+fn serve_fault_text(fault: ServeFault) -> &'static str {
+    match fault {
+        ServeFault::Accept => "sysr: accept fault",
+        ServeFault::NoMemory => NO_MEMORY,
+        ServeFault::Journal => "sysr: journal fault",
+    }
+}
+
+/// Serves the sessions that are asked for, from this core on, whose changes are kept.
+fn serve_with<R, K>(
+    host: &HostRuntime,
+    rt: &R,
+    asked: Serving<'_>,
+    system: System,
+    keeper: K,
+) -> Result<ExitCode, ExitCode>
 where
     R: Threads + Wait + Clock + Sync,
-    requires { IsInRange (Serve asked) }
+    K: Keeper + Drop + Send,
+    requires range { IsInRange (Serve asked) }
+    requires ready { IsReady asked.chunk system }
+    requires works { K.failed keeper ≡ false }
 {
-    fill_closed_streams(host);
-    let Ok(listener) = TcpListener::bind(host, ("127.0.0.1", asked.port)) else {
-        let _ = eprintln!(host; "sysr: cannot listen on {}", asked.port);
-        return ExitCode::FAILURE;
-    };
-    if println!(host; "listening on {}", asked.port).is_err() {
-        return give_up(host, fault_text(SessionFault::Write));
-    }
+    dump_of(host, asked.dump)?;
+    let listener = listener_at(host, asked.port)?;
     let manners = Manners {
         idle: asked.idle.map(Duration::from_secs),
         log: asked.log,
@@ -68,17 +113,43 @@ where
         asked.workers,
         asked.sessions,
         asked.chunk,
+        system,
+        keeper,
         manners,
         &mut err,
     );
     match served {
         Ok(served) => {
-            let status = tell_end(host, &served, asked.audit);
+            let status = tell_end(
+                host,
+                served.sessions,
+                &served.system,
+                asked.dump,
+                asked.audit,
+            );
             // The process ends here, and its memory goes back as a whole.
             forget(served);
             status
         }
-        Err(ServeFault::Accept) => give_up(host, "sysr: accept fault"),
-        Err(ServeFault::NoMemory) => give_up(host, NO_MEMORY),
+        Err(fault) => Err(give_up(host, serve_fault_text(fault))),
+    }
+}
+
+/// Serves the sessions that are asked for. It says at which port it listens, and at the end how
+/// many sessions it served, and how an audit ended.
+pub fn serve<R>(host: &HostRuntime, rt: &R, asked: Serving<'_>) -> Result<ExitCode, ExitCode>
+where
+    R: Threads + Wait + Clock + Sync,
+    requires { IsInRange (Serve asked) }
+{
+    fill_closed_streams(host);
+    let system = begun_with(host, asked.load, asked.chunk)?;
+    let Some(path) = asked.journal else {
+        return serve_with(host, rt, asked, system, NoKeeper);
+    };
+    let sink = writer_of(host, path, goes_on(asked.load, path))?;
+    match LineKeeper::new(host.alloc(), sink) {
+        Ok(keeper) => serve_with(host, rt, asked, system, keeper),
+        Err(NoMemory) => Err(give_up(host, NO_MEMORY)),
     }
 }

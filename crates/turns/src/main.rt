@@ -10,7 +10,8 @@ ghost use Rattle.std.specs.Prelude.{◌≡◌, ◌<◌, ◌≤◌, All, Some, If
 ghost use Rattle.std.specs.Thread.{IsSync};
 
 use base_core::{Name, User};
-use desk_core::{Desk, Pass};
+use desk_core::{Desk, Pass, Unkept};
+use journal_core::NoKeeper;
 use reader_core::{Statement, read};
 use std::alloc::Global;
 use std::env;
@@ -71,8 +72,8 @@ fn alone(alloc: Global, user: &User, count: u64) -> bool {
 fn ask<R: Wait>(
     rt: &R,
     alloc: Global,
-    desk: &Desk,
-    pass: &mut Pass,
+    desk: &Desk<NoKeeper>,
+    pass: &mut Pass<NoKeeper>,
     user: &User,
     line: &[u8],
 ) -> bool
@@ -82,16 +83,18 @@ fn ask<R: Wait>(
     let Ok(statement) = read(alloc, line) else {
         return false;
     };
-    let reply = desk.execute(rt, pass, *user, statement);
-    is_done(&reply)
+    match desk.execute(rt, pass, *user, statement) {
+        Ok(reply) => is_done(&reply),
+        Err(Unkept) => false,
+    }
 }
 
 /// The table, unless another thread made it already, and so many rows, through this pass.
 fn through<R: Wait>(
     rt: &R,
     alloc: Global,
-    desk: &Desk,
-    pass: &mut Pass,
+    desk: &Desk<NoKeeper>,
+    pass: &mut Pass<NoKeeper>,
     user: &User,
     count: u64,
 ) -> bool
@@ -111,8 +114,8 @@ fn through<R: Wait>(
 fn spread<R: Threads + Wait + Sync>(
     rt: &R,
     alloc: Global,
-    desk: &Desk,
-    mut passes: Vec<Pass>,
+    desk: &Desk<NoKeeper>,
+    mut passes: Vec<Pass<NoKeeper>>,
     user: &User,
     count: u64,
 ) -> bool
@@ -146,7 +149,10 @@ fn shared<R: Threads + Wait + Sync>(
 ) -> bool
     requires counts { (0 < threads) × (threads ≤ 64) }
 {
-    let Ok((desk, passes)) = Desk::build(alloc, threads, CHUNK) else {
+    let Ok(system) = System::new(alloc, CHUNK) else {
+        return false;
+    };
+    let Ok((desk, passes)) = Desk::build(alloc, system, CHUNK, NoKeeper, threads) else {
         return false;
     };
     spread(rt, alloc, &desk, passes, user, count / (threads as u64))

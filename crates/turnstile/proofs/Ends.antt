@@ -1,7 +1,6 @@
 -- The first state of a table, and the last.
 use Rattle.std.proofs.Common.{◌≡◌, ℕ, zero, suc, ◌+◌, ◌-◌, ◌^◌, ◌<◌, ◌≤◌, ◌≢◌, List, [], ◌∷◌, ◌++◌, map, length, sym, refl, ap, ◌∙◌, subst, inl, ⊎_elim, arith, le_refl, append_assoc}
 use Rattle.std.proofs.lemmas.List.{length-map}
-use Rattle.std.proofs.lemmas.List.Elements.{All-nil}
 use Rattle.std.proofs.lemmas.List.Kept.{AllPairs-cons}
 use Rattle.std.proofs.lemmas.List.Sums.{sum_by-cons}
 use mathlib.Core.Logic.{dite}
@@ -21,46 +20,46 @@ use Rattle.turnstile.specs.Passes.{Lock, Held, passes_from}
 use Rattle.turnstile.specs.Steps.{SeatState}
 use Rattle.turnstile.specs.Closed.{AreAll, turns_of, Kept, Closed}
 use Rattle.turnstile.specs.Places.{terms_of, known_in}
-use Rattle.turnstile.proofs.Lists.{total_two, total_only, all_at}
+use Rattle.turnstile.proofs.Lists.{total_two, total_only, all_at, starts_here}
 use Rattle.turnstile.proofs.Numbers.{are_all}
 
 module _ {E : Type 0} where
-  at_fresh : (start p n m : ℕ) (k : Known E) → get_elem? (fresh_from start p n) m ≡ some k → (fresh start (p + m) ≡ k) × (m < n)
-  at_fresh start p zero m k e = cc
-  at_fresh start p (suc n) zero k e = (ap (fresh start) (omega arith) ∙ some-injective _ _ e, omega arith)
-  at_fresh start p (suc n) (suc m) k e = let h = at_fresh start (suc p) n m k e in (ap (fresh start) (omega arith) ∙ h.0, (let l = h.1 in omega arith))
+  at_fresh : (log : List E) (start p n m : ℕ) (k : Known E) → get_elem? (fresh_from log start p n) m ≡ some k → (fresh log start (p + m) ≡ k) × (m < n)
+  at_fresh log start p zero m k e = cc
+  at_fresh log start p (suc n) zero k e = (ap (fresh log start) (omega arith) ∙ some-injective _ _ e, omega arith)
+  at_fresh log start p (suc n) (suc m) k e = let h = at_fresh log start (suc p) n m k e in (ap (fresh log start) (omega arith) ∙ h.0, (let l = h.1 in omega arith))
 
   -- one fewer is left to deal
-  fresh_step : (start i n : ℕ) → i < n → ◌≡◌ {A = List (Known E)} (fresh_from start i (n - i)) (fresh start i ∷ fresh_from start (i + 1) (n - (i + 1)))
-  fresh_step start i n l = let e : n - i ≡ suc (n - (i + 1)) = omega arith in let f : suc i ≡ i + 1 = omega arith in ap (fresh_from start i) e ∙ ap (λ z. fresh start i ∷ fresh_from start z (n - (i + 1))) f
+  fresh_step : (log : List E) (start i n : ℕ) → i < n → ◌≡◌ {A = List (Known E)} (fresh_from log start i (n - i)) (fresh log start i ∷ fresh_from log start (i + 1) (n - (i + 1)))
+  fresh_step log start i n l = let e : n - i ≡ suc (n - (i + 1)) = omega arith in let f : suc i ≡ i + 1 = omega arith in ap (fresh_from log start i) e ∙ ap (λ z. fresh log start i ∷ fresh_from log start z (n - (i + 1))) f
 
-apart_fresh : (E : Type 0) (start p n : ℕ) → Apart (fresh_from {E = E} start p n)
-apart_fresh E start p zero = tt
-apart_fresh E start p (suc n) = ((λ m l e. let h = at_fresh start (suc p) n m l e in λ same. let is : suc p + m ≡ l.number = ap (λ (z : Known E). z.number) h.0 in omega arith), apart_fresh E start (suc p) n)
+apart_fresh : (E : Type 0) (log : List E) (start p n : ℕ) → Apart (fresh_from {E = E} log start p n)
+apart_fresh E log start p zero = tt
+apart_fresh E log start p (suc n) = ((λ m l e. let h = at_fresh log start (suc p) n m l e in λ same. let is : suc p + m ≡ l.number = ap (λ (z : Known E). z.number) h.0 in omega arith), apart_fresh E log start (suc p) n)
 
-turns_fresh : (E : Type 0) (start p n : ℕ) → total (λ k. k.turns) (fresh_from {E = E} start p n) ≡ 0
-turns_fresh E start p zero = refl
-turns_fresh E start p (suc n) = let h = turns_fresh E start (suc p) n in omega arith
+turns_fresh : (E : Type 0) (log : List E) (start p n : ℕ) → total (λ k. k.turns) (fresh_from {E = E} log start p n) ≡ 0
+turns_fresh E log start p zero = refl
+turns_fresh E log start p (suc n) = let h = turns_fresh E log start (suc p) n in omega arith
 
-length_fresh : (E : Type 0) (start p n : ℕ) → length (fresh_from {E = E} start p n) ≡ n
-length_fresh E start p zero = refl
-length_fresh E start p (suc n) = ap suc (length_fresh E start (suc p) n)
+length_fresh : (E : Type 0) (log : List E) (start p n : ℕ) → length (fresh_from {E = E} log start p n) ≡ n
+length_fresh E log start p zero = refl
+length_fresh E log start p (suc n) = ap suc (length_fresh E log start (suc p) n)
 
-module _ {E F : Type 0} (lock : Lock F) where
+module _ {E F : Type 0} (log : List E) (lock : Lock F) where
   abbrev pub new_pass : ℕ → Held E F
-  new_pass p = record { lock = Some lock; number = p; seen = []; mark = 0; turns = 0; drawn = lock.start }
+  new_pass p = record { lock = Some lock; number = p; seen = log; mark = 0; turns = 0; drawn = lock.start }
 
-  passes_step : (i n : ℕ) → i < n → ◌≡◌ {A = List (Held E F)} (passes_from lock i (n - i)) (new_pass i ∷ passes_from lock (i + 1) (n - (i + 1)))
-  passes_step i n l = let e : n - i ≡ suc (n - (i + 1)) = omega arith in let g : suc i ≡ i + 1 = omega arith in ap (passes_from {E = E} lock i) e ∙ ap (λ z. new_pass i ∷ passes_from lock z (n - (i + 1))) g
+  passes_step : (i n : ℕ) → i < n → ◌≡◌ {A = List (Held E F)} (passes_from log lock i (n - i)) (new_pass i ∷ passes_from log lock (i + 1) (n - (i + 1)))
+  passes_step i n l = let e : n - i ≡ suc (n - (i + 1)) = omega arith in let g : suc i ≡ i + 1 = omega arith in ap (passes_from log lock i) e ∙ ap (λ z. new_pass i ∷ passes_from log lock z (n - (i + 1))) g
 
-  pub dealt_all : (i n : ℕ) (xs ys all : List (Held E F)) (x : Held E F) → i < n → xs ++ passes_from lock i (n - i) ≡ all → x ≡ new_pass i → ys ≡ xs ++ x ∷ [] → ys ++ passes_from lock (i + 1) (n - (i + 1)) ≡ all
-  dealt_all i n xs ys all x l before is now = ap (λ z. z ++ passes_from lock (i + 1) (n - (i + 1))) (now ∙ ap (λ z. xs ++ z ∷ []) is)
-      ∙ (append_assoc xs (new_pass i ∷ []) (passes_from lock (i + 1) (n - (i + 1))) ∙ (ap (λ z. xs ++ z) (sym (passes_step i n l)) ∙ before))
+  pub dealt_all : (i n : ℕ) (xs ys all : List (Held E F)) (x : Held E F) → i < n → xs ++ passes_from log lock i (n - i) ≡ all → x ≡ new_pass i → ys ≡ xs ++ x ∷ [] → ys ++ passes_from log lock (i + 1) (n - (i + 1)) ≡ all
+  dealt_all i n xs ys all x l before is now = ap (λ z. z ++ passes_from log lock (i + 1) (n - (i + 1))) (now ∙ ap (λ z. xs ++ z ∷ []) is)
+      ∙ (append_assoc xs (new_pass i ∷ []) (passes_from log lock (i + 1) (n - (i + 1))) ∙ (ap (λ z. xs ++ z) (sym (passes_step i n l)) ∙ before))
 
-module _ {O E F : Type 0} (lock : Lock F) (i : ℕ) (m : SeatState O E F) where
+module _ {O E F : Type 0} (log : List E) (lock : Lock F) (i : ℕ) (m : SeatState O E F) where
   -- the seat that deals has the pass of the next number first
-  pub next_first : i < lock.count → m ≡ (dealer (fresh_from lock.start i (lock.count - i)) (Some (terms_of lock)), []) → m ≡ (dealer (fresh lock.start i ∷ fresh_from lock.start (i + 1) (lock.count - (i + 1))) (Some (terms_of lock)), [])
-  next_first less is = is ∙ ap (λ ks. (dealer ks (Some (terms_of lock)), [])) (fresh_step lock.start i lock.count less)
+  pub next_first : i < lock.count → m ≡ (dealer (fresh_from log lock.start i (lock.count - i)) (Some (terms_of lock)), []) → m ≡ (dealer (fresh log lock.start i ∷ fresh_from log lock.start (i + 1) (lock.count - (i + 1))) (Some (terms_of lock)), [])
+  next_first less is = is ∙ ap (λ ks. (dealer ks (Some (terms_of lock)), [])) (fresh_step log lock.start i lock.count less)
 
 module _ {E F : Type 0} where
   pub known_off : (old new : List (Held E F)) (x : Held E F) (ks : List (Known E)) → old ≡ new ++ x ∷ [] → map known_in new ++ (known_in x ∷ ks) ≡ map known_in old ++ ks
@@ -91,30 +90,30 @@ module _ {O E F : Type 0} (log : O → List E) (by : E → ℕ) (mark : O → �
     Fits core ticket serving queue owner = ViewFits log by mark core ticket serving queue owner terms
 
     -- the rule holds of a new table
-    pub opens : (core : O) → log core ≡ [] → fix core ≡ terms.fixed → terms.start ≤ 2 ^ 62 → Rule (opening (terms.start ∷ terms.start ∷ []) (Some core ∷ []) (opening_view terms))
-    opens core empty is low = record {
+    pub opens : (core : O) → All (λ e. by e < terms.count) (log core) → fix core ≡ terms.fixed → terms.start ≤ 2 ^ 62 → Rule (opening (terms.start ∷ terms.start ∷ []) (Some core ∷ []) (opening_view (log core) terms))
+    opens core bears is low = record {
       core = core;
       ticket = terms.start;
       serving = terms.start;
       queue = λ t. 0;
       owner = λ p. 0;
       words = refl;
-      waiting = (let no_tickets : total (ticket_count {O = O} {E = E} {F = F}) (opening_view terms ∷ []) ≡ 0 = refl in omega arith);
+      waiting = (let no_tickets : total (ticket_count {O = O} {E = E} {F = F}) (opening_view (log core) terms ∷ []) ≡ 0 = refl in omega arith);
       bound = low;
       slot = inl refl;
-      views = λ j v e. at_first (Fits core terms.start terms.start (λ t. 0) (λ p. 0)) (opening_view terms) j v record {
-        passes = λ m k h. let f = at_fresh terms.start 0 terms.count m k h in let less = f.1 in subst (PassFits by (log core) (mark core) terms.start terms.count (λ p. 0) 0) f.0
-            record { below = omega arith; owned = refl; seen = (log core, refl); made = ap (own by (0 + m)) empty; mark = omega arith; drawn = le_refl terms.start };
-        apart = apart_fresh E terms.start 0 terms.count;
+      views = λ j v e. at_first (Fits core terms.start terms.start (λ t. 0) (λ p. 0)) (opening_view (log core) terms) j v record {
+        passes = λ m k h. let f = at_fresh (log core) terms.start 0 terms.count m k h in let less = f.1 in subst (PassFits by (log core) (mark core) terms.start terms.count (λ p. 0) 0) f.0
+            record { below = omega arith; owned = refl; seen = starts_here (log core); made = refl; mark = omega arith; drawn = le_refl terms.start };
+        apart = apart_fresh E (log core) terms.start 0 terms.count;
         told = (log core, refl);
         told_mark = omega arith;
         ticket_is = λ t e. absurd cc;
         taken_is = λ x e. absurd cc;
         terms_is = λ t e. cc;
       } e;
-      all = ap (λ z. z + 0) (length_fresh E terms.start 0 terms.count) ∙ omega arith;
-      drawn = (let h = turns_fresh E terms.start 0 terms.count in omega arith);
-      bears = subst (All (λ (e : E). by e < terms.count)) (sym empty) (All-nil (λ (e : E). by e < terms.count));
+      all = ap (λ z. z + 0) (length_fresh E (log core) terms.start 0 terms.count) ∙ omega arith;
+      drawn = (let h = turns_fresh E (log core) terms.start 0 terms.count in omega arith);
+      bears = bears;
       fixed = is;
     }
       where

@@ -3,4 +3,5 @@ pub mod Keeps
 pub mod Cuts
 pub mod Numbers
 pub mod Ends
+pub mod Opens
 pub mod Whole

@@ -40,13 +40,13 @@ mine by p = own by p.number p.seen
 abbrev pub IsSamePass : {E F : Type 0} → Held E F → Held E F → Type 0
 IsSamePass old new = (new.lock ≡ old.lock) × (new.number ≡ old.number)
 
--- n new passes, numbered from p on, which have seen and made nothing
-abbrev pub passes_from : {E F : Type 0} → Lock F → ℕ → ℕ → List (Held E F)
-passes_from l p zero = []
-passes_from l p (suc n) =
-    record { lock = Some l; number = p; seen = []; mark = 0; turns = 0; drawn = l.start }
-    ∷ passes_from l (suc p) n
+-- n new passes, numbered from p on, which have seen this log and drawn no turn
+abbrev pub passes_from : {E F : Type 0} → List E → Lock F → ℕ → ℕ → List (Held E F)
+passes_from log l p zero = []
+passes_from log l p (suc n) =
+    record { lock = Some l; number = p; seen = log; mark = 0; turns = 0; drawn = l.start }
+    ∷ passes_from log l (suc p) n
 
--- all passes of a new turnstile
-abbrev pub new_passes : {E F : Type 0} → Lock F → List (Held E F)
-new_passes l = passes_from l 0 l.count
+-- all passes of a new turnstile, whose object came with this log
+abbrev pub new_passes : {E F : Type 0} → List E → Lock F → List (Held E F)
+new_passes log l = passes_from log l 0 l.count

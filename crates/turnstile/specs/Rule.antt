@@ -99,19 +99,50 @@ pub record Turns {O E F : Type 0} (log : O → List E) (by : E → ℕ) (mark : 
   pub bears : All (λ e. by e < terms.count) (log core)
   pub fixed : fix core ≡ terms.fixed
 
--- a pass that knows nothing but where turns are counted from
-abbrev pub fresh : {E : Type 0} → ℕ → ℕ → Known E
-fresh start p = record { number = p; seen = []; mark = 0; turns = 0; drawn = start }
+-- a pass that knows nothing but the log of the object as it came, and where turns are counted from
+abbrev pub fresh : {E : Type 0} → List E → ℕ → ℕ → Known E
+fresh log start p = record { number = p; seen = log; mark = 0; turns = 0; drawn = start }
 
 -- the passes of n numbers from p on, which know no more
-abbrev pub fresh_from : {E : Type 0} → ℕ → ℕ → ℕ → List (Known E)
-fresh_from start p zero = []
-fresh_from start p (suc n) = fresh start p ∷ fresh_from start (suc p) n
+abbrev pub fresh_from : {E : Type 0} → List E → ℕ → ℕ → ℕ → List (Known E)
+fresh_from log start p zero = []
+fresh_from log start p (suc n) = fresh log start p ∷ fresh_from log start (suc p) n
 
 -- a seat with these passes, at rest
 abbrev pub dealer : {O E F : Type 0} → List (Known E) → Option (Terms F) → View O E F
 dealer ks t =
     record { passes = ks; told = []; told_mark = 0; ticket = None; taken = None; terms = t }
 
-abbrev pub opening_view : {O E F : Type 0} → Terms F → View O E F
-opening_view t = dealer (fresh_from t.start 0 t.count) (Some t)
+-- the seat that has brought an object with this log
+abbrev pub opening_view : {E O F : Type 0} → List E → Terms F → View O E F
+opening_view log t = dealer (fresh_from log t.start 0 t.count) (Some t)
+
+-- The seat that brings the object has no pass and a ticket: 0 while the empty slot is at home, and 1
+-- once it has taken the slot. No other seat has a ticket and no pass.
+abbrev pub bringer : {O E F : Type 0} → ℕ → Terms F → View O E F
+bringer n t =
+    record {
+      passes = [];
+      told = [];
+      told_mark = 0;
+      ticket = Some n;
+      taken = None;
+      terms = Some t;
+    }
+
+-- what the first seat is told
+abbrev pub first_view : {O E F : Type 0} → Terms F → View O E F
+first_view t = bringer 0 t
+
+-- The rule: the object has not come yet, and there is one seat; or turns are made.
+pub data Holds {O E F : Type 0} (log : O → List E) (by : E → ℕ) (mark : O → ℕ) (fix : O → F)
+    (terms : Terms F) (s : State (Option O) (View O E F)) : Type 0 where
+  awaits : s.words ≡ terms.start ∷ terms.start ∷ []
+      → s.homes ≡ some None ∷ []
+      → s.views ≡ bringer 0 terms ∷ []
+      → Holds log by mark fix terms s
+  comes : s.words ≡ terms.start ∷ terms.start ∷ []
+      → s.homes ≡ none ∷ []
+      → s.views ≡ bringer 1 terms ∷ []
+      → Holds log by mark fix terms s
+  turns : Turns log by mark fix terms s → Holds log by mark fix terms s

@@ -9,9 +9,9 @@ pub struct Law<O> {
 }
 
 impl<O: Object> TableRule<Option<O>, View<O, O::Entry, O::Fixed>, Terms<O::Fixed>> for Law<O> {
-    ghost use Rattle.turnstile.specs.Rule.{Turns, opening_view};
+    ghost use Rattle.turnstile.specs.Rule.{Holds, first_view};
 
-    ghost holds = { Turns O.log O.by O.mark O.fixed };
+    ghost holds = { Holds O.log O.by O.mark O.fixed };
 
-    ghost first = { opening_view };
+    ghost first = { first_view };
 }

@@ -9,6 +9,9 @@
 //! entries of what it has seen that bear its number. A [`Note`] stands for what a pass had seen
 //! when it gave the note.
 //!
+//! The object may come with a log. Then each pass has seen it from the start, and its entries are
+//! counted to the passes whose numbers they bear.
+//!
 //! **The one contract.** A [`turn`](Turnstile::turn) finds the object no older than all that its
 //! pass had seen and lets it act once, and the pass has then seen it as the turn left it. A
 //! [`note`](Turnstile::note) carries what one pass has seen to another, which
@@ -30,7 +33,9 @@
 //! ```
 //!
 //! **How it works.** There are two words and one slot. The ticket word counts the turns drawn, the
-//! served word says which turn is served, and the slot has the object. A turn raises the ticket
+//! served word says which turn is served, and the slot has the object. The slot is empty at first:
+//! who builds the turnstile puts the object there, before the passes are dealt, and they have seen
+//! its log as it was put. A turn raises the ticket
 //! word by one, and what it found there is its ticket. It reads the served word until that is its
 //! ticket. A thread at most two turns away spins for some microseconds, about as long as a wake
 //! takes, before it sleeps; any other sleeps at once. Each sleeps on its own bell. Bells carry no

@@ -4,7 +4,7 @@ ghost use Rattle.turnstile.specs.Logs.{Grown, StartsWith};
 ghost use Rattle.turnstile.specs.Passes.{IsSamePass, mine, passes_from, new_passes};
 ghost use Rattle.turnstile.specs.Turned.{Turned};
 ghost use Rattle.turnstile.specs.Closed.{AreAll, Closed};
-ghost use Rattle.turnstile.specs.Rule.{dealer, fresh, fresh_from};
+ghost use Rattle.turnstile.specs.Rule.{dealer, fresh, fresh_from, first_view, opening_view};
 ghost use Rattle.turnstile.specs.Steps.{with_ticket, with_core, with_count, view_after, IsFresh};
 ghost use Rattle.turnstile.specs.Places.{terms_of, known_of, known_in, IsAtRest};
 
@@ -12,7 +12,7 @@ use crate::bells::{Bells, Waiter};
 use crate::law::Law;
 use crate::object::Object;
 use crate::pass::{Note, Pass, Place};
-use crate::plays::{Count, Deal, Draw, End, Gather, Hear, Learn, Take, Tell};
+use crate::plays::{Begin, Count, Deal, Draw, End, Gather, Hear, Learn, Open, Take, Tell};
 use crate::view::{Terms, View};
 use atomic_table::Table;
 use base_core::NoMemory;
@@ -56,20 +56,21 @@ impl<O: Object> Model for Turnstile<O> {
 }
 
 impl<O: Object> Turnstile<O> {
-    /// A turnstile with `count` passes, from 1 to 64, whose turns are counted from 0. The object has an
-    /// empty log, and 0 as its mark. The passes are numbered from 0 and have seen nothing. `NoMemory`
-    /// where a request for memory was refused; the object is then dropped.
+    /// A turnstile with `count` passes, from 1 to 64, whose turns are counted from 0. Each entry of the
+    /// object's log bears the number of a pass, and its mark is 0. The passes are numbered from 0, have
+    /// seen that log, and have drawn no turn. `NoMemory` where a request for memory was refused; the
+    /// object is then dropped.
     pub fn build(
         alloc: Global,
         object: O,
         count: usize,
     ) -> Result<(Turnstile<O>, Vec<Pass<O>>), NoMemory>
-        requires empty { O.log object ≡ [] }
+        requires bears { All (λ e. O.by e < count) (O.log object) }
         requires unmarked { O.mark object ≡ 0 }
         requires counts { (0 < count) × (count ≤ 64) }
         ensures turnstile { IfOk result
             (λ b. (b.0.count ≡ count) × (b.0.start ≡ 0) × (b.0.fixed ≡ O.fixed object)) }
-        ensures passes { IfOk result (λ b. b.1.items ≡ new_passes b.0) }
+        ensures passes { IfOk result (λ b. b.1.items ≡ new_passes (O.log object) b.0) }
     {
         Turnstile::build_at(alloc, object, count, 0)
     }
@@ -81,13 +82,13 @@ impl<O: Object> Turnstile<O> {
         count: usize,
         start: u64,
     ) -> Result<(Turnstile<O>, Vec<Pass<O>>), NoMemory>
-        requires empty { O.log object ≡ [] }
+        requires bears { All (λ e. O.by e < count) (O.log object) }
         requires unmarked { O.mark object ≡ 0 }
         requires counts { (0 < count) × (count ≤ 64) }
         requires start { start ≤ 2 ^ 62 }
         ensures turnstile { IfOk result
             (λ b. (b.0.count ≡ count) × (b.0.start ≡ start) × (b.0.fixed ≡ O.fixed object)) }
-        ensures passes { IfOk result (λ b. b.1.items ≡ new_passes b.0) }
+        ensures passes { IfOk result (λ b. b.1.items ≡ new_passes (O.log object) b.0) }
     {
         let terms = Terms {
             count: count as u64,
@@ -96,8 +97,8 @@ impl<O: Object> Turnstile<O> {
         };
         let bells = Bells::new(alloc)?;
         let mut slots = Vec::new(alloc);
-        slots.push(Some(object))?;
-        let Ok((table, seat)) = Table::new(alloc, &[start, start], slots, &terms) else {
+        slots.push(None)?;
+        let Ok((table, mut seat)) = Table::new(alloc, &[start, start], slots, &terms) else {
             return Err(NoMemory);
         };
         let turnstile = Turnstile {
@@ -105,15 +106,44 @@ impl<O: Object> Turnstile<O> {
             bells,
             count,
         };
+        turnstile.bring(&mut seat, object);
         let passes = turnstile.deal_all(alloc, seat)?;
         Ok((turnstile, passes))
     }
 
+    // Puts the object into the slot. The passes, which this seat has, have then seen its log.
+    fn bring(&self, seat: &mut Place<O>, object: O)
+        requires own { seat.old.table_id ≡ self.now.identity }
+        requires first { seat.old.me ≡ (first_view (terms_of self.now), []) }
+        requires bears { All (λ e. O.by e < self.now.count) (O.log object) }
+        requires fixed { O.fixed object ≡ self.now.fixed }
+        requires start { self.now.start ≤ 2 ^ 62 }
+        ensures own { seat.new.table_id ≡ seat.old.table_id }
+        ensures all { seat.new.me ≡ (opening_view (O.log object) (terms_of self.now), []) }
+    {
+        self.table.shared.load::<Open>(seat, TICKET);
+        match self.table.shared.exchange(seat, 0, Some(object)) {
+            None => {}
+            Some(_) => unreachable!(),
+        }
+        self.table.shared.load::<Begin>(seat, TICKET);
+    }
+
     fn deal_all(&self, alloc: Global, mut seat: Place<O>) -> Result<Vec<Pass<O>>, NoMemory>
         requires own { seat.table_id ≡ self.now.identity }
-        requires all { seat.me
-            ≡ (dealer (fresh_from self.now.start 0 self.now.count) (Some (terms_of self.now)), []) }
-        ensures { IfOk result (λ v. v.items ≡ new_passes self.now) }
+        requires all { (seen : _)
+            × (seat.me
+            ≡ (
+              dealer (fresh_from seen self.now.start 0 self.now.count) (Some (terms_of self.now)),
+              [],
+            )) }
+        ensures { IfOk result (λ v. (seen : _)
+            → seat.me
+            ≡ (
+              dealer (fresh_from seen self.now.start 0 self.now.count) (Some (terms_of self.now)),
+              [],
+            )
+            → v.items ≡ new_passes seen self.now) }
     {
         let mut passes = Vec::new(alloc);
         for number in 0..self.count {
@@ -126,36 +156,38 @@ impl<O: Object> Turnstile<O> {
     fn deal(&self, seat: &mut Place<O>, number: u64) -> Pass<O>
         requires own { seat.old.table_id ≡ self.now.identity }
         requires below { number < self.now.count }
-        requires first { (n : _)
+        requires first { (seen : _)
+            × (n : _)
             × (seat.old.me
             ≡ (
-              dealer (fresh self.now.start number
-                  ∷ fresh_from self.now.start (number + 1) n) (Some (terms_of self.now)),
+              dealer (fresh seen self.now.start number
+                  ∷ fresh_from seen self.now.start (number + 1) n) (Some (terms_of self.now)),
               [],
             )) }
         ensures own { seat.new.table_id ≡ seat.old.table_id }
-        ensures rest { (n : _)
+        ensures dealt { (seen : _)
+            → (n : _)
             → seat.old.me
             ≡ (
-              dealer (fresh self.now.start number
-                  ∷ fresh_from self.now.start (number + 1) n) (Some (terms_of self.now)),
+              dealer (fresh seen self.now.start number
+                  ∷ fresh_from seen self.now.start (number + 1) n) (Some (terms_of self.now)),
               [],
             )
-            → seat.new.me
+            → (seat.new.me
             ≡ (
-              dealer (fresh_from self.now.start (number + 1) n)
+              dealer (fresh_from seen self.now.start (number + 1) n)
                   (Some (terms_of self.now)),
               [],
-            ) }
-        ensures pass { result
+            ))
+            × (result
             ≡ record {
               lock = Some self.now;
               number = number;
-              seen = [];
+              seen = seen;
               mark = 0;
               turns = 0;
               drawn = self.now.start;
-            } }
+            }) }
     {
         let seat = self.table.shared.split_seat::<Deal>(seat);
         Pass { number, seat }

@@ -3,7 +3,7 @@ ghost use Rattle.std.specs.Prelude.{◌≡◌, ◌≤◌, IfOk, length};
 ghost use Rattle.std.specs.List.{list_all, prefix_len};
 ghost use Rattle.base_core.specs.Words.{is_word_byte};
 ghost use Rattle.lexer_core.specs.Lexing.{is_blank};
-ghost use Rattle.script_core.specs.Script.{addressed, addressed_by};
+ghost use Rattle.script_core.specs.Script.{addressed, addressed_by, addressed_up_to};
 
 use base_core::{User, Word};
 use lexer_core::{Code, MAX_LINE, MAX_NAME, byte_at, is_blank, word_len};
@@ -36,18 +36,26 @@ fn addressed_by(line: &[u8], n: usize) -> Result<(User, usize), (Code, usize)>
     }
 }
 
-/// Who speaks, and the place in the line behind the colon. Otherwise the fault and its byte:
-/// `TooLong` at 4,096, `Empty` for a line of blanks, `LongName` for a first word of more than 30
-/// bytes, and `Expected` where no user and colon stand first, these three at 0.
-pub fn addressed(line: &[u8]) -> Result<(User, usize), (Code, usize)>
-    ensures exact { result ≡ addressed line.now }
+/// Who speaks, and the place behind the colon, in a line that may have so many bytes. Otherwise the
+/// fault and its byte: `TooLong` at that many, `Empty` for a line of blanks, `LongName` for a first
+/// word of more than 30 bytes, and `Expected` where no user and colon stand first, these three at 0.
+pub fn addressed_up_to(most: usize, line: &[u8]) -> Result<(User, usize), (Code, usize)>
+    ensures exact { result ≡ addressed_up_to most line.now }
     ensures within { IfOk result (λ found. (found.1 ≤ length line.now) × (found.1 ≤ 31)) }
 {
-    if line.len() > MAX_LINE {
-        return Err((Code::TooLong, MAX_LINE));
+    if line.len() > most {
+        return Err((Code::TooLong, most));
     }
     if is_blank_line(line) {
         return Err((Code::Empty, 0));
     }
     addressed_by(line, word_len(line))
+}
+
+/// The same of a script's line, which may have 4,096 bytes.
+pub fn addressed(line: &[u8]) -> Result<(User, usize), (Code, usize)>
+    ensures exact { result ≡ addressed line.now }
+    ensures within { IfOk result (λ found. (found.1 ≤ length line.now) × (found.1 ≤ 31)) }
+{
+    addressed_up_to(MAX_LINE, line)
 }

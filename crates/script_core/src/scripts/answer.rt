@@ -1,15 +1,19 @@
 //! What is said of a line, and what is written for it.
-ghost use Rattle.std.specs.Prelude.{◌≡◌, false, true, Ok, OnOk, OnErr, MatchResult};
+ghost use Rattle.std.specs.Prelude.{◌≡◌, ℕ, List, [], ◌∷◌, ◌++◌, false, true, Ok, OnOk, OnErr, MatchResult};
 ghost use Rattle.base_core.specs.Streams.{Writes, WritesFrontOf};
+ghost use Rattle.reader_core.specs.Language.{Spells};
 ghost use Rattle.monitor_core.specs.Verdict.{is_change};
 ghost use Rattle.system_core.specs.Journal.{verdict_at};
 ghost use Rattle.system_core.specs.Step.{change_reply};
-ghost use Rattle.script_core.specs.Script.{Answers, is_refused};
-ghost use Rattle.script_core.specs.Replying.{TellsAsked, TellsSaid, TellsThen};
+ghost use Rattle.system_core.specs.declared.machine.event.Entry.{Entry};
+ghost use Rattle.script_core.specs.Script.{is_refused};
+ghost use Rattle.script_core.specs.Replying.{TellsAsked, TellsSaid, TellsThen, TellsKept};
+ghost use Rattle.script_core.specs.Keeping.{with_keeper, AnswersKept};
 
 use crate::scripts::address::addressed;
 use base_core::{Broken, Moment, NoMemory, Sink};
 use export_core::NoGate;
+use journal_core::Keeper;
 use lexer_core::{Code, ReadFault, Token};
 use reader_core::read_with;
 use reply_core::{ReplyBuffer, write_done, write_fault, write_reply, write_unread};
@@ -169,35 +173,64 @@ fn tell_change<W: Sink>(
     tell_reply(buffer, system, writer, Reply::to_change(at, made))
 }
 
-/// Asks an allowed change, and tells what it came to.
-fn ask_change<W: Sink>(
+/// Keeps the last entry of the journal.
+// Where the keeper keeps nothing, nothing is left of it.
+#[inline(always)]
+fn keep_last<K: Keeper>(system: &System, keeper: &mut K) -> Result<(), Broken>
+    requires works { K.failed keeper.old ≡ false }
+    requires last { (front : List Entry) × (last : Entry) × (line : List ℕ)
+        × (system.now.journal ≡ front ++ last ∷ []) × Spells line last.statement }
+    ensures failed { MatchResult result (λ _. K.failed keeper.new ≡ false)
+        (λ _. K.failed keeper.new ≡ true) }
+    ensures ok { OnOk result ((front : List Entry) (last : Entry)
+        → system.now.journal ≡ front ++ last ∷ [] → K.keeps keeper.old last keeper.new) }
+    ensures err { OnErr result ((front : List Entry) (last : Entry)
+        → system.now.journal ≡ front ++ last ∷ [] → K.fails keeper.old last keeper.new) }
+{
+    let Some(entry) = system.journal().last() else {
+        unreachable!()
+    };
+    keeper.keep(entry)
+}
+
+/// Asks an allowed change, keeps it, and then tells what it came to. Of one that could not be kept
+/// nothing is told, and no step of the checkpointer follows.
+fn ask_change<W: Sink, K: Keeper>(
     buffer: &mut ReplyBuffer,
     system: &mut System,
     writer: &mut W,
+    keeper: &mut K,
     entry: Entry,
 ) -> Result<(), Broken>
     requires writes { W.failed writer.old ≡ false }
+    requires works { K.failed keeper.old ≡ false }
+    requires spelled { (line : List ℕ) × Spells line entry.statement }
     requires allowed { let now = system.old in
         verdict_at now.limits now.journal entry.user entry.statement ≡ Ok tt }
     requires change { is_change entry.statement ≡ true }
     ensures failed { MatchResult result (λ _. W.failed writer.new ≡ false)
         (λ _. W.failed writer.new ≡ true) }
-    ensures ok { OnOk result
-        (Writes (TellsAsked entry system.old system.new)
+    ensures ok { OnOk result (Writes
+        (TellsKept K.keeps K.fails K.failed entry
+        (with_keeper system.old keeper.old) (with_keeper system.new keeper.new))
         (W.taken writer.old) (W.taken writer.new)) }
-    ensures err { OnErr result
-        (WritesFrontOf (TellsAsked entry system.old system.new)
+    ensures err { OnErr result (WritesFrontOf
+        (TellsKept K.keeps K.fails K.failed entry
+        (with_keeper system.old keeper.old) (with_keeper system.new keeper.new))
         (W.taken writer.old) (W.taken writer.new)) }
 {
     let at = system.moment();
-    let made = system.change(entry);
+    let made = match system.change(entry) {
+        Ok(made) => made,
+        Err(NoMemory) => return tell_change(buffer, system, writer, at, Err(NoMemory)),
+    };
+    if let Err(Broken) = keep_last(system, keeper) {
+        return Ok(());
+    }
     if !system.is_idle() {
-        return tell_change(buffer, system, writer, at, made);
+        return tell_change(buffer, system, writer, at, Ok(made));
     }
-    match made {
-        Ok(made) => write_done(buffer, made, writer),
-        Err(NoMemory) => tell_change(buffer, system, writer, at, Err(NoMemory)),
-    }
+    write_done(buffer, made, writer)
 }
 
 /// Asks any statement, and tells the reply.
@@ -231,46 +264,56 @@ fn ask_any<W: Sink>(
     tell_reply(buffer, system, writer, reply)
 }
 
-/// Asks what a user says, lets the checkpointer do a step, and writes what is said.
-fn ask<W: Sink>(
+/// Asks what a user says, keeps a change, lets the checkpointer do a step, and writes what is said.
+fn ask<W: Sink, K: Keeper>(
     buffer: &mut ReplyBuffer,
     system: &mut System,
     writer: &mut W,
+    keeper: &mut K,
     entry: Entry,
 ) -> Result<(), Broken>
-    requires { W.failed writer.old ≡ false }
+    requires writes { W.failed writer.old ≡ false }
+    requires works { K.failed keeper.old ≡ false }
+    requires spelled { (line : List ℕ) × Spells line entry.statement }
     ensures failed { MatchResult result (λ _. W.failed writer.new ≡ false)
         (λ _. W.failed writer.new ≡ true) }
-    ensures ok { OnOk result
-        (Writes (TellsAsked entry system.old system.new)
+    ensures ok { OnOk result (Writes
+        (TellsKept K.keeps K.fails K.failed entry
+        (with_keeper system.old keeper.old) (with_keeper system.new keeper.new))
         (W.taken writer.old) (W.taken writer.new)) }
-    ensures err { OnErr result
-        (WritesFrontOf (TellsAsked entry system.old system.new)
+    ensures err { OnErr result (WritesFrontOf
+        (TellsKept K.keeps K.fails K.failed entry
+        (with_keeper system.old keeper.old) (with_keeper system.new keeper.new))
         (W.taken writer.old) (W.taken writer.new)) }
 {
     if system.may_change(&entry) {
-        return ask_change(buffer, system, writer, entry);
+        return ask_change(buffer, system, writer, keeper, entry);
     }
     ask_any(buffer, system, writer, entry)
 }
 
-/// Reads a line, asks what it says, lets the checkpointer do a step, and writes what is said.
-pub fn answer<W: Sink>(
+/// Reads a line, asks what it says, keeps a change, lets the checkpointer do a step, and writes what
+/// is said. Where the change could not be kept the keeper has failed, and nothing is written.
+pub fn answer<W: Sink, K: Keeper>(
     alloc: Global,
     tokens: &mut Vec<Token>,
     buffer: &mut ReplyBuffer,
     system: &mut System,
     writer: &mut W,
+    keeper: &mut K,
     line: &[u8],
 ) -> Result<(), Broken>
-    requires { W.failed writer.old ≡ false }
+    requires writes { W.failed writer.old ≡ false }
+    requires works { K.failed keeper.old ≡ false }
     ensures failed { MatchResult result (λ _. W.failed writer.new ≡ false)
         (λ _. W.failed writer.new ≡ true) }
-    ensures ok { OnOk result
-        (Writes (λ text. Answers system.old line.now text system.new)
+    ensures ok { OnOk result (Writes
+        (λ text. AnswersKept K.keeps K.fails K.failed
+        (with_keeper system.old keeper.old) line.now text (with_keeper system.new keeper.new))
         (W.taken writer.old) (W.taken writer.new)) }
-    ensures err { OnErr result
-        (WritesFrontOf (λ text. Answers system.old line.now text system.new)
+    ensures err { OnErr result (WritesFrontOf
+        (λ text. AnswersKept K.keeps K.fails K.failed
+        (with_keeper system.old keeper.old) line.now text (with_keeper system.new keeper.new))
         (W.taken writer.old) (W.taken writer.new)) }
 {
     let (user, start) = match addressed(line) {
@@ -286,7 +329,7 @@ pub fn answer<W: Sink>(
                 user,
                 statement,
             };
-            ask(buffer, system, writer, entry)
+            ask(buffer, system, writer, keeper, entry)
         }
         Err(ReadFault::At { code, offset }) => {
             let offset = start + offset;

@@ -1,101 +1,155 @@
 //! A core that answers the lines of a script.
 ghost use Rattle.std.specs.Prelude.{◌≡◌, ◌<◌, ◌≤◌, ◌↔◌, false, true, IsErrOf, OnOk, OnErr, MatchResult};
-ghost use Rattle.base_core.specs.Streams.{Writes, WritesFrontOf};
-ghost use Rattle.script_core.specs.Script.{Answers, EndsScript};
+ghost use Rattle.script_core.specs.Keeping.{EndsKeptFrom, EndsKept};
 
 use crate::scripts::answer::answer;
+use crate::scripts::fault::ScriptFault;
 use base_core::{Broken, Limits, Sink, Source};
+use journal_core::Keeper;
 use lexer_core::Token;
 use lines_core::{LineServer, SessionFault, serve};
 use reply_core::ReplyBuffer;
 use std::alloc::Global;
-use std::marker::Model;
 use system_core::System;
 
-/// A core that answers the lines of a script. Contracts see the world that the core stands for.
+/// A core that answers the lines of a script, and the keeper of its changes. It is over once a
+/// change could not be kept.
 #[derive(Drop)]
-pub struct ScriptServer {
+struct ScriptServer<'a, K> {
     alloc: Global,
-    tokens: Vec<Token>,
-    buffer: ReplyBuffer,
-    system: System,
+    tokens: &'a mut Vec<Token>,
+    buffer: &'a mut ReplyBuffer,
+    system: &'a mut System,
+    keeper: &'a mut K,
 }
 
-impl Model for ScriptServer {
-    ghost use Rattle.system_core.specs.World.{World};
+impl<'a, K: Keeper> LineServer for ScriptServer<'a, K> {
+    ghost use Rattle.std.specs.Prelude.{◌≡◌};
+    ghost use Rattle.script_core.specs.Keeping.{with_keeper, AnswersKept, AnswersKept-too_long};
 
-    ghost Value = { World };
+    ghost answers = { λ old line text new.
+        AnswersKept K.keeps K.fails K.failed (with_keeper old.system.now old.keeper.now) line text
+        (with_keeper new.system.now new.keeper.now)
+        × (new.system.ghost_name ≡ old.system.ghost_name)
+        × (new.keeper.ghost_name ≡ old.keeper.ghost_name) };
 
-    ghost view = { λ s. s.system };
-}
-
-impl LineServer for ScriptServer {
-    ghost use Rattle.script_core.specs.Script.{Answers, never, Answers-too_long};
-
-    ghost answers = { Answers };
-
-    ghost over = { never };
+    ghost over = { λ s. K.failed s.keeper.now };
 
     fn is_over(&self) -> bool {
-        false
+        self.keeper.has_failed()
     }
 
     fn answer<W: Sink>(&mut self, writer: &mut W, line: &[u8]) -> Result<(), Broken> {
+        if self.keeper.has_failed() {
+            return Ok(());
+        }
         answer(
             self.alloc,
-            &mut self.tokens,
-            &mut self.buffer,
-            &mut self.system,
+            self.tokens,
+            self.buffer,
+            self.system,
             writer,
+            self.keeper,
             line,
         )
     }
 
-    ghost too_long = { Answers-too_long };
+    ghost too_long = { λ old new line other text h k a.
+        (AnswersKept-too_long K.keeps K.fails K.failed _ _ line other text h k a.0, a.1, a.2) };
 }
 
-/// Answers the lines that the reader gives, one by one, until its end, and gives the core.
+/// Answers the lines that the reader gives, one by one, until its end, from this core on, and gives
+/// the core.
 ///
 /// A line is `user: statement`, and after each the checkpointer does one step, of as many records
-/// as the chunk says, from 1 to 64. What was answered to the lines read is handed on before more is
-/// read, and at the end. `Read` and `Write` are answered exactly where the reader or the writer has
+/// as the core's chunk says. What was answered to the lines read is handed on before more is read,
+/// and at the end. Each change is kept before its reply is written; where it could not be kept, its
+/// reply is withheld, no later line is answered, and `Journal` is answered, exactly where the keeper
+/// has failed. Else `Read` and `Write` are answered exactly where the reader or the writer has
 /// failed, `Bound` where 2^32 bytes were read and the end had not come, and `NoMemory` before the
-/// first read.
-pub fn script<S: Source, W: Sink>(
+/// first read. On a fault the core is let go.
+pub fn script_from<S: Source, W: Sink, K: Keeper>(
     alloc: Global,
     reader: &mut S,
     writer: &mut W,
+    keeper: &mut K,
+    mut system: System,
+) -> Result<System, ScriptFault>
+    requires source { S.failed reader.old ≡ false }
+    requires sink { W.failed writer.old ≡ false }
+    requires works { K.failed keeper.old ≡ false }
+    ensures read { IsErrOf result (ScriptFault.Session SessionFault.Read)
+        ↔ (S.failed reader.new ≡ true) }
+    ensures write { IsErrOf result (ScriptFault.Session SessionFault.Write)
+        ↔ ((W.failed writer.new ≡ true) × (K.failed keeper.new ≡ false)) }
+    ensures journal { IsErrOf result ScriptFault.Journal ↔ (K.failed keeper.new ≡ true) }
+    ensures flushed { W.flushed writer.old ≡ true → W.failed writer.new ≡ false
+        → W.flushed writer.new ≡ true }
+    ensures ends { EndsKeptFrom K.keeps K.fails K.failed system result keeper.old keeper.new
+        (S.left reader.old) (S.left reader.new) (W.taken writer.old) (W.taken writer.new) }
+{
+    let Ok(mut buffer) = ReplyBuffer::new(alloc) else {
+        system.free();
+        return Err(ScriptFault::Session(SessionFault::NoMemory));
+    };
+    let mut tokens = Vec::new(alloc);
+    let mut server = ScriptServer {
+        alloc,
+        tokens: &mut tokens,
+        buffer: &mut buffer,
+        system: &mut system,
+        keeper,
+    };
+    let served = serve(alloc, &mut server, reader, writer);
+    let failed = server.keeper.has_failed();
+    if failed {
+        system.free();
+        return Err(ScriptFault::Journal);
+    }
+    match served {
+        Ok(()) => Ok(system),
+        Err(fault) => {
+            system.free();
+            Err(ScriptFault::Session(fault))
+        }
+    }
+}
+
+/// Answers the lines that the reader gives, one by one, until its end, from an empty core on, and
+/// gives the core.
+///
+/// A line is `user: statement`, and after each the checkpointer does one step, of as many records
+/// as the chunk says, from 1 to 64. What was answered to the lines read is handed on before more is
+/// read, and at the end. Each change is kept before its reply is written; where it could not be
+/// kept, its reply is withheld, no later line is answered, and `Journal` is answered, exactly where
+/// the keeper has failed. Else `Read` and `Write` are answered exactly where the reader or the
+/// writer has failed, `Bound` where 2^32 bytes were read and the end had not come, and `NoMemory`
+/// before the first read.
+pub fn script<S: Source, W: Sink, K: Keeper>(
+    alloc: Global,
+    reader: &mut S,
+    writer: &mut W,
+    keeper: &mut K,
     chunk: usize,
-) -> Result<System, SessionFault>
+) -> Result<System, ScriptFault>
     requires some { 0 < chunk }
     requires small { chunk ≤ 64 }
     requires source { S.failed reader.old ≡ false }
     requires sink { W.failed writer.old ≡ false }
-    ensures read { IsErrOf result SessionFault.Read ↔ (S.failed reader.new ≡ true) }
-    ensures write { IsErrOf result SessionFault.Write ↔ (W.failed writer.new ≡ true) }
+    requires works { K.failed keeper.old ≡ false }
+    ensures read { IsErrOf result (ScriptFault.Session SessionFault.Read)
+        ↔ (S.failed reader.new ≡ true) }
+    ensures write { IsErrOf result (ScriptFault.Session SessionFault.Write)
+        ↔ ((W.failed writer.new ≡ true) × (K.failed keeper.new ≡ false)) }
+    ensures journal { IsErrOf result ScriptFault.Journal ↔ (K.failed keeper.new ≡ true) }
     ensures flushed { W.flushed writer.old ≡ true → W.failed writer.new ≡ false
         → W.flushed writer.new ≡ true }
-    ensures ends { EndsScript chunk result
+    ensures ends { EndsKept K.keeps K.fails K.failed chunk result keeper.old keeper.new
         (S.left reader.old) (S.left reader.new) (W.taken writer.old) (W.taken writer.new) }
 {
     let limits = Limits::full();
-    let Ok(buffer) = ReplyBuffer::new(alloc) else {
-        return Err(SessionFault::NoMemory);
-    };
     let Ok(system) = System::with_limits(alloc, chunk, limits) else {
-        return Err(SessionFault::NoMemory);
+        return Err(ScriptFault::Session(SessionFault::NoMemory));
     };
-    let mut server = ScriptServer {
-        alloc,
-        tokens: Vec::new(alloc),
-        buffer,
-        system,
-    };
-    match serve(alloc, &mut server, reader, writer) {
-        Ok(()) => Ok(server.system),
-        Err(fault) => {
-            server.system.free();
-            Err(fault)
-        }
-    }
+    script_from(alloc, reader, writer, keeper, system)
 }

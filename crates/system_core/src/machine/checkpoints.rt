@@ -73,18 +73,11 @@ pub fn listed(
     Ok(Sequence::from_vec(entries))
 }
 
-fn any_held(image: &Image, user: &User, table: Name, columns: &[Column]) -> bool
-    ensures { result
-        ≡ list_any (λ c. held_then image.now user.now table c.name) columns.now }
-{
-    columns.iter().any(|column| image.holds(*user, &ByColumn::Select.of_column(table, column.name)))
-}
-
 // Whether the user held SELECT of one of the columns at the image's point.
 fn held_any(image: &Image, user: &User, table: Name, columns: &[Column]) -> bool
     ensures { result ≡ is_any (held image.now user.now table columns.now) }
 {
-    any_held(image, user, table, columns)
+    image.holds_one(*user, table, columns)
 }
 
 fn any_listed<A: Authority>(
@@ -96,13 +89,13 @@ fn any_listed<A: Authority>(
 ) -> bool
     ensures { result
         ≡ list_any
-        (λ c. held_then image.now user.now table c.name
-        && holds_now (A.content rights.now) user.now table c.name)
+        (λ c. holds_now (A.content rights.now) user.now table c.name
+        && held_then image.now user.now table c.name)
         columns.now }
 {
     columns.iter().any(|column| {
         let atom = ByColumn::Select.of_column(table, column.name);
-        image.holds(*user, &atom) && rights.holds(*user, &atom)
+        rights.holds(*user, &atom) && image.holds(*user, &atom)
     })
 }
 

@@ -5,7 +5,7 @@ ghost use Rattle.grants_core.specs.History.{in_force_after};
 ghost use Rattle.monitor_core.specs.Verdict.{first_lack, is_change};
 ghost use Rattle.tables_core.specs.Contents.{table_of};
 ghost use Rattle.reader_core.specs.declared.statement.Statement.TheVariants as statements;
-ghost use Rattle.system_core.specs.Journal.{verdict_at, contents, changes};
+ghost use Rattle.system_core.specs.Journal.{verdict_at, contents, changes, rights_at};
 ghost use Rattle.system_core.specs.World.{opening, entry, moment_of, IsLawfulWorld};
 ghost use Rattle.system_core.specs.Judging.{checkpoint_checks, verdict_of};
 ghost use Rattle.system_core.specs.Step.{change_reply, lack_reply, CarriesOut, Responds, Advances, GivesUp, Step, Run, IsRunOfSome};
@@ -18,12 +18,13 @@ use base_core::{Condition, Distinct, Lack, Limits, Moment, Name, NoMemory, Seque
 use capture_core::{Capture, Progress};
 use catalogue_core::Catalogue;
 use export_core::Ticket;
-use grants_core::Change;
+use grants_core::{Authority, Change, Grant};
 use monitor_core::is_change;
 use reader_core::{MAX_ITEMS, Statement};
 use std::alloc::{AllocError, Global};
 use std::marker::Model;
 use std::mem;
+use tables_core::Tables;
 
 /// The core. Contracts see the world that it stands for: the journal of accepted changes, the
 /// checkpoints, the chunk, and the limits.
@@ -109,6 +110,21 @@ impl System {
         ensures lawful { IsLawfulWorld self.now }
     {
         self.ledger.journal()
+    }
+
+    /// The tables that the journal makes, with their rows.
+    pub fn tables(&self) -> &Tables
+        ensures { result.now.tables ≡ contents self.now.journal }
+    {
+        self.ledger.tables()
+    }
+
+    /// The grants in force, in the order in which they were made. `NoMemory` where a request for
+    /// memory was refused.
+    pub fn in_force(&self) -> Result<Vec<Grant>, NoMemory>
+        ensures { IfOk result (λ found. found.items ≡ (rights_at self.now.journal).in_force) }
+    {
+        self.ledger.rights().in_force()
     }
 
     /// The accepted changes, each as what it changes of rights: the privileges of GRANT, and of

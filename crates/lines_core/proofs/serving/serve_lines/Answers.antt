@@ -1,11 +1,12 @@
-use Rattle.std.proofs.Common.{◌≡◌, ◌-◌, ◌^◌, List, ℕ, [], take, length, arith, subst, sym, ◌∙◌, ⊎_elim, inl, inr}
+use Rattle.std.proofs.Common.{◌≡◌, ◌-◌, ◌^◌, List, ℕ, [], take, length, arith, subst, sym, ◌∙◌, ⊎_elim, Ok}
 use Rattle.std.specs.Str.Lines.{lines}
 use Rattle.std.specs.Io.KnownBytes.{Consumes}
 use Rattle.std.proofs.KnownBytes.{Keeps-refl}
 use Rattle.std.proofs.lemmas.List.{length-take-le}
 use Rattle.std.proofs.lemmas.Bool.{cases_lt}
-use Rattle.lines_core.specs.Serving.{AnswersInput, WasOpen, HasServed}
+use Rattle.lines_core.specs.Serving.{AnswersInput, WasOpen, HasServed, EndsTold}
 use Rattle.lines_core.proofs.ServeLemmas.{Serving-none, Serving-more, Run-whole, Run-last, Run-nothing, Open-last, Open-nothing, BrokenRun-last, BrokenRun-piece}
+use Rattle.lines_core.proofs.Told.{told_at}
 use Rattle.lines_core.proofs.serving.serve_lines.Goals as goal
 
 pub returns-in_default-clause-ends : goal.returns-in_default-clause-ends
@@ -50,7 +51,8 @@ returns-in-Ok-finish-clause-ends g c =
     let kept = c.in-Ok-finish.ensures.empty none in
     Run-nothing R law line start old new c.loop-unread.unread left0 left1 left2 taken0 taken1 taken2 s read none kept.0.0 kept.0.1)
     (cases_lt 0 (length line)) in
-    (s.bytes, inl (run, c.in-Ok.ensures.end c.if-n-eq0.true, was_open))
+    subst (λ ending. EndsTold R over (Ok ending) start new left0 left2 taken0 taken2) (sym c.ending_at-ending.ensures)
+    (told_at R over line start old new c.loop-unread.unread left0 left1 left2 taken0 taken1 taken2 s run (c.in-Ok.ensures.end c.if-n-eq0.true) was_open)
 
 pub returns-in-Err-clause-ends : goal.returns-in-Err-clause-ends
 returns-in-Err-clause-ends g c =
@@ -125,4 +127,4 @@ returns-then-is_over-clause-ends g c =
     (Serving-more g.D.LineServer.answers g.met.D.LineServer.too_long c.loop-unread.line c.feed.new.line c.args.server.now c.loop-unread.server c.feed.new.server piece c.loop-unread.unread
     left0 (g.S.Source.left c.loop-unread.reader) left2 taken0 (g.W.Sink.taken c.loop-unread.writer) taken2
     c.loop-unread.invariant.serving c.in-Ok.ensures.ok (omega (arith, c.in-Ok.ensures.count)) c.in-Ok-feed.ensures.ok) in
-    (s.bytes, inr (Run-whole g.D.LineServer.answers g.met.D.LineServer.too_long _ _ _ _ _ _ _ _ _ s (Keeps-refl _), sym c.is_over.ensures ∙ c.if-is_over.true))
+    (s.bytes, Run-whole g.D.LineServer.answers g.met.D.LineServer.too_long _ _ _ _ _ _ _ _ _ s (Keeps-refl _), sym c.is_over.ensures ∙ c.if-is_over.true)

@@ -2,4 +2,4 @@ use Rattle.printer_core.proofs.Writing.{then}
 use Rattle.printer_core.proofs.page.Page.delete.Goals as goal
 
 pub returns-clause-written : goal.returns-clause-written
-returns-clause-written c = then c.in_ok-keyword.ensures (then c.in_ok-keyword-2.ensures (then c.in_ok-name.ensures c.in_ok-filter.ensures.written))
+returns-clause-written c = then c.keyword.ensures (then c.keyword-2.ensures (then c.name.ensures c.filter.ensures.written))

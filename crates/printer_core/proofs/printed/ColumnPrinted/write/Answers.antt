@@ -2,4 +2,4 @@ use Rattle.printer_core.proofs.Writing.{then}
 use Rattle.printer_core.proofs.printed.ColumnPrinted.write.Goals as goal
 
 pub returns-clause-written : goal.returns-clause-written
-returns-clause-written c = then c.in_ok-name.ensures (rw c.type_keyword.ensures at c.in_ok-keyword.ensures)
+returns-clause-written c = then c.name.ensures (rw c.type_keyword.ensures at c.keyword.ensures)

@@ -5,4 +5,4 @@ use Rattle.system_core.proofs.Exported.{any_marked}
 use Rattle.system_core.proofs.machine.checkpoints.held_any.Goals as goal
 
 pub returns : goal.returns
-returns c = c.any_held.ensures ∙ sym (any_marked (λ (column : Column). held_then c.args.image.now c.args.user.now c.args.table column.name) c.args.columns.now)
+returns c = c.holds_one.ensures ∙ sym (any_marked (λ (column : Column). held_then c.args.image.now c.args.user.now c.args.table column.name) c.args.columns.now)

@@ -7,5 +7,5 @@ use Rattle.sysr.proofs.serving.fn.serve_all.scope.Given as goal
 -- the passes that are left are new, and each thread promised one of this desk
 abbrev pub invariant-loop-pass : goal.invariant-loop-pass
 invariant-loop-pass g l =
-    ((k : ℕ) (d : _) → k < into_iter_len l.pass-iterator → IsNew l.desk (get_or (into_iter_items l.pass-iterator) k d))
-    × All (λ w. w.promise.0.now ≡ l.desk) l.workers.items
+    ((k : ℕ) (d : _) → k < into_iter_len l.pass-iterator → IsNew l.begun.value.journal l.desk (get_or (into_iter_items l.pass-iterator) k d))
+    × All (λ w. (w.promise.0.now ≡ l.desk) × (w.promise.1.now ≡ l.begun)) l.workers.items

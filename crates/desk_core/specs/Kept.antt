@@ -1,0 +1,39 @@
+-- What becomes of the keeper of a desk's changes.
+-- Of a keeper, `keeps old e new`: from the state old the entry e may be kept, and new is the next;
+-- `fails old e new`: from old it could not be kept whole, and new is the next; `failed k`: an entry
+-- could not be kept.
+use Rattle.std.specs.Prelude.{◌≡◌, ℕ, Bool, true, false, List, [], ◌∷◌, drop}
+use Rattle.system_core.specs.declared.machine.event.Entry.{Entry}
+use Rattle.journal_core.specs.Keeping.{KeepsAll}
+
+module _ {K : Type 0} (keeps : K → Entry → K → Type 0) (failed : K → Bool) where
+  -- if the keeper has not failed, it has kept all entries of the journal but the first ones, one after
+  -- another, from some state on
+  abbrev pub HasKept : ℕ → List Entry → K → Type 0
+  HasKept front journal keeper =
+      failed keeper ≡ false → (start : K) × KeepsAll keeps start (drop front journal) keeper
+
+  -- the keeper has not failed, and has kept all entries of the journal but the first ones
+  pub record IsKept (front : ℕ) (journal : List Entry) : Type 0 where
+    pub start : K
+    pub keeper : K
+    pub works : failed keeper ≡ false
+    pub kept : KeepsAll keeps start (drop front journal) keeper
+
+module _ {K : Type 0} (keeps fails : K → Entry → K → Type 0) (failed : K → Bool) where
+  -- What becomes of a keeper as these entries, one at most, are entered, and whether the reply may be
+  -- told: they are kept; or the one cannot be kept; or the keeper has failed before and stays as it is.
+  pub data KeepsEntered (old : K) (entries : List Entry) : Bool → K → Type 0 where
+    kept : {new : K}
+        → failed old ≡ false
+        → failed new ≡ false
+        → KeepsAll keeps old entries new
+        → KeepsEntered old entries true new
+    lost : {new : K}
+        → failed old ≡ false
+        → failed new ≡ true
+        → (e : Entry)
+        → entries ≡ e ∷ []
+        → fails old e new
+        → KeepsEntered old entries false new
+    past : failed old ≡ true → KeepsEntered old entries false old

@@ -1,0 +1,25 @@
+mod WorkedExample
+pub mod Cuts
+pub mod Grouping
+pub mod InTurn
+pub mod Undated
+pub mod Facts
+pub mod Verdicts
+pub mod PlainTables
+pub mod Steps
+pub mod Dumping
+pub mod Counted
+pub mod Listing
+pub mod Ahead
+pub mod Lengthened
+pub mod Fitting
+pub mod Joining
+pub mod Following
+pub mod Together
+pub mod Supported
+pub mod Granted
+pub mod Dumped
+pub mod Formed
+pub mod OneDump
+pub mod WritingLemmas
+pub mod Loaded

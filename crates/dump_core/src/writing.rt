@@ -1,0 +1,263 @@
+//! The text of a dump, written statement by statement.
+ghost use Rattle.std.specs.Prelude.{◌≡◌, ◌<◌, ◌∷◌, ◌++◌, [], Some, true, false, length, map, slice_get, IfOk, OnOk, OnErr, MatchResult};
+ghost use Rattle.std.specs.List.{flat_map};
+ghost use Rattle.std.specs.Io.KnownBytes.{Appends};
+ghost use Rattle.base_core.specs.Streams.{WritesFront};
+ghost use Rattle.reader_core.specs.declared.statement.Statement.TheVariants as statements;
+ghost use Rattle.reader_core.specs.Forming.{AreNamed, IsShort};
+ghost use Rattle.printer_core.specs.Printing.{has_literals};
+ghost use Rattle.dump_core.specs.Dump as dumps;
+ghost use Rattle.dump_core.specs.Dump.{insertions, grants_together};
+ghost use Rattle.dump_core.specs.Laws.{AreWellFormed};
+ghost use Rattle.dump_core.specs.Ending.{IsLongItself, IsLongAmong, IsLongIn, IsNowhere, EndsLines, EndsDump, is_write_fault};
+ghost use Rattle.system_core.specs.World.{entry};
+
+use crate::fault::DumpFault;
+use crate::statements::{FirstGrants, creation, first_grants, insertion};
+use crate::well_formed::entries_are_well_formed;
+use base_core::{Broken, Name, Row, Sink, User, write_all};
+use grants_core::Grant;
+use printer_core::Page;
+use reader_core::Statement;
+use std::alloc::Global;
+use system_core::System;
+use tables_core::{TableView, Tables};
+
+/// Writes a line and its line feed.
+fn write_line<W: Sink>(writer: &mut W, line: &[u8]) -> Result<(), Broken>
+    requires { W.failed writer.old ≡ false }
+    ensures failed { MatchResult result (λ _. W.failed writer.new ≡ false)
+        (λ _. W.failed writer.new ≡ true) }
+    ensures ok { OnOk result
+        (Appends (W.taken writer.old) (W.taken writer.new) (line.now ++ 10 ∷ [])) }
+    ensures err { OnErr result
+        (WritesFront (W.taken writer.old) (W.taken writer.new) (line.now ++ 10 ∷ [])) }
+{
+    write_all(writer, line)?;
+    write_all(writer, b"\n")
+}
+
+/// Writes a statement without literals, which always has a line.
+fn write_statement<W: Sink>(
+    page: &mut Page,
+    writer: &mut W,
+    user: User,
+    statement: &Statement,
+) -> Result<(), DumpFault>
+    requires works { W.failed writer.old ≡ false }
+    requires plain { has_literals statement.now ≡ false }
+    ensures failed { W.failed writer.new ≡ is_write_fault result }
+    ensures ends { EndsLines IsNowhere (entry 0 user statement.now ∷ []) result
+        (W.taken writer.old) (W.taken writer.new) }
+{
+    match page.line_if_short(user, statement) {
+        Some(line) => Ok(write_line(writer, line)?),
+        None => unreachable!(),
+    }
+}
+
+/// Writes the CREATE TABLE of a table.
+fn write_creation<W: Sink>(
+    alloc: Global,
+    page: &mut Page,
+    writer: &mut W,
+    table: &TableView<'_>,
+) -> Result<(), DumpFault>
+    requires works { W.failed writer.old ≡ false }
+    requires columns { AreNamed 32 (λ c. c.name) table.now.columns.now }
+    ensures failed { W.failed writer.new ≡ is_write_fault result }
+    ensures ends { EndsLines IsNowhere
+        (entry 0 table.now.owner (statements.CreateTable table.now.name table.now.columns.now) ∷ [])
+        result (W.taken writer.old) (W.taken writer.new) }
+{
+    let statement = creation(alloc, table.name, table.columns)?;
+    write_statement(page, writer, table.owner, &statement)
+}
+
+/// The table at this place in the order of creation.
+fn table_at(tables: &Tables, index: usize) -> TableView<'_>
+    requires { index < length tables.now.tables }
+    ensures { slice_get tables.now.tables index
+        ≡ Some (
+          result.name,
+          record {
+            owner = result.owner;
+            columns = result.columns.now;
+            inserted = result.inserted;
+            rows = result.rows.now.contents;
+          },
+        ) }
+{
+    match tables.at(index) {
+        Some(table) => table,
+        None => unreachable!(),
+    }
+}
+
+/// Writes the CREATE TABLE of each table, in order.
+fn write_creations<W: Sink>(
+    alloc: Global,
+    page: &mut Page,
+    writer: &mut W,
+    tables: &Tables,
+) -> Result<(), DumpFault>
+    requires works { W.failed writer.old ≡ false }
+    requires formed { AreWellFormed (map dumps.creation tables.now.tables) }
+    ensures failed { W.failed writer.new ≡ is_write_fault result }
+    ensures ends { EndsLines IsNowhere (map dumps.creation tables.now.tables) result
+        (W.taken writer.old) (W.taken writer.new) }
+{
+    for index in 0..tables.len() {
+        let table = table_at(tables, index);
+        write_creation(alloc, page, writer, &table)?;
+    }
+    Ok(())
+}
+
+/// Writes the INSERT of the row of this number in a table.
+fn write_insertion<W: Sink>(
+    page: &mut Page,
+    writer: &mut W,
+    owner: User,
+    statement: &Statement,
+    table: Name,
+    row: u64,
+) -> Result<(), DumpFault>
+    requires { W.failed writer.old ≡ false }
+    ensures failed { W.failed writer.new ≡ is_write_fault result }
+    ensures ends { let e = entry 0 owner statement.now in
+        EndsLines (IsLongItself table row e) (e ∷ []) result
+        (W.taken writer.old) (W.taken writer.new) }
+{
+    let Some(line) = page.line_if_short(owner, statement) else {
+        return Err(DumpFault::LongRow { table, row });
+    };
+    Ok(write_line(writer, line)?)
+}
+
+/// Writes the INSERT of a row of the table, which is the one of this number.
+fn write_row<W: Sink>(
+    alloc: Global,
+    page: &mut Page,
+    writer: &mut W,
+    table: &TableView<'_>,
+    number: u64,
+    row: &Row,
+) -> Result<(), DumpFault>
+    requires works { W.failed writer.old ≡ false }
+    requires values { IsShort 32 row.now.values }
+    ensures failed { W.failed writer.new ≡ is_write_fault result }
+    ensures ends { let e = entry 0 table.now.owner (statements.Insert table.now.name row.now.values) in
+        EndsLines (IsLongItself table.now.name number e) (e ∷ []) result
+        (W.taken writer.old) (W.taken writer.new) }
+{
+    let statement = insertion(alloc, table.name, row.values.as_slice())?;
+    write_insertion(page, writer, table.owner, &statement, table.name, number)
+}
+
+/// Writes the INSERT of each row of a table, in order.
+fn write_rows_of<W: Sink>(
+    alloc: Global,
+    page: &mut Page,
+    writer: &mut W,
+    table: &TableView<'_>,
+) -> Result<(), DumpFault>
+    requires works { W.failed writer.old ≡ false }
+    requires formed { AreWellFormed
+        (map (dumps.insertion table.now.name table.now.owner) table.now.rows.now.contents) }
+    ensures failed { W.failed writer.new ≡ is_write_fault result }
+    ensures ends { EndsLines
+        (IsLongAmong table.now.name table.now.owner table.now.rows.now.contents)
+        (map (dumps.insertion table.now.name table.now.owner) table.now.rows.now.contents)
+        result (W.taken writer.old) (W.taken writer.new) }
+{
+    // So many rows fit in a number.
+    let _ = table.rows.len();
+    let mut number = 0;
+    for (_, row) in table.rows.items() {
+        number += 1;
+        write_row(alloc, page, writer, table, number, row)?;
+    }
+    Ok(())
+}
+
+/// Writes the INSERT of each row, table by table.
+fn write_rows<W: Sink>(
+    alloc: Global,
+    page: &mut Page,
+    writer: &mut W,
+    tables: &Tables,
+) -> Result<(), DumpFault>
+    requires works { W.failed writer.old ≡ false }
+    requires formed { AreWellFormed (flat_map insertions tables.now.tables) }
+    ensures failed { W.failed writer.new ≡ is_write_fault result }
+    ensures ends { EndsLines (IsLongIn tables.now.tables) (flat_map insertions tables.now.tables)
+        result (W.taken writer.old) (W.taken writer.new) }
+{
+    for index in 0..tables.len() {
+        let table = table_at(tables, index);
+        write_rows_of(alloc, page, writer, &table)?;
+    }
+    Ok(())
+}
+
+/// Writes the statement that makes the first of some grants, and says how many it makes.
+fn write_made<W: Sink>(
+    page: &mut Page,
+    writer: &mut W,
+    made: FirstGrants,
+) -> Result<usize, DumpFault>
+    requires works { W.failed writer.old ≡ false }
+    requires plain { has_literals made.statement ≡ false }
+    ensures failed { W.failed writer.new ≡ is_write_fault result }
+    ensures count { IfOk result (λ count. count ≡ made.count) }
+    ensures ends { EndsLines IsNowhere (entry 0 made.grantor made.statement ∷ []) result
+        (W.taken writer.old) (W.taken writer.new) }
+{
+    write_statement(page, writer, made.grantor, &made.statement)?;
+    Ok(made.count)
+}
+
+/// Writes the GRANTs of grants in force, neighbours of one statement together.
+fn write_grants<W: Sink>(
+    alloc: Global,
+    page: &mut Page,
+    writer: &mut W,
+    grants: &[Grant],
+) -> Result<(), DumpFault>
+    requires { W.failed writer.old ≡ false }
+    ensures failed { W.failed writer.new ≡ is_write_fault result }
+    ensures ends { EndsLines IsNowhere (map dumps.granting (grants_together grants.now)) result
+        (W.taken writer.old) (W.taken writer.new) }
+{
+    let mut rest = grants;
+    while !rest.is_empty() {
+        let made = first_grants(alloc, rest)?;
+        let count = write_made(page, writer, made)?;
+        (_, rest) = rest.split_at(count);
+    }
+    Ok(())
+}
+
+/// Writes the dump of what a core has, a line for each statement, and has the writer hand it on.
+///
+/// - `Write` exactly if the writer has failed. A front of the text was written.
+/// - `NoMemory` if a request for memory was refused: for a page, for the grants in force, or for a
+///   statement. A front of the text was written.
+/// - `LongRow` if no line inserts a row. All lines before it were written. After `Ok` there is no
+///   such row.
+pub fn write_dump<W: Sink>(alloc: Global, system: &System, writer: &mut W) -> Result<(), DumpFault>
+    requires { W.failed writer.old ≡ false }
+    ensures failed { W.failed writer.new ≡ is_write_fault result }
+    ensures flushed { OnOk result (W.flushed writer.new ≡ true) }
+    ensures ends { EndsDump system.now.journal result
+        (W.taken writer.old) (W.taken writer.new) }
+{
+    entries_are_well_formed(system.journal());
+    let grants = system.in_force()?;
+    let mut page = Page::new(alloc)?;
+    write_creations(alloc, &mut page, writer, system.tables())?;
+    write_rows(alloc, &mut page, writer, system.tables())?;
+    write_grants(alloc, &mut page, writer, &grants)?;
+    Ok(writer.flush()?)
+}

@@ -1,0 +1,23 @@
+-- Changes that are kept, one after another.
+-- Of a keeper, `keeps old e new`: from the state old the entry e may be kept, and new is the next.
+use Rattle.std.specs.Prelude.{◌≡◌, ℕ, List, [], ◌∷◌, Option}
+use Rattle.std.specs.Io.KnownBytes.{Appends}
+use Rattle.base_core.specs.Streams.{WritesFront}
+use Rattle.system_core.specs.declared.machine.event.Entry.{Entry}
+use Rattle.journal_core.specs.Text.{entry_text}
+
+-- the entries are kept, one after another
+abbrev pub KeepsAll : {K : Type 0} → (K → Entry → K → Type 0) → K → List Entry → K → Type 0
+KeepsAll keeps old [] new = new ≡ old
+KeepsAll {K} keeps old (e ∷ es) new = (mid : K) × keeps old e mid × KeepsAll keeps mid es new
+
+-- Of a sink, `taken` and `handed_on` are those of base_core's `Sink`.
+module _ {W : Type 0} (taken handed_on : W → Option (List ℕ)) where
+  -- the sink took the line of the entry, and has handed on all that it took
+  pub record KeepsLine (old : W) (e : Entry) (new : W) : Type 0 where
+    pub line : Appends (taken old) (taken new) (entry_text e)
+    pub handed_on_all : handed_on new ≡ taken new
+
+-- the sink took a front of the line at most
+abbrev pub FailsLine : {W : Type 0} → (W → Option (List ℕ)) → W → Entry → W → Type 0
+FailsLine taken old e new = WritesFront (taken old) (taken new) (entry_text e)

@@ -1,0 +1,17 @@
+-- A journal as a script.
+use Rattle.std.specs.Prelude.{ℕ, List, [], ◌∷◌, ◌++◌, map}
+use Rattle.std.specs.List.{flat_map}
+use Rattle.printer_core.specs.Printing.{journal_line}
+use Rattle.system_core.specs.declared.machine.event.Entry.{Entry}
+
+-- the line of an entry, and a line feed behind it
+abbrev pub entry_text : Entry → List ℕ
+entry_text e = journal_line e.user e.statement ++ 10 ∷ []
+
+-- the lines of a journal
+abbrev pub journal_lines : List Entry → List (List ℕ)
+journal_lines journal = map (λ e. journal_line e.user e.statement) journal
+
+-- its text: each line with a line feed behind it
+abbrev pub journal_text : List Entry → List ℕ
+journal_text journal = flat_map (λ line. line ++ 10 ∷ []) (journal_lines journal)

@@ -1,0 +1,29 @@
+//! The journal as a script: each accepted change as a line, `user: statement`.
+//!
+//! A journal says all that a core is, so who has it can make the core again. A [`Keeper`] is told
+//! of each change before the change is acknowledged. [`LineKeeper`] writes its line to a sink and
+//! has the sink hand it on; [`NoKeeper`] does nothing. A keeper that has failed is told of no
+//! further change, and its owner is to acknowledge none.
+//!
+//! ```text
+//! let mut keeper = LineKeeper::new(alloc, sink)?;
+//! keeper.keep(entry)?;                             // ann: CREATE TABLE pay (wage INTEGER)
+//! ```
+//!
+//! **The one contract.** What was kept is the text of the entries, one line after another, and
+//! nothing else (`specs/Text.antt`, law [`kept_lines_are_the_text`]). After a failure the sink has
+//! a front of one more line at most.
+//!
+//! # Cost
+//!
+//! A line is printed once, in the one page of a keeper, and takes no memory. It is one write and
+//! one flush of the sink.
+#![tactic(auto)]
+
+mod keeper;
+mod laws;
+mod line_keeper;
+
+pub use keeper::{Keeper, NoKeeper};
+pub use laws::kept_lines_are_the_text;
+pub use line_keeper::LineKeeper;

@@ -1,0 +1,57 @@
+-- A server's answers seen as those of another, while something holds of it.
+use Rattle.std.proofs.Common.{◌≡◌, ℕ, Bool, List, [], ◌∷◌, Option, sym, ap, ◌∙◌, subst, inl, inr}
+use Rattle.std.specs.Prelude.{Result, Ok, Err}
+use Rattle.std.specs.Str.Lines.{lines}
+use Rattle.lines_core.specs.Lines.{whole_lines}
+use Rattle.lines_core.specs.Serving.{AnswersAll, AnswersInput, BreaksInput, WasOpen, Ends}
+use Rattle.lines_core.specs.declared.serving.SessionFault.{SessionFault}
+use Rattle.lines_core.specs.declared.serving.SessionFault.TheVariants as faults
+
+module _ {X Y : Type 0} (R : X → List ℕ → List ℕ → X → Type 0) (S : Y → List ℕ → List ℕ → Y → Type 0) (f : X → Y) (Inv : X → Type 0)
+    (step : (x y : X) (line text : List ℕ) → Inv x → R x line text y → S (f x) line text (f y) × Inv y) where
+  pub all-seen : (x y : X) (ls : List (List ℕ)) (text : List ℕ) → Inv x → AnswersAll R x ls text y → AnswersAll S (f x) ls text (f y) × Inv y
+  all-seen x y [] text i a = ((a.0, ap f a.1), subst Inv (sym a.1) i)
+  all-seen x y (l ∷ ls) text i (first, mid, more, h, t, e) =
+      let one = step x mid l first i h in
+      let rest = all-seen mid y ls more one.1 t in
+      ((first, f mid, more, one.0, rest.0, e), rest.1)
+
+  pub input-seen : (lines_of : List ℕ → List (List ℕ)) (x y : X) (left left' taken taken' : Option (List ℕ)) (bytes : List ℕ)
+      → Inv x → AnswersInput R lines_of x y left left' taken taken' bytes → AnswersInput S lines_of (f x) (f y) left left' taken taken' bytes × Inv y
+  input-seen lines_of x y left left' taken taken' bytes i r =
+      let all = all-seen x y (lines_of bytes) r.text i r.answered in
+      (record { text = r.text; bounded = r.bounded; answered = all.0; read = r.read; wrote = r.wrote }, all.1)
+
+  pub broken-seen : (x y : X) (left left' taken taken' : Option (List ℕ))
+      → Inv x → BreaksInput R x y left left' taken taken' → BreaksInput S (f x) (f y) left left' taken taken' × Inv y
+  broken-seen x y left left' taken taken' i r =
+      let all = all-seen x y (lines r.done) r.text i r.answered in
+      (record { done = r.done; undone = r.undone; text = r.text; line_end = r.line_end; answered = all.0; read = r.read; wrote = r.wrote }, all.1)
+
+  module _ (over : X → Bool) (over' : Y → Bool) (overs : (x : X) → over' (f x) ≡ over x) where
+    open-seen : (x y : X) (bytes : List ℕ) → Inv x → WasOpen R over x y bytes → WasOpen S over' (f x) (f y) bytes
+    open-seen x y bytes i w =
+        let first = all-seen x w.between (whole_lines bytes) w.first_text i w.answered in
+        let behind = all-seen w.between y w.last w.last_text first.1 w.answered_last in record {
+          between = f w.between;
+          last = w.last;
+          first_text = w.first_text;
+          last_text = w.last_text;
+          lines_are = w.lines_are;
+          answered = first.0;
+          open_then = λ h. overs w.between ∙ w.open_then (sym (overs x) ∙ h);
+          answered_last = behind.0;
+        }
+
+    pub ends-seen : (r : Result (Unit {0}) SessionFault) (x y : X) (left left' taken taken' : Option (List ℕ))
+        → Inv x → Ends R over r x y left left' taken taken' → Ends S over' r (f x) (f y) left left' taken taken' × Inv y
+    ends-seen (Ok u) x y left left' taken taken' i (bytes, inl h) =
+        let run = input-seen lines x y left left' taken taken' bytes i h.0 in ((bytes, inl (run.0, h.1, open-seen x y bytes i h.2)), run.1)
+    ends-seen (Ok u) x y left left' taken taken' i (bytes, inr h) =
+        let run = input-seen whole_lines x y left left' taken taken' bytes i h.0 in ((bytes, inr (run.0, overs y ∙ h.1)), run.1)
+    ends-seen (Err faults.Read) x y left left' taken taken' i (bytes, h) =
+        let run = input-seen whole_lines x y left left' taken taken' bytes i h in ((bytes, run.0), run.1)
+    ends-seen (Err faults.Bound) x y left left' taken taken' i (bytes, h, n) =
+        let run = input-seen whole_lines x y left left' taken taken' bytes i h in ((bytes, run.0, n), run.1)
+    ends-seen (Err faults.Write) x y left left' taken taken' i h = broken-seen x y left left' taken taken' i h
+    ends-seen (Err faults.NoMemory) x y left left' taken taken' i h = ((ap f h.0, h.1, h.2), subst Inv (sym h.0) i)

@@ -1,0 +1,76 @@
+-- Which end an answering came to.
+use Rattle.std.proofs.Common.{◌≡◌, ℕ, List, [], ◌∷◌, ◌++◌, Bool, Option, Ok, map, length, take, refl, sym, ap, ◌∙◌, subst, append_assoc, append-nil, arith, inl, inr}
+use Rattle.std.specs.List.{flat_map}
+use Rattle.std.specs.Str.Lines.{lines, strip_carriage_return}
+use Rattle.std.specs.Io.KnownBytes.{IsAtEnd}
+use Rattle.std.proofs.lemmas.List.{length-append}
+use Rattle.lines_core.specs.declared.line.TheConstants.{KEPT_BYTES}
+use Rattle.lines_core.specs.Lines.{Cut, NoFeed, whole_lines, IsWhole, IsCutOff}
+use Rattle.lines_core.specs.Serving.{AnswersInput, WasOpen, HasServed, Ends, EndsTold, ending_at}
+use Rattle.lines_core.specs.declared.serving.Ending.{Ending}
+use Rattle.lines_core.specs.declared.serving.Ending.TheVariants as endings
+use Rattle.lines_core.proofs.LineLemmas.{lines-Cut, whole_lines-Cut}
+use Rattle.lines_core.proofs.FeedLemmas.{no_rest}
+
+-- ---- bytes that end with a line feed, and those that do not
+behind : (part rest : List ℕ) → IsWhole rest → (front : List ℕ) × ((part ++ 10 ∷ []) ++ rest ≡ front ++ 10 ∷ [])
+behind part rest (inl e) = (part, ap (λ r. (part ++ 10 ∷ []) ++ r) e ∙ append-nil (part ++ 10 ∷ []))
+behind part rest (inr (front, e)) = ((part ++ 10 ∷ []) ++ front, ap (λ r. (part ++ 10 ∷ []) ++ r) e ∙ sym (append_assoc (part ++ 10 ∷ []) front (10 ∷ [])))
+
+whole_parts : (parts : List (List ℕ)) → IsWhole (flat_map (λ part. part ++ 10 ∷ []) parts)
+whole_parts [] = inl refl
+whole_parts (part ∷ parts) = inr (behind part (flat_map (λ p. p ++ 10 ∷ []) parts) (whole_parts parts))
+
+abbrev last_of : List ℕ → ℕ
+last_of [] = 0
+last_of (x ∷ []) = x
+last_of (x ∷ y ∷ ys) = last_of (y ∷ ys)
+
+last_behind : (xs : List ℕ) (y : ℕ) (ys : List ℕ) → last_of (xs ++ y ∷ ys) ≡ last_of (y ∷ ys)
+last_behind [] y ys = refl
+last_behind (x ∷ []) y ys = refl
+last_behind (x ∷ z ∷ zs) y ys = last_behind (z ∷ zs) y ys
+
+last_open : (b : ℕ) (bs : List ℕ) → NoFeed (b ∷ bs) → last_of (b ∷ bs) ≡ 10 → ⊥
+last_open b [] h e = h.0 e
+last_open b (c ∷ cs) h e = last_open c cs h.1 e
+
+not_whole : (front : List ℕ) (b : ℕ) (bs : List ℕ) → NoFeed (b ∷ bs) → IsWhole (front ++ b ∷ bs) → ⊥
+not_whole front b bs h (inl e) = omega (arith, ap length e, length-append front (b ∷ bs))
+not_whole front b bs h (inr (other, e)) = last_open b bs h (sym (last_behind front b bs) ∙ ap last_of e ∙ last_behind other 10 [])
+
+is_whole : (bytes : List ℕ) (parts : List (List ℕ)) → Cut bytes parts [] → IsWhole bytes
+is_whole bytes parts cut = subst IsWhole (sym (cut.whole ∙ append-nil (flat_map (λ part. part ++ 10 ∷ []) parts))) (whole_parts parts)
+
+all_whole : (bytes : List ℕ) (parts : List (List ℕ)) → Cut bytes parts [] → lines bytes ≡ whole_lines bytes
+all_whole bytes parts cut = lines-Cut bytes parts [] cut ∙ append-nil (map strip_carriage_return parts) ∙ sym (whole_lines-Cut bytes parts [] cut)
+
+is_cut_off : (bytes : List ℕ) (parts : List (List ℕ)) (b : ℕ) (bs : List ℕ) → Cut bytes parts (b ∷ bs) → IsCutOff bytes
+is_cut_off bytes parts b bs cut = record {
+  last = b ∷ bs;
+  lines_are = lines-Cut bytes parts (b ∷ bs) cut ∙ ap (λ ls. ls ++ (b ∷ bs) ∷ []) (sym (whole_lines-Cut bytes parts (b ∷ bs) cut));
+  not_whole = λ w. not_whole (flat_map (λ part. part ++ 10 ∷ []) parts) b bs cut.open_rest (subst IsWhole cut.whole w);
+}
+
+-- ---- by what is kept of the last line
+pub told_at : {X : Type 0} (R : X → List ℕ → List ℕ → X → Type 0) (over : X → Bool) (kept : List ℕ) (start mid new : X) (unread : ℕ) (left0 left1 left2 taken0 taken1 taken2 : Option (List ℕ))
+    → (s : HasServed R kept start mid unread left0 left1 taken0 taken1)
+    → AnswersInput R lines start new left0 left2 taken0 taken2 s.bytes → IsAtEnd left2 → WasOpen R over start new s.bytes
+    → EndsTold R over (Ok (ending_at kept)) start new left0 left2 taken0 taken2
+told_at R over [] start mid new unread left0 left1 left2 taken0 taken1 taken2 s run end open_then =
+    let cut : Cut s.bytes s.fed.parts [] = subst (λ now. Cut s.bytes s.fed.parts now) (no_rest s.fed.now [] s.fed.kept_is refl) s.fed.cut in
+    (s.bytes, run, end, open_then, is_whole s.bytes s.fed.parts cut, all_whole s.bytes s.fed.parts cut)
+told_at R over (k ∷ ks) start mid new unread left0 left1 left2 taken0 taken1 taken2 s run end open_then =
+    (s.bytes, run, end, open_then, by_rest s.fed.now s.fed.cut s.fed.kept_is)
+  where
+    by_rest : (now : List ℕ) → Cut s.bytes s.fed.parts now → k ∷ ks ≡ take KEPT_BYTES now → IsCutOff s.bytes
+    by_rest [] cut e = cc
+    by_rest (b ∷ bs) cut e = is_cut_off s.bytes s.fed.parts b bs cut
+
+-- ---- what is told may be left
+
+pub told_ends : {X : Type 0} (R : X → List ℕ → List ℕ → X → Type 0) (over : X → Bool) (ending : Ending) (old new : X) (left left' taken taken' : Option (List ℕ))
+    → EndsTold R over (Ok ending) old new left left' taken taken' → Ends R over (Ok tt) old new left left' taken taken'
+told_ends R over endings.Whole old new left left' taken taken' (bytes, run, end, open_then, whole, same) = (bytes, inl (run, end, open_then))
+told_ends R over endings.CutOff old new left left' taken taken' (bytes, run, end, open_then, cut) = (bytes, inl (run, end, open_then))
+told_ends R over endings.Over old new left left' taken taken' (bytes, run, over_then) = (bytes, inr (run, over_then))

@@ -1,0 +1,65 @@
+-- The journal of a script, kept as lines, loads it.
+use Rattle.std.proofs.Common.{◌≡◌, ℕ, Bool, false, List, [], ◌∷◌, ◌++◌, All, IfOk, Option, Result, Ok, Err, map, refl, sym, ap, subst, ◌∙◌, append_assoc, append-nil, arith, inl, inr}
+use Rattle.std.specs.List.{AllByRecursion}
+use Rattle.std.specs.Str.Lines.{lines}
+use Rattle.std.proofs.lemmas.List.Elements.{All-from_recursion}
+use Rattle.base_core.specs.declared.limits.Limits.{Limits}
+use Rattle.printer_core.specs.Printing.{journal_line}
+use Rattle.lines_core.specs.Lines.{IsWhole}
+use Rattle.system_core.specs.World.{World, opening, AreSound}
+use Rattle.system_core.specs.declared.machine.event.Entry.{Entry}
+use Rattle.journal_core.specs.Text.{journal_lines, journal_text}
+use Rattle.journal_core.specs.Keeping.{KeepsLine, FailsLine}
+use Rattle.journal_core.proofs.Kept.{kept-text}
+use Rattle.script_core.specs.Keeping.{with_keeper, EndsKept}
+use Rattle.script_core.proofs.KeptLemmas.{journal-kept}
+use Rattle.load_core.specs.Kept.{CanBeLoaded}
+use Rattle.load_core.specs.declared.fault.LoadFault.{LoadFault}
+use Rattle.load_core.specs.Loading.{Loads, lines_unmarked, without_pass, EndsLoad}
+use Rattle.load_core.proofs.Said.{Said, ends-said, no_pass, were_read}
+use Rattle.load_core.proofs.Text.{lines_are}
+use Rattle.load_core.proofs.Written.{loads, lines_unmarked_is}
+
+pub whole_text : (journal : List Entry) → IsWhole (journal_text journal)
+whole_text [] = inl refl
+whole_text (e ∷ es) =
+    let line = journal_line e.user e.statement in
+    elim (whole_text es) [
+      | inl none ↦ inr (line, ap (λ (t : List ℕ). (line ++ 10 ∷ []) ++ t) none ∙ append-nil (line ++ 10 ∷ []))
+      | inr (front, is) ↦ inr ((line ++ 10 ∷ []) ++ front, ap (λ (t : List ℕ). (line ++ 10 ∷ []) ++ t) is ∙ sym (append_assoc (line ++ 10 ∷ []) front (10 ∷ [])))
+    ]
+
+opening_said : (chunk : ℕ) (limits : Limits) → Said (opening chunk limits)
+opening_said chunk limits =
+    let sound : AreSound (opening chunk limits) = record { within = omega arith; few = omega arith; rising = tt; begun = tt; past = tt; active = tt } in
+    (record { journal = tt; checkpoints = sound }, tt)
+
+module _ {W : Type 0} (taken handed_on : W → Option (List ℕ)) (failed : W → Bool) where
+  pub kept_again : (chunk : ℕ) (new : World) (sink sink' : W) (left left' out out' : Option (List ℕ)) → failed sink ≡ false
+      → EndsKept (KeepsLine taken handed_on) (FailsLine taken) failed chunk (Ok new) sink sink' left left' out out'
+      → CanBeLoaded new.limits (taken sink) (taken sink') new.journal
+  kept_again chunk new sink sink' left left' out out' works ends =
+      let start = opening chunk ends.0 in
+      let said : Said new = ends-said (KeepsLine taken handed_on) (FailsLine taken) failed (Ok tt) (with_keeper start sink) (with_keeper new sink') left left' out out' (opening_said chunk ends.0) ends.2.1 in
+      let read = were_read new.journal said.1 in
+      let as_lines : lines_unmarked (lines (journal_text new.journal)) ≡ journal_lines new.journal = ap lines_unmarked (lines_are new.journal read) ∙ lines_unmarked_is new.journal read in
+      let loaded : Loads new.limits [] (journal_lines new.journal) (map without_pass new.journal) = loads new.limits [] new.journal said.0.journal read in
+      record {
+        text = journal_text new.journal;
+        wrote = kept-text taken handed_on sink sink' new.journal (journal-kept (KeepsLine taken handed_on) (FailsLine taken) failed chunk new sink sink' left left' out out' works ends);
+        whole = whole_text new.journal;
+        loads = subst (λ (ls : List (List ℕ)). Loads new.limits [] ls new.journal) (sym as_lines) (subst (λ (j : List Entry). Loads new.limits [] (journal_lines new.journal) j) (no_pass new.journal said.1) loaded);
+      }
+
+-- what is loaded came through pass 0
+pub loaded_passes : (limits : Limits) (before after : List Entry) (ls : List (List ℕ)) → Loads limits before ls after → AllByRecursion (λ e. e.pass ≡ 0) before → AllByRecursion (λ e. e.pass ≡ 0) after
+loaded_passes limits before after [] h p = subst (AllByRecursion (λ e. e.pass ≡ 0)) (sym h) p
+loaded_passes limits before after (line ∷ ls) (e, says, more) p = loaded_passes limits (before ++ e ∷ []) after ls more (appended before p)
+  where
+    appended : (xs : List Entry) → AllByRecursion (λ e. e.pass ≡ 0) xs → AllByRecursion (λ e. e.pass ≡ 0) (xs ++ e ∷ [])
+    appended [] h = (says.says.pass, tt)
+    appended (x ∷ xs) h = (h.0, appended xs h.1)
+
+pub ends_passes : (chunk : ℕ) (result : Result World LoadFault) (left left' : Option (List ℕ)) → EndsLoad chunk result left left' → IfOk result (λ w. All (λ e. e.pass ≡ 0) w.journal)
+ends_passes chunk (Ok new) left left' h = All-from_recursion (λ (e : Entry). e.pass ≡ 0) new.journal (loaded_passes h.0 [] new.journal (lines_unmarked (lines h.1)) h.6 tt)
+ends_passes chunk (Err fault) left left' h = tt

@@ -1,0 +1,10 @@
+pub mod Lines
+pub mod Room
+pub mod Coming
+pub mod Ending
+pub mod Entering
+pub mod Addressing
+pub mod Written
+pub mod Text
+pub mod Said
+pub mod Again

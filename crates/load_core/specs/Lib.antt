@@ -1,0 +1,21 @@
+pub mod Loading
+pub mod Loader
+pub mod FaultTexts
+pub mod Kept
+pub use Rattle.lines_core.specs.Lines
+pub use Rattle.lines_core.specs.Serving
+pub use Rattle.base_core.specs.Words
+pub use Rattle.base_core.specs.Full
+pub use Rattle.base_core.specs.Streams
+pub use Rattle.monitor_core.specs.Verdict
+pub use Rattle.reader_core.specs.Language
+pub use Rattle.lexer_core.specs.Lexing
+pub use Rattle.printer_core.specs.Printing
+pub use Rattle.system_core.specs.Journal
+pub use Rattle.system_core.specs.World
+pub use Rattle.system_core.specs.Step
+pub use Rattle.journal_core.specs.Text
+pub use Rattle.journal_core.specs.Keeping
+pub use Rattle.reply_core.specs.Texts
+pub use Rattle.script_core.specs.Script
+pub use Rattle.script_core.specs.Keeping as ScriptKeeping

@@ -1,0 +1,143 @@
+-- A loader: how it goes on by a line, and what it gives in the end.
+use Rattle.std.specs.Prelude.{◌≡◌, ℕ, ◌+◌, ◌<◌, Bool, true, List, [], ◌∷◌, length, Option, Some, None, Result, Ok, Err, refl}
+use Rattle.std.specs.Option.{is_some}
+use Rattle.std.proofs.Common.{arith, sym, subst, ◌∙◌}
+use Rattle.std.proofs.lemmas.Bool.Decides.{nat_tests}
+use Rattle.lexer_core.specs.declared.fault.Code.{Code}
+use Rattle.lexer_core.specs.declared.fault.Code.TheVariants as codes
+use Rattle.lines_core.specs.declared.line.TheConstants.{LONGEST_LINE}
+use Rattle.lines_core.specs.declared.serving.Ending.{Ending}
+use Rattle.lines_core.specs.declared.serving.Ending.TheVariants as endings
+use Rattle.lines_core.specs.declared.serving.SessionFault.{SessionFault}
+use Rattle.lines_core.specs.declared.serving.SessionFault.TheVariants as sessions
+use Rattle.monitor_core.specs.Verdict.{is_change}
+use Rattle.system_core.specs.Journal.{verdict_at}
+use Rattle.system_core.specs.World.{World, with_entry}
+use Rattle.system_core.specs.declared.machine.event.Entry.{Entry}
+use Rattle.script_core.specs.Script.{addressed_up_to}
+use Rattle.load_core.specs.declared.fault.Undone.{Undone}
+use Rattle.load_core.specs.declared.fault.Undone.TheVariants as reasons
+use Rattle.load_core.specs.declared.fault.LoadFault.{LoadFault}
+use Rattle.load_core.specs.declared.fault.LoadFault.TheVariants as faults
+use Rattle.load_core.specs.Loading.{SaysEntry, SaysChange, IsFaultOfLine, address, statement, IsUndone, IsUndoneEntry, unmarked}
+
+-- what a loader has come to: the world, and why it stopped, if it did
+pub record Loaded : Type 0 where
+  pub world : World
+  pub stop : Option Undone
+
+-- the line as it is read at a journal: the first without its byte order mark
+abbrev pub line_at : List Entry → List ℕ → List ℕ
+line_at [] line = unmarked line
+line_at (e ∷ es) line = line
+
+-- what an entry comes to at a world: it is entered as an allowed change, or this is why it is not
+abbrev pub EntersEntry : World → Entry → Option Undone → World → Type 0
+EntersEntry old e None new =
+    (is_change e.statement ≡ true)
+    × (verdict_at old.limits old.journal e.user e.statement ≡ Ok tt)
+    × (new ≡ with_entry old e)
+EntersEntry old e (Some why) new = IsUndoneEntry old e why × (new ≡ old)
+
+-- what a line comes to
+abbrev pub EntersLine : World → List ℕ → Option Undone → World → Type 0
+EntersLine old line None new =
+    (e : Entry) × SaysChange old.limits old.journal line e × (new ≡ with_entry old e)
+EntersLine old line (Some why) new = IsUndone old line why × (new ≡ old)
+
+-- what it comes to at a loader, which passes over it once it has stopped
+abbrev pub EntersOrPasses : Option Undone → World → List ℕ → Option Undone → World → Type 0
+EntersOrPasses None old line stop new = EntersLine old (line_at old.journal line) stop new
+EntersOrPasses (Some why) old line stop new = (stop ≡ Some why) × (new ≡ old)
+
+-- a loader goes on by the line, and nothing is written
+abbrev pub GoesOn : Loaded → List ℕ → List ℕ → Loaded → Type 0
+GoesOn old line text new =
+    (text ≡ []) × EntersOrPasses old.stop old.world line new.stop new.world
+
+abbrev pub has_stopped : Loaded → Bool
+has_stopped p = is_some p.stop
+
+-- what is told of a fault that ended the reading; nothing is written that could fail
+abbrev pub IsToldOf : SessionFault → LoadFault → Type 0
+IsToldOf sessions.Read fault = fault ≡ faults.Read
+IsToldOf sessions.Bound fault = fault ≡ faults.Bound
+IsToldOf sessions.NoMemory fault = fault ≡ faults.NoMemory
+IsToldOf sessions.Write fault = ⊥
+
+-- what a loader has come to: the core, or the line at which it stopped
+abbrev pub outcome_of : World → Option Undone → Result World LoadFault
+outcome_of w None = Ok w
+outcome_of w (Some why) = Err (faults.Line (length w.journal + 1) why)
+
+-- the number, from 1, of the line that a loader came to last
+abbrev pub number_of : World → Option Undone → ℕ
+number_of w None = length w.journal
+number_of w (Some why) = length w.journal + 1
+
+-- what the loading gives that ended so: a last line that was cut off is told, whatever it said
+abbrev pub outcome_at : Ending → World → Option Undone → Result World LoadFault
+outcome_at endings.CutOff w stop = Err (faults.CutOff (number_of w stop))
+outcome_at endings.Whole w stop = outcome_of w stop
+outcome_at endings.Over w stop = outcome_of w stop
+
+-- ---- lines that are too long are answered alike
+line_at-too_long : (journal : List Entry) (line : List ℕ)
+    → LONGEST_LINE < length line
+    → line_at journal line ≡ line
+line_at-too_long [] line h = grind (arith, nat_tests)
+line_at-too_long (e ∷ es) line h = refl
+
+address-too_long : (line : List ℕ)
+    → LONGEST_LINE < length line
+    → addressed_up_to LONGEST_LINE line ≡ Err (codes.TooLong, LONGEST_LINE)
+address-too_long line h = grind (arith, nat_tests)
+
+says-too_long : (line : List ℕ) (e : Entry) → LONGEST_LINE < length line → SaysEntry line e → ⊥
+says-too_long line e h s = let l = address-too_long line h in let a = s.speaker in cc
+
+fault-too_long : (line other : List ℕ) (code : Code) (offset : ℕ)
+    → LONGEST_LINE < length line
+    → LONGEST_LINE < length other
+    → IsFaultOfLine line code offset
+    → IsFaultOfLine other code offset
+fault-too_long line other _ _ h k (address e) =
+    address (address-too_long other k ∙ sym (address-too_long line h) ∙ e)
+fault-too_long line other _ _ h k (statement user start offset e f) =
+    let l = address-too_long line h in cc
+
+EntersLine-too_long : (old : World) (line other : List ℕ) (stop : Option Undone) (new : World)
+    → LONGEST_LINE < length line
+    → LONGEST_LINE < length other
+    → EntersLine old line stop new
+    → EntersLine old other stop new
+EntersLine-too_long old line other None new h k p = absurd (says-too_long line p.0 h p.1.says)
+EntersLine-too_long old line other (Some (reasons.Fault code offset)) new h k p =
+    (fault-too_long line other code offset h k p.0, p.1)
+EntersLine-too_long old line other (Some reasons.Unread) new h k p =
+    let l = address-too_long line h in let a = p.0.2 in cc
+EntersLine-too_long old line other (Some reasons.NoChange) new h k p =
+    absurd (says-too_long line p.0.0 h p.0.1)
+EntersLine-too_long old line other (Some (reasons.Answer reply)) new h k p =
+    absurd (says-too_long line p.0.0 h p.0.1)
+
+EntersOrPasses-too_long : (stop : Option Undone) (old : World) (line other : List ℕ)
+    (stop' : Option Undone) (new : World)
+    → LONGEST_LINE < length line
+    → LONGEST_LINE < length other
+    → EntersOrPasses stop old line stop' new
+    → EntersOrPasses stop old other stop' new
+EntersOrPasses-too_long None old line other stop new h k p =
+    let read = λ (l : List ℕ). EntersLine old l stop new in
+    subst read (sym (line_at-too_long old.journal other k))
+    (EntersLine-too_long old line other stop new h k
+    (subst read (line_at-too_long old.journal line h) p))
+EntersOrPasses-too_long (Some why) old line other stop new h k p = p
+
+pub GoesOn-too_long : (old new : Loaded) (line other text : List ℕ)
+    → LONGEST_LINE < length line
+    → LONGEST_LINE < length other
+    → GoesOn old line text new
+    → GoesOn old other text new
+GoesOn-too_long old new line other text h k p =
+    (p.0, EntersOrPasses-too_long old.stop old.world line other new.stop new.world h k p.1)

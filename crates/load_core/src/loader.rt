@@ -1,0 +1,215 @@
+//! A core that enters the changes which lines say.
+ghost use Rattle.std.specs.Prelude.{◌≡◌, ◌<◌, ◌+◌, ◌^◌, length, Ok, None, true};
+ghost use Rattle.monitor_core.specs.Verdict.{is_change};
+ghost use Rattle.system_core.specs.Journal.{verdict_at};
+ghost use Rattle.load_core.specs.Loading.{unmarked, IsUndoneEntry};
+ghost use Rattle.load_core.specs.Loader.{line_at, EntersEntry, EntersLine, outcome_of, number_of, outcome_at};
+
+use crate::fault::{LoadFault, Undone};
+use base_core::{Broken, Lack, NoMemory, Sink};
+use lexer_core::{ReadFault, Token};
+use lines_core::{Ending, LONGEST_LINE, LineServer};
+use monitor_core::is_change;
+use reader_core::read_with;
+use script_core::addressed_up_to;
+use std::alloc::Global;
+use std::marker::Model;
+use system_core::{Entry, Event, Reply, System};
+
+/// U+FEFF in UTF-8.
+const BYTE_ORDER_MARK: [u8; 3] = [0xEF, 0xBB, 0xBF];
+
+/// A core that enters the changes which lines say, up to the first that is none. Contracts see how
+/// far it has come.
+#[derive(Drop)]
+pub struct Loader {
+    alloc: Global,
+    tokens: Vec<Token>,
+    system: System,
+    stop: Option<Undone>,
+}
+
+impl Model for Loader {
+    ghost use Rattle.load_core.specs.Loader.{Loaded};
+
+    ghost Value = { Loaded };
+
+    ghost view = { λ l. record { world = l.system; stop = l.stop } };
+}
+
+impl Loader {
+    /// A loader that goes on from what the core stands for.
+    pub fn new(alloc: Global, system: System) -> Loader
+        ensures world { result.world ≡ system }
+        ensures stop { result.stop ≡ None }
+    {
+        Loader {
+            alloc,
+            tokens: Vec::new(alloc),
+            system,
+            stop: None,
+        }
+    }
+
+    /// The core, or the line at which the loader stopped.
+    fn outcome(self) -> Result<System, LoadFault>
+        requires { length self.world.journal + 1 < 2 ^ 64 }
+        ensures { result ≡ outcome_of self.world self.stop }
+    {
+        let Loader { system, stop, .. } = self;
+        match stop {
+            None => Ok(system),
+            Some(why) => {
+                let number = system.moment().0 + 1;
+                system.free();
+                Err(LoadFault::Line { number, why })
+            }
+        }
+    }
+
+    /// The fault of an input whose last line has no line feed, be it entered or not.
+    fn cut_off(self) -> LoadFault
+        requires { length self.world.journal + 1 < 2 ^ 64 }
+        ensures { result ≡ LoadFault.CutOff (number_of self.world self.stop) }
+    {
+        let Loader { system, stop, .. } = self;
+        let entered = system.moment().0;
+        system.free();
+        let number = match stop {
+            None => entered,
+            Some(_) => entered + 1,
+        };
+        LoadFault::CutOff { number }
+    }
+
+    /// What the loading gives that ended so.
+    pub fn finish(self, ending: Ending) -> Result<System, LoadFault>
+        requires { length self.world.journal + 1 < 2 ^ 64 }
+        ensures { result ≡ outcome_at ending self.world self.stop }
+    {
+        match ending {
+            Ending::CutOff => Err(self.cut_off()),
+            Ending::Whole | Ending::Over => self.outcome(),
+        }
+    }
+
+    /// Frees all that the loader holds.
+    pub fn free(self) {
+        let Loader { system, .. } = self;
+        system.free();
+    }
+}
+
+/// The line without the byte order mark at its front. One that is too long keeps it.
+fn unmarked(line: &[u8]) -> &[u8]
+    ensures { result.now ≡ unmarked line.now }
+{
+    if line.len() <= LONGEST_LINE && line.starts_with(&BYTE_ORDER_MARK) {
+        &line[3..]
+    } else {
+        line
+    }
+}
+
+/// The line as it is read: the first, before which nothing was entered, without its mark.
+fn line_at<'l>(system: &System, line: &'l [u8]) -> &'l [u8]
+    ensures { result.now ≡ line_at system.now.journal line.now }
+{
+    if system.journal().is_empty() {
+        unmarked(line)
+    } else {
+        line
+    }
+}
+
+/// The reply to a change that is not allowed.
+#[inline(never)]
+fn refuse(system: &mut System, entry: Entry) -> Undone
+    requires change { is_change entry.statement ≡ true }
+    requires denied { verdict_at system.old.limits system.old.journal entry.user entry.statement
+        ≡ Ok tt → ⊥ }
+    ensures { IsUndoneEntry system.old entry result × (system.new ≡ system.old) }
+{
+    let Entry {
+        pass: _,
+        user,
+        statement,
+    } = entry;
+    Undone::Answer(system.step(Event::Say {
+        pass: 0,
+        user,
+        statement,
+    }))
+}
+
+/// Enters an allowed change. Else it gives why not.
+fn enter(system: &mut System, entry: Entry) -> Option<Undone>
+    ensures { EntersEntry system.old entry result system.new }
+{
+    if !is_change(&entry.statement) {
+        return Some(Undone::NoChange);
+    }
+    if !system.may_change(&entry) {
+        return Some(refuse(system, entry));
+    }
+    let at = system.moment();
+    match system.change(entry) {
+        Ok(_) => None,
+        Err(NoMemory) => Some(Undone::Answer(Reply::Refused {
+            at,
+            lack: Lack::NoMemory,
+        })),
+    }
+}
+
+/// Enters the change that the line says. Else it gives why not.
+fn enter_line(
+    alloc: Global,
+    tokens: &mut Vec<Token>,
+    system: &mut System,
+    line: &[u8],
+) -> Option<Undone>
+    ensures { EntersLine system.old line.now result system.new }
+{
+    let (user, start) = match addressed_up_to(LONGEST_LINE, line) {
+        Ok(address) => address,
+        Err((code, offset)) => return Some(Undone::Fault { code, offset }),
+    };
+    match read_with(alloc, tokens, &line[start..]) {
+        Ok(statement) => {
+            let entry = Entry {
+                pass: 0,
+                user,
+                statement,
+            };
+            enter(system, entry)
+        }
+        Err(ReadFault::At { code, offset }) => {
+            let offset = start + offset;
+            Some(Undone::Fault { code, offset })
+        }
+        Err(ReadFault::NoMemory) => Some(Undone::Unread),
+    }
+}
+
+impl LineServer for Loader {
+    ghost use Rattle.load_core.specs.Loader.{GoesOn, has_stopped, GoesOn-too_long};
+
+    ghost answers = { GoesOn };
+
+    ghost over = { has_stopped };
+
+    fn is_over(&self) -> bool {
+        self.stop.is_some()
+    }
+
+    fn answer<W: Sink>(&mut self, _writer: &mut W, line: &[u8]) -> Result<(), Broken> {
+        if self.stop.is_none() {
+            let line = line_at(&self.system, line);
+            self.stop = enter_line(self.alloc, &mut self.tokens, &mut self.system, line);
+        }
+        Ok(())
+    }
+
+    ghost too_long = { GoesOn-too_long };
+}

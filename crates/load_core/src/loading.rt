@@ -1,0 +1,56 @@
+//! Journals loaded.
+ghost use Rattle.std.specs.Prelude.{◌≡◌, ◌<◌, ◌≤◌, ◌↔◌, false, true, All, IfOk, IsErrOf};
+ghost use Rattle.load_core.specs.Loading.{EndsLoad};
+ghost use Rattle.load_core.specs.Loader.{IsToldOf};
+
+use crate::fault::LoadFault;
+use crate::loader::Loader;
+use crate::silence::Silence;
+use base_core::Source;
+use lines_core::{SessionFault, serve_told};
+use std::alloc::Global;
+use system_core::System;
+
+/// The fault of a reader, or of what is made before the first read.
+fn load_fault(fault: SessionFault) -> LoadFault
+    requires { fault ≡ SessionFault.Write → ⊥ }
+    ensures { IsToldOf fault result }
+{
+    match fault {
+        SessionFault::Read => LoadFault::Read,
+        SessionFault::Bound => LoadFault::Bound,
+        SessionFault::NoMemory => LoadFault::NoMemory,
+        SessionFault::Write => unreachable!(),
+    }
+}
+
+/// Enters the changes that the reader's lines say, one by one, until its end, and gives a core whose
+/// journal has just these, in order, through pass 0. It writes nothing.
+///
+/// A line is `user: statement`, of at most 4,128 bytes, and the statement of at most 4,096; it says
+/// a change that is allowed at the journal before it. A byte order mark before the first line is
+/// passed over. The first line that says none ends the loading: `Line`, with its number from 1 and
+/// why. A last line that has no line feed is refused, whatever it says, as a write that was cut off
+/// leaves it: `CutOff`, with its number. `Read` is answered exactly where the reader has failed,
+/// `Bound` where 2^32 bytes were read and the end had not come, and `NoMemory` before the first
+/// read. The chunk is that of [`System::new`], from 1 to 64.
+pub fn load<S: Source>(alloc: Global, reader: &mut S, chunk: usize) -> Result<System, LoadFault>
+    requires some { 0 < chunk }
+    requires small { chunk ≤ 64 }
+    requires source { S.failed reader.old ≡ false }
+    ensures read { IsErrOf result LoadFault.Read ↔ (S.failed reader.new ≡ true) }
+    ensures ends { EndsLoad chunk result (S.left reader.old) (S.left reader.new) }
+    ensures passes { IfOk result (λ system. All (λ e. e.pass ≡ 0) system.journal) }
+{
+    let Ok(system) = System::new(alloc, chunk) else {
+        return Err(LoadFault::NoMemory);
+    };
+    let mut loader = Loader::new(alloc, system);
+    match serve_told(alloc, &mut loader, reader, &mut Silence) {
+        Ok(ending) => loader.finish(ending),
+        Err(fault) => {
+            loader.free();
+            Err(load_fault(fault))
+        }
+    }
+}

@@ -1,0 +1,4 @@
+use Rattle.printer_core.proofs.printing.copied.Goals as goal
+
+pub unreachable-requires : goal.unreachable-requires
+unreachable-requires c = c.in-Err.ensures.cases.0 c.requires
