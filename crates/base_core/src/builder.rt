@@ -47,6 +47,8 @@ impl ValuesBuilder {
     }
 
     /// Copies of these values. `NoMemory` where a request for memory was refused.
+    // Inlined, as an UPDATE calls it for each row.
+    #[inline(always)]
     pub fn twins_of(alloc: Global, values: &[Value]) -> Result<ValuesBuilder, NoMemory>
         ensures { IfOk result (λ builder. builder ≡ values.now) }
     {

@@ -99,6 +99,7 @@ impl Text {
     /// The bytes, of which none is below 32.
     pub fn as_bytes(&self) -> &[u8]
         ensures value { result.now ≡ self.now }
+        ensures text { IsText self.now }
         ensures printable { All (λ b. 32 ≤ b) self.now }
     {
         self.held.as_bytes()

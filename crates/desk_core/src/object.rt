@@ -12,7 +12,7 @@ ghost use Rattle.desk_core.specs.Kept.{KeepsEntered};
 ghost use Rattle.desk_core.specs.Saying.{IsSpelled, is_done};
 
 use base_core::{Broken, NoMemory, User};
-use journal_core::Keeper;
+use journal_core::{Keeper, keep_last};
 use reader_core::Statement;
 use std::alloc::Global;
 use std::marker::Model;
@@ -169,24 +169,6 @@ impl<K: Keeper + Drop> Core<K> {
             keeper,
         })
     }
-}
-
-/// Keeps the last entry of the journal.
-fn keep_last<K: Keeper>(system: &System, keeper: &mut K) -> Result<(), Broken>
-    requires works { K.failed keeper.old ≡ false }
-    requires last { (front : List Entry) × (last : Entry) × (line : List ℕ)
-        × (system.now.journal ≡ front ++ last ∷ []) × Spells line last.statement }
-    ensures failed { MatchResult result (λ _. K.failed keeper.new ≡ false)
-        (λ _. K.failed keeper.new ≡ true) }
-    ensures ok { OnOk result ((front : List Entry) (last : Entry)
-        → system.now.journal ≡ front ++ last ∷ [] → K.keeps keeper.old last keeper.new) }
-    ensures err { OnErr result ((front : List Entry) (last : Entry)
-        → system.now.journal ≡ front ++ last ∷ [] → K.fails keeper.old last keeper.new) }
-{
-    let Some(entry) = system.journal().last() else {
-        unreachable!()
-    };
-    keeper.keep(entry)
 }
 
 fn is_done(reply: &Reply) -> bool

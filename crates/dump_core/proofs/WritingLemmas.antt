@@ -2,7 +2,6 @@
 use Rattle.std.proofs.Common.{◌≡◌, ℕ, suc, false, ◌+◌, List, [], ◌∷◌, ◌++◌, map, length, take, drop, Option, Some, Result, Ok, Err, refl, sym, ap, ◌∙◌, subst, append_assoc, append-nil}
 use Rattle.std.specs.Prelude.{slice_get}
 use Rattle.std.specs.List.{AllByRecursion, flat_map}
-use Rattle.std.specs.Result.{OnErr}
 use Rattle.std.specs.Io.KnownBytes.{Appends, Keeps}
 use Rattle.std.proofs.KnownBytes.{Appends-kept, Appends-nil, Appends-trans}
 use Rattle.std.proofs.Math.Seq.{split_at}
@@ -17,7 +16,7 @@ use Rattle.reader_core.specs.Forming.{IsWellFormed}
 use Rattle.tables_core.specs.Contents.{Contents}
 use Rattle.grants_core.proofs.OwnersLemmas.{AllByRecursion-append}
 use Rattle.journal_core.specs.Text.{journal_lines, journal_text}
-use Rattle.printer_core.specs.Printing.{journal_line, has_literals}
+use Rattle.printer_core.specs.Printing.{journal_line, ended_line, has_literals}
 use Rattle.grants_core.specs.declared.grant.Grant.{Grant}
 use Rattle.system_core.specs.Journal.{contents, rights_at}
 use Rattle.system_core.specs.declared.machine.event.Entry.{Entry}
@@ -27,10 +26,6 @@ use Rattle.dump_core.specs.Dump.{creation, insertion, insertions, granting, gran
 use Rattle.dump_core.specs.Grouped.{Group}
 use Rattle.dump_core.specs.Laws.{AreWellFormed}
 use Rattle.dump_core.specs.Ending.{HasLine, WritesLines, IsLongItself, IsLongAmong, IsLongIn, IsLongRow, IsNowhere, EndsLines, EndsDump}
-
-pub on-err : {T E P : Type 0} (r : Result T E) → P → OnErr r P
-on-err (Ok x) p = tt
-on-err (Err e) p = p
 
 -- the writer failed at the first of two texts
 pub front-before : (a b : Option (List ℕ)) (text more : List ℕ) → WritesFront a b text → WritesFront a b (text ++ more)
@@ -73,14 +68,14 @@ module _ (xs ys : List Entry) (a b c : Option (List ℕ)) where
       subst (λ t. WritesFront a c t) (sym text) (front-after a b c (journal_text xs) (journal_text ys ++ journal_text zs) v.wrote (front-before b c (journal_text ys) (journal_text zs) w))
 
 -- the line of one entry
-module _ (e : Entry) (line : List ℕ) (a b : Option (List ℕ)) (is : line ≡ journal_line e.user e.statement) where
-  text-single : line ++ 10 ∷ [] ≡ journal_text (e ∷ [])
-  text-single = ap (λ l. l ++ 10 ∷ []) is ∙ sym (append-nil (journal_line e.user e.statement ++ 10 ∷ []))
+module _ (e : Entry) (line : List ℕ) (a b : Option (List ℕ)) (is : line ≡ ended_line e.user e.statement) where
+  text-single : line ≡ journal_text (e ∷ [])
+  text-single = is ∙ sym (append-nil (ended_line e.user e.statement))
 
-  pub single : HasLine e → Appends a b (line ++ 10 ∷ []) → WritesLines (e ∷ []) a b
+  pub single : HasLine e → Appends a b line → WritesLines (e ∷ []) a b
   single has wrote = record { each = (has, tt); wrote = subst (λ t. Appends a b t) text-single wrote }
 
-  pub single-front : WritesFront a b (line ++ 10 ∷ []) → WritesFront a b (journal_text (e ∷ []))
+  pub single-front : WritesFront a b line → WritesFront a b (journal_text (e ∷ []))
   single-front w = subst (λ t. WritesFront a b t) text-single w
 
 -- nothing was written behind the lines

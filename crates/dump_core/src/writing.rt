@@ -1,8 +1,6 @@
 //! The text of a dump, written statement by statement.
-ghost use Rattle.std.specs.Prelude.{◌≡◌, ◌<◌, ◌∷◌, ◌++◌, [], Some, true, false, length, map, slice_get, IfOk, OnOk, OnErr, MatchResult};
+ghost use Rattle.std.specs.Prelude.{◌≡◌, ◌<◌, ◌∷◌, [], Some, true, false, length, map, slice_get, IfOk, OnOk};
 ghost use Rattle.std.specs.List.{flat_map};
-ghost use Rattle.std.specs.Io.KnownBytes.{Appends};
-ghost use Rattle.base_core.specs.Streams.{WritesFront};
 ghost use Rattle.reader_core.specs.declared.statement.Statement.TheVariants as statements;
 ghost use Rattle.reader_core.specs.Forming.{AreNamed, IsShort};
 ghost use Rattle.printer_core.specs.Printing.{has_literals};
@@ -15,27 +13,13 @@ ghost use Rattle.system_core.specs.World.{entry};
 use crate::fault::DumpFault;
 use crate::statements::{FirstGrants, creation, first_grants, insertion};
 use crate::well_formed::entries_are_well_formed;
-use base_core::{Broken, Name, Row, Sink, User, write_all};
+use base_core::{Name, Row, Sink, User, write_all};
 use grants_core::Grant;
 use printer_core::Page;
 use reader_core::Statement;
 use std::alloc::Global;
 use system_core::System;
 use tables_core::{TableView, Tables};
-
-/// Writes a line and its line feed.
-fn write_line<W: Sink>(writer: &mut W, line: &[u8]) -> Result<(), Broken>
-    requires { W.failed writer.old ≡ false }
-    ensures failed { MatchResult result (λ _. W.failed writer.new ≡ false)
-        (λ _. W.failed writer.new ≡ true) }
-    ensures ok { OnOk result
-        (Appends (W.taken writer.old) (W.taken writer.new) (line.now ++ 10 ∷ [])) }
-    ensures err { OnErr result
-        (WritesFront (W.taken writer.old) (W.taken writer.new) (line.now ++ 10 ∷ [])) }
-{
-    write_all(writer, line)?;
-    write_all(writer, b"\n")
-}
 
 /// Writes a statement without literals, which always has a line.
 fn write_statement<W: Sink>(
@@ -51,7 +35,7 @@ fn write_statement<W: Sink>(
         (W.taken writer.old) (W.taken writer.new) }
 {
     match page.line_if_short(user, statement) {
-        Some(line) => Ok(write_line(writer, line)?),
+        Some(line) => Ok(write_all(writer, line)?),
         None => unreachable!(),
     }
 }
@@ -132,7 +116,7 @@ fn write_insertion<W: Sink>(
     let Some(line) = page.line_if_short(owner, statement) else {
         return Err(DumpFault::LongRow { table, row });
     };
-    Ok(write_line(writer, line)?)
+    Ok(write_all(writer, line)?)
 }
 
 /// Writes the INSERT of a row of the table, which is the one of this number.

@@ -15,7 +15,9 @@
 //! and each of its tests what it answers by it. [`Replay`] is the plain authority: it keeps the
 //! grants in force, and forgets those that fall. [`audit`] compares a list of grants with what a
 //! list of [`Change`]s leaves in force, by definitions that know no authority; the [`laws`] say that
-//! the two tell the same, change by change. A [`Key`] is a privilege as a key of a map.
+//! the two tell the same, change by change. A [`Key`] is a privilege as a key of a map, a
+//! [`Holding`] a user's privilege, and [`Granted`] who gave it to him. [`KeptGrants`] are the valid
+//! ones of grants that are told one by one.
 //!
 //! ```text
 //! let mut rights = Replay::new(alloc);
@@ -58,7 +60,8 @@ mod support;
 pub use authority::Authority;
 pub use grant::{Change, Grant, Ownership};
 pub use history::audit;
-pub use key::Key;
+pub use kept::KeptGrants;
+pub use key::{Granted, Holding, Key};
 pub use owners::Owners;
 pub use replay::Replay;
 pub use singles::single_grants;

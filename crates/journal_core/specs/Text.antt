@@ -1,12 +1,12 @@
 -- A journal as a script.
 use Rattle.std.specs.Prelude.{ℕ, List, [], ◌∷◌, ◌++◌, map}
 use Rattle.std.specs.List.{flat_map}
-use Rattle.printer_core.specs.Printing.{journal_line}
+use Rattle.printer_core.specs.Printing.{journal_line, ended_line}
 use Rattle.system_core.specs.declared.machine.event.Entry.{Entry}
 
--- the line of an entry, and a line feed behind it
+-- the line of an entry with its line feed
 abbrev pub entry_text : Entry → List ℕ
-entry_text e = journal_line e.user e.statement ++ 10 ∷ []
+entry_text e = ended_line e.user e.statement
 
 -- the lines of a journal
 abbrev pub journal_lines : List Entry → List (List ℕ)

@@ -24,6 +24,6 @@ mod keeper;
 mod laws;
 mod line_keeper;
 
-pub use keeper::{Keeper, NoKeeper};
+pub use keeper::{Keeper, NoKeeper, keep_last};
 pub use laws::kept_lines_are_the_text;
 pub use line_keeper::LineKeeper;

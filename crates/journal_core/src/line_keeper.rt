@@ -10,8 +10,8 @@ use std::alloc::Global;
 use std::marker::Model;
 use system_core::Entry;
 
-/// Writes the line of each change, `user: statement` with a line feed behind it, and has the sink
-/// hand it on before the next. Contracts see the sink.
+/// Writes the line of each change, `user: statement` with its line feed, and has the sink hand it
+/// on before the next. Contracts see the sink.
 #[derive(Drop)]
 pub struct LineKeeper<W: Sink + Drop> {
     page: Page,
@@ -55,7 +55,6 @@ fn write_entry<W: Sink>(page: &mut Page, sink: &mut W, entry: &Entry) -> Result<
     ensures err { OnErr result (FailsLine W.taken sink.old entry.now sink.new) }
 {
     write_all(sink, page.line(entry.user, &entry.statement))?;
-    write_all(sink, b"\n")?;
     sink.flush()
 }
 

@@ -1,61 +1,14 @@
 //! The faults of a loading, as they are told to people.
-ghost use Rattle.std.specs.Prelude.{◌≡◌, [], false, IfOk};
+ghost use Rattle.std.specs.Prelude.{◌≡◌, IfOk};
 ghost use Rattle.reply_core.specs.Texts.{fault_text};
 ghost use Rattle.load_core.specs.FaultTexts.{without_last, undone_text, of_line, load_fault_text};
 
 use crate::fault::{LoadFault, Undone};
-use base_core::{Broken, NoMemory, Sink};
+use base_core::{Broken, NoMemory};
 use itoa::Buffer;
 use lexer_core::Code;
-use reply_core::{ReplyBuffer, reply_text, write_fault};
+use reply_core::{Gathered, ReplyBuffer, reply_text, write_fault};
 use std::alloc::Global;
-
-/// A writer that keeps what it takes. It fails where a request for memory was refused.
-#[derive(Drop)]
-struct Gathered {
-    text: Vec<u8>,
-    failed: bool,
-}
-
-impl Gathered {
-    fn new(alloc: Global) -> Gathered
-        ensures text { result.text.items ≡ [] }
-        ensures failed { result.failed ≡ false }
-    {
-        let text = Vec::new(alloc);
-        let failed = false;
-        Gathered { text, failed }
-    }
-}
-
-impl Sink for Gathered {
-    ghost use Rattle.std.specs.Prelude.{true, Some};
-    ghost use Rattle.std.proofs.Common.{refl};
-
-    ghost failed = { λ s. s.failed };
-
-    ghost taken = { λ s. Some s.text.items };
-
-    ghost handed_on = { λ s. Some s.text.items };
-
-    ghost flushed = { λ s. true };
-
-    fn write(&mut self, bytes: &[u8]) -> Result<usize, Broken> {
-        match self.text.extend_from_slice(bytes) {
-            Ok(()) => Ok(bytes.len()),
-            Err(_) => {
-                self.failed = true;
-                Err(Broken)
-            }
-        }
-    }
-
-    fn flush(&mut self) -> Result<(), Broken> {
-        Ok(())
-    }
-
-    ghost flushed_hands_on = { λ s flushed. refl };
-}
 
 /// The text of a line's fault, with its line feed.
 fn fault_line(alloc: Global, code: Code, offset: usize) -> Result<Vec<u8>, NoMemory>

@@ -7,7 +7,8 @@
 //! names the first line that says no change which is done, and why. So what is loaded is not
 //! trusted: each change is judged as if its user had just said it. A last line that has no line feed
 //! is refused, since it may be the front of another that a write left which was cut off.
-//! [`load_fault_text`] says a fault to people (`specs/FaultTexts.antt`).
+//! [`load_fault_text`] says a fault to people (`specs/FaultTexts.antt`), and [`load_or_text`] loads
+//! and says so at once.
 //!
 //! ```text
 //! let system = load(alloc, &mut reader, 16)?;    // ann: CREATE TABLE pay (name TEXT)
@@ -43,5 +44,5 @@ mod silence;
 pub use fault::{LoadFault, Undone};
 pub use fault_text::load_fault_text;
 pub use laws::{journal_is_loaded, script_is_kept};
-pub use loading::load;
+pub use loading::{load, load_or_text};
 pub use silence::Silence;

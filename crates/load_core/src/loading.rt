@@ -1,12 +1,15 @@
 //! Journals loaded.
-ghost use Rattle.std.specs.Prelude.{◌≡◌, ◌<◌, ◌≤◌, ◌↔◌, false, true, All, IfOk, IsErrOf};
+ghost use Rattle.std.specs.Prelude.{◌≡◌, ◌<◌, ◌≤◌, ◌↔◌, false, true, Ok, Err, All, IfOk, IfErr, IsErrOf};
 ghost use Rattle.load_core.specs.Loading.{EndsLoad};
+ghost use Rattle.load_core.specs.FaultTexts.{load_fault_text};
+ghost use Rattle.load_core.specs.declared.fault.LoadFault.{LoadFault as load_fault};
 ghost use Rattle.load_core.specs.Loader.{IsToldOf};
 
 use crate::fault::LoadFault;
+use crate::fault_text::load_fault_text;
 use crate::loader::Loader;
 use crate::silence::Silence;
-use base_core::Source;
+use base_core::{NoMemory, Source};
 use lines_core::{SessionFault, serve_told};
 use std::alloc::Global;
 use system_core::System;
@@ -52,5 +55,28 @@ pub fn load<S: Source>(alloc: Global, reader: &mut S, chunk: usize) -> Result<Sy
             loader.free();
             Err(load_fault(fault))
         }
+    }
+}
+
+/// As [`load`], with the text of [`load_fault_text`] in place of a fault, or `NoMemory` where there
+/// was no memory for it.
+pub fn load_or_text<S: Source>(
+    alloc: Global,
+    reader: &mut S,
+    chunk: usize,
+) -> Result<System, Result<Vec<u8>, NoMemory>>
+    requires some { 0 < chunk }
+    requires small { chunk ≤ 64 }
+    requires source { S.failed reader.old ≡ false }
+    ensures ok { IfOk result
+        (λ system. EndsLoad chunk (Ok system) (S.left reader.old) (S.left reader.new)) }
+    ensures err { IfErr result (λ told. (fault : load_fault)
+        × EndsLoad chunk (Err fault) (S.left reader.old) (S.left reader.new)
+        × IfOk told (λ text. text.items ≡ load_fault_text fault)) }
+    ensures passes { IfOk result (λ system. All (λ e. e.pass ≡ 0) system.journal) }
+{
+    match load(alloc, reader, chunk) {
+        Ok(system) => Ok(system),
+        Err(fault) => Err(load_fault_text(alloc, &fault)),
     }
 }

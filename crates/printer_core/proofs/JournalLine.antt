@@ -1,6 +1,6 @@
 -- The line of a journal on its page, and read again.
-use Rattle.std.proofs.Common.{◌≡◌, ℕ, ◌+◌, ◌≤◌, Bool, true, false, Some, List, [], ◌∷◌, ◌++◌, length, drop, ap, sym, subst, ◌∙◌, refl, append_assoc, length-append, arith, All}
-use Rattle.std.specs.Prelude.{if◌then◌else◌, nat_le}
+use Rattle.std.proofs.Common.{◌≡◌, ℕ, ◌+◌, ◌≤◌, Bool, true, false, Option, Some, List, [], ◌∷◌, ◌++◌, length, drop, ap, sym, subst, ◌∙◌, refl, append_assoc, length-append, arith, All}
+use Rattle.std.specs.Prelude.{if◌then◌else◌, nat_le, MatchOption}
 use Rattle.std.proofs.Math.Seq.{drop-append_seam}
 use Rattle.base_core.specs.declared.name.User.{User}
 use Rattle.reader_core.specs.declared.statement.Statement.{Statement}
@@ -8,14 +8,14 @@ use Rattle.lexer_core.specs.Lexing.{IsProper}
 use Rattle.reader_core.specs.Forming.{IsWellFormed}
 use Rattle.reader_core.specs.Language.{Spells}
 use Rattle.printer_core.specs.declared.spacing.Spacing.TheVariants as spacings
-use Rattle.printer_core.specs.Printing.{added, at_front, canonical, minified, line_text, statement_text, journal_line}
+use Rattle.printer_core.specs.Printing.{added, at_front, canonical, minified, line_text, statement_text, ended_line}
 use Rattle.reader_core.specs.Saying.{statement_says}
 use Rattle.base_core.specs.Words.{IsName}
 use Rattle.std.proofs.lemmas.List.Elements.{All-cons, All-append}
 use Rattle.printer_core.specs.declared.spacing.Spacing.{Spacing}
 use Rattle.printer_core.proofs.Back.{proper_read, spells_again, spells_back, spells_behind_blank}
 use Rattle.printer_core.proofs.Plain.{IsHigh, name_high, spaced_high}
-use Rattle.printer_core.proofs.Room.{added_short, beyond, is_beyond, is_within, within}
+use Rattle.printer_core.proofs.Room.{added_short, beyond, fits_is, is_beyond, is_within, within}
 use Rattle.printer_core.proofs.Shortest.{no_shorter}
 
 behind_colon : (user rest : List ℕ) → drop (length user + 1) (user ++ 58 ∷ rest) ≡ rest
@@ -24,6 +24,18 @@ behind_colon user rest =
     ap (λ (k : ℕ). drop k (user ++ 58 ∷ rest)) place
     ∙ ap (drop (length (user ++ 58 ∷ []))) (sym (append_assoc user (58 ∷ []) rest))
     ∙ drop-append_seam (user ++ 58 ∷ []) rest
+
+-- a line feed counts as one byte more
+pub feed_counts : (xs : List ℕ) (most : ℕ) → nat_le (length (xs ++ 10 ∷ [])) (most + 1) ≡ nat_le (length xs) most
+feed_counts xs most = go (nat_le (length xs) most) refl
+  where
+    go : (b : Bool) → nat_le (length xs) most ≡ b → nat_le (length (xs ++ 10 ∷ [])) (most + 1) ≡ nat_le (length xs) most
+    go true e =
+        let h = within (length xs) most e in
+        is_within (length (xs ++ 10 ∷ [])) (most + 1) (omega (arith, length-append xs (10 ∷ []))) ∙ sym e
+    go false e =
+        let h = beyond (length xs) most e in
+        is_beyond (length (xs ++ 10 ∷ [])) (most + 1) (omega (arith, length-append xs (10 ∷ []))) ∙ sym e
 
 module _ (user : User) (s : Statement) where
   abbrev pub whole : List ℕ
@@ -41,13 +53,17 @@ module _ (user : User) (s : Statement) where
   abbrev pub line_by : Bool → List ℕ
   line_by fits = if fits then whole else short
 
-  pub as_canonical : nat_le (length whole) 4096 ≡ true → added (Some []) whole ≡ Some (journal_line user s)
+  pub as_canonical : nat_le (length whole) 4096 ≡ true → added (Some []) (whole ++ 10 ∷ []) ≡ Some (ended_line user s)
   as_canonical e =
       let h = within (length whole) 4096 e in
-      added_short whole (omega arith) ∙ ap (λ (b : Bool). Some (line_by b)) (sym e)
+      added_short (whole ++ 10 ∷ []) (omega (arith, length-append whole (10 ∷ []))) ∙ ap (λ (b : Bool). Some (line_by b ++ 10 ∷ [])) (sym e)
 
-  pub as_minified : nat_le (length whole) 4096 ≡ false → length user.0 ≤ 30 → length (minified s) ≤ 4096 → added (Some []) short ≡ Some (journal_line user s)
-  as_minified e few k = added_short short (omega (arith, short_len)) ∙ ap (λ (b : Bool). Some (line_by b)) (sym e)
+  -- whether the canonical line has at most 4,096 bytes before its line feed, by what stands on the page
+  pub canonical_fits : (o : Option (List ℕ)) (r : Bool) → o ≡ added (Some []) (whole ++ 10 ∷ []) → MatchOption o (r ≡ false) (λ text. r ≡ nat_le (length text) 4097) → r ≡ nat_le (length whole) 4096
+  canonical_fits o r is m = fits_is (whole ++ 10 ∷ []) o 4097 r is (omega arith) m ∙ feed_counts whole 4096
+
+  pub as_minified : nat_le (length whole) 4096 ≡ false → length user.0 ≤ 30 → length (minified s) ≤ 4096 → added (Some []) (short ++ 10 ∷ []) ≡ Some (ended_line user s)
+  as_minified e few k = added_short (short ++ 10 ∷ []) (omega (arith, short_len, length-append short (10 ∷ []))) ∙ ap (λ (b : Bool). Some (line_by b ++ 10 ∷ [])) (sym e)
 
   -- a line that fits in canonical text has a minified one that fits, since no line is shorter
   pub fits_minified : IsWellFormed s → All IsProper (statement_says s) → nat_le (length whole) 4096 ≡ true → nat_le (length (minified s)) 4096 ≡ true

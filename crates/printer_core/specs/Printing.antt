@@ -121,6 +121,10 @@ journal_line user s =
     let whole = line_text spacings.Canonical user s in
     if nat_le (length whole) 4096 then whole else line_text spacings.Minified user s
 
+-- the same with its line feed
+abbrev pub ended_line : User → Statement → List ℕ
+ended_line user s = journal_line user s ++ 10 ∷ []
+
 -- ---- a page that is written on: its text, if all of it has found room
 pub record Sheet : Type 0 where
   pub text : Option (List ℕ)

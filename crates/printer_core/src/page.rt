@@ -14,8 +14,9 @@ use reader_core::Separator;
 use std::alloc::Global;
 use std::marker::Model;
 
-/// The most bytes of a page: those of the longest line of a journal.
-pub const PAGE_BYTES: usize = MAX_NAME + 2 + MAX_LINE;
+/// The most bytes of a page: those of the longest line of a journal, with its colon and its line
+/// feed.
+pub const PAGE_BYTES: usize = MAX_NAME + 1 + MAX_LINE + 1;
 
 /// Room for a line, made once. Contracts see the text, if all of it has found room, how it is
 /// spaced, and what stands last.
@@ -84,7 +85,7 @@ impl Page {
 
     /// Adds the bytes, where they have room. It takes no memory.
     #[inline(always)]
-    fn push(&mut self, part: &[u8])
+    pub(crate) fn push(&mut self, part: &[u8])
         ensures { Adds part.now self.old self.new }
     {
         match self.bytes.try_extend_from_slice(part) {
@@ -174,7 +175,7 @@ impl Page {
         ensures { Prints (Quoted text.now ∷ []) self.old self.new }
     {
         self.begin(LastToken::Quoted, b"'");
-        self.push_doubled(text.as_str().as_bytes());
+        self.push_doubled(text.as_bytes());
         self.push(b"'");
     }
 

@@ -1,4 +1,4 @@
-//! The text of a reply in memory.
+//! Texts in memory.
 ghost use Rattle.std.specs.Prelude.{◌≡◌, Some, [], false, IfOk};
 ghost use Rattle.reply_core.specs.Texts.{reply_text};
 
@@ -10,13 +10,14 @@ use system_core::Reply;
 
 /// A writer that keeps what it takes. It fails where a request for memory was refused.
 #[derive(Drop)]
-struct Gathered {
-    text: Vec<u8>,
+pub struct Gathered {
+    pub text: Vec<u8>,
     failed: bool,
 }
 
 impl Gathered {
-    fn new(alloc: Global) -> Gathered
+    /// Nothing yet. It takes no memory.
+    pub fn new(alloc: Global) -> Gathered
         ensures text { result.text.items ≡ [] }
         ensures failed { result.failed ≡ false }
     {

@@ -30,5 +30,5 @@ mod wording;
 mod writing;
 
 pub use buffer::ReplyBuffer;
-pub use gathered::reply_text;
+pub use gathered::{Gathered, reply_text};
 pub use writing::{write_done, write_fault, write_reply, write_unread};

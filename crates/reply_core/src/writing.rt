@@ -124,7 +124,8 @@ pub fn write_reply<W: Sink, G: Gate>(
 /// Writes the text of a change that made this moment, as [`write_reply`] does of [`Reply::Done`],
 /// which is large to hand on. It takes no memory. `Broken` exactly where the writer has failed, and
 /// then a front was written.
-#[inline]
+// Inlined, as each INSERT is answered by it.
+#[inline(always)]
 pub fn write_done<W: Sink>(
     buffer: &mut ReplyBuffer,
     at: Moment,

@@ -1,15 +1,14 @@
 //! Sessions over TCP.
-ghost use Rattle.std.specs.Prelude.{◌≡◌, ◌<◌, ◌≤◌, false};
+ghost use Rattle.std.specs.Prelude.{◌≡◌, ◌<◌, ◌≤◌, false, IfOk};
 ghost use Rattle.sysr.specs.Ranges.{IsInRange};
 ghost use Rattle.sysr.specs.Ready.{IsReady};
 ghost use Rattle.sysr.specs.declared.command_line.CommandLine.TheVariants.{Serve};
 
-use crate::auditing::audit;
 use crate::command_line::Serving;
-use crate::files::{FileSink, writer_of};
+use crate::files::{JournalSink, dump_file, journal_file};
 use crate::loading::begun_with;
 use crate::recording::dump_to;
-use crate::running::{goes_on, output};
+use crate::running::{goes_on, status_of};
 use crate::serving::{Served, serve_on};
 use base_core::NoMemory;
 use journal_core::{Keeper, LineKeeper, NoKeeper};
@@ -33,15 +32,6 @@ fn fill_closed_streams(host: &HostRuntime) {
     }
 }
 
-/// The file that the dump goes to, if one is named. It is opened before the first session, so that
-/// no state is lost at the end for want of it.
-fn dump_of(host: &HostRuntime, path: Option<&str>) -> Result<Option<FileSink>, ExitCode> {
-    match path {
-        Some(path) => Ok(Some(writer_of(host, path, false)?)),
-        None => Ok(None),
-    }
-}
-
 /// Says how many sessions were served, writes the dump of what they left, and audits it, each if
 /// that is asked for.
 fn tell_end(
@@ -55,12 +45,9 @@ fn tell_end(
         return Err(give_up(host, fault_text(SessionFault::Write)));
     }
     if let Some(path) = path {
-        dump_to(host, system, &mut writer_of(host, path, false)?)?;
+        dump_to(host, system, &mut dump_file(host, path)?)?;
     }
-    if audited {
-        return Ok(audit(host, system, &mut output(host)?));
-    }
-    Ok(ExitCode::SUCCESS)
+    status_of(host, system, audited)
 }
 
 /// Listens at the port of this machine, and says so.
@@ -75,6 +62,15 @@ fn listener_at(host: &HostRuntime, port: u16) -> Result<TcpListener, ExitCode> {
     Ok(listener)
 }
 
+/// The listener of a server, which is told. The file of a dump is opened first, so that no state is
+/// lost at the end for want of it.
+fn listener_of(host: &HostRuntime, asked: Serving<'_>) -> Result<TcpListener, ExitCode> {
+    if let Some(path) = asked.dump {
+        dump_file(host, path)?;
+    }
+    listener_at(host, asked.port)
+}
+
 /// What is told of a fault that ended a server.
 fn serve_fault_text(fault: ServeFault) -> &'static str {
     match fault {
@@ -84,11 +80,13 @@ fn serve_fault_text(fault: ServeFault) -> &'static str {
     }
 }
 
-/// Serves the sessions that are asked for, from this core on, whose changes are kept.
+/// Serves the sessions that are asked for at the listener, from this core on, whose changes are
+/// kept.
 fn serve_with<R, K>(
     host: &HostRuntime,
     rt: &R,
     asked: Serving<'_>,
+    listener: &TcpListener,
     system: System,
     keeper: K,
 ) -> Result<ExitCode, ExitCode>
@@ -99,8 +97,6 @@ where
     requires ready { IsReady asked.chunk system }
     requires works { K.failed keeper ≡ false }
 {
-    dump_of(host, asked.dump)?;
-    let listener = listener_at(host, asked.port)?;
     let manners = Manners {
         idle: asked.idle.map(Duration::from_secs),
         log: asked.log,
@@ -109,7 +105,7 @@ where
     let served = serve_on(
         rt,
         host.alloc(),
-        &listener,
+        listener,
         asked.workers,
         asked.sessions,
         asked.chunk,
@@ -135,6 +131,46 @@ where
     }
 }
 
+/// What keeps the changes in the file of a journal.
+fn journal_keeper(
+    host: &HostRuntime,
+    asked: Serving<'_>,
+    path: &str,
+) -> Result<LineKeeper<JournalSink>, ExitCode>
+    ensures { IfOk result (λ keeper. keeper.failed ≡ false) }
+{
+    let sink = journal_file(host, path, goes_on(asked.load, path))?;
+    match LineKeeper::new(host.alloc(), sink) {
+        Ok(keeper) => Ok(keeper),
+        Err(NoMemory) => Err(give_up(host, NO_MEMORY)),
+    }
+}
+
+/// Listens, once the file of a dump is known to open, and serves the sessions that are asked for.
+fn listen_and_serve<R, K>(
+    host: &HostRuntime,
+    rt: &R,
+    asked: Serving<'_>,
+    system: System,
+    keeper: K,
+) -> Result<ExitCode, ExitCode>
+where
+    R: Threads + Wait + Clock + Sync,
+    K: Keeper + Drop + Send,
+    requires range { IsInRange (Serve asked) }
+    requires ready { IsReady asked.chunk system }
+    requires works { K.failed keeper ≡ false }
+{
+    match listener_of(host, asked) {
+        Ok(listener) => serve_with(host, rt, asked, &listener, system, keeper),
+        Err(status) => {
+            // The process ends here, and its memory goes back as a whole.
+            forget((system, keeper));
+            Err(status)
+        }
+    }
+}
+
 /// Serves the sessions that are asked for. It says at which port it listens, and at the end how
 /// many sessions it served, and how an audit ended.
 pub fn serve<R>(host: &HostRuntime, rt: &R, asked: Serving<'_>) -> Result<ExitCode, ExitCode>
@@ -145,11 +181,13 @@ where
     fill_closed_streams(host);
     let system = begun_with(host, asked.load, asked.chunk)?;
     let Some(path) = asked.journal else {
-        return serve_with(host, rt, asked, system, NoKeeper);
+        return listen_and_serve(host, rt, asked, system, NoKeeper);
     };
-    let sink = writer_of(host, path, goes_on(asked.load, path))?;
-    match LineKeeper::new(host.alloc(), sink) {
-        Ok(keeper) => serve_with(host, rt, asked, system, keeper),
-        Err(NoMemory) => Err(give_up(host, NO_MEMORY)),
+    match journal_keeper(host, asked, path) {
+        Ok(keeper) => listen_and_serve(host, rt, asked, system, keeper),
+        Err(status) => {
+            forget(system);
+            Err(status)
+        }
     }
 }

@@ -29,6 +29,7 @@ mod loading;
 mod recording;
 mod running;
 mod serving;
+mod unbuffered;
 
 use command_line::{CommandLine, options, refuse};
 use lines_core::{NO_MEMORY, give_up};

@@ -3,8 +3,8 @@ ghost use Rattle.std.specs.Prelude.{◌≡◌, ◌<◌, ◌≤◌, false, IfOk};
 
 use crate::auditing::audit;
 use crate::command_line::Running;
-use crate::files::writer_of;
-use crate::loading::{loaded, tell_loaded};
+use crate::files::journal_file;
+use crate::loading::loaded_and_told;
 use base_core::{Sink, StdSink, StdSource};
 use journal_core::{Keeper, LineKeeper, NoKeeper};
 use lines_core::{NO_MEMORY, Steady, give_up};
@@ -57,12 +57,18 @@ fn begins(rt: &HostRuntime, asked: Running<'_>) -> Result<Option<System>, ExitCo
     requires some { 0 < asked.chunk }
     requires small { asked.chunk ≤ 64 }
 {
-    let Some(path) = asked.load else {
-        return Ok(None);
-    };
-    let system = loaded(rt, path, asked.chunk)?;
-    tell_loaded(rt, &system)?;
-    Ok(Some(system))
+    match asked.load {
+        Some(path) => Ok(Some(loaded_and_told(rt, path, asked.chunk)?)),
+        None => Ok(None),
+    }
+}
+
+/// The status at the end, behind an audit if one is asked for.
+pub fn status_of(rt: &HostRuntime, system: &System, audited: bool) -> Result<ExitCode, ExitCode> {
+    if audited {
+        return Ok(audit(rt, system, &mut output(rt)?));
+    }
+    Ok(ExitCode::SUCCESS)
 }
 
 /// Answers the lines, and audits what they left, if that is asked for.
@@ -78,15 +84,11 @@ fn run_with<K: Keeper>(
     let mut writer = output(rt)?;
     let begins = begins(rt, asked)?;
     let system = answered(rt, &mut writer, keeper, asked.chunk, begins)?;
-    let status = if asked.audit {
-        audit(rt, &system, &mut output(rt)?)
-    } else {
-        ExitCode::SUCCESS
-    };
+    let status = status_of(rt, &system, asked.audit);
     // The process ends here, and its memory goes back as a whole: to take the rows apart one by one
     // first would cost a tenth of the run.
     forget(system);
-    Ok(status)
+    status
 }
 
 /// Whether the file is the one that is loaded, as it was named.
@@ -106,7 +108,7 @@ pub fn run(rt: &HostRuntime, asked: Running<'_>) -> Result<ExitCode, ExitCode>
     let Some(path) = asked.journal else {
         return run_with(rt, asked, &mut NoKeeper);
     };
-    let sink = writer_of(rt, path, goes_on(asked.load, path))?;
+    let sink = journal_file(rt, path, goes_on(asked.load, path))?;
     match LineKeeper::new(rt.alloc(), sink) {
         Ok(mut keeper) => run_with(rt, asked, &mut keeper),
         Err(_) => Err(give_up(rt, NO_MEMORY)),

@@ -39,6 +39,8 @@ fn addressed_by(line: &[u8], n: usize) -> Result<(User, usize), (Code, usize)>
 /// Who speaks, and the place behind the colon, in a line that may have so many bytes. Otherwise the
 /// fault and its byte: `TooLong` at that many, `Empty` for a line of blanks, `LongName` for a first
 /// word of more than 30 bytes, and `Expected` where no user and colon stand first, these three at 0.
+// Inlined, as each line of a script is cut by it.
+#[inline(always)]
 pub fn addressed_up_to(most: usize, line: &[u8]) -> Result<(User, usize), (Code, usize)>
     ensures exact { result ≡ addressed_up_to most line.now }
     ensures within { IfOk result (λ found. (found.1 ≤ length line.now) × (found.1 ≤ 31)) }

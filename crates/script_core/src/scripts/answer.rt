@@ -13,7 +13,7 @@ ghost use Rattle.script_core.specs.Keeping.{with_keeper, AnswersKept};
 use crate::scripts::address::addressed;
 use base_core::{Broken, Moment, NoMemory, Sink};
 use export_core::NoGate;
-use journal_core::Keeper;
+use journal_core::{Keeper, keep_last};
 use lexer_core::{Code, ReadFault, Token};
 use reader_core::read_with;
 use reply_core::{ReplyBuffer, write_done, write_fault, write_reply, write_unread};
@@ -171,26 +171,6 @@ fn tell_change<W: Sink>(
         (W.taken writer.old) (W.taken writer.new)) }
 {
     tell_reply(buffer, system, writer, Reply::to_change(at, made))
-}
-
-/// Keeps the last entry of the journal.
-// Where the keeper keeps nothing, nothing is left of it.
-#[inline(always)]
-fn keep_last<K: Keeper>(system: &System, keeper: &mut K) -> Result<(), Broken>
-    requires works { K.failed keeper.old ≡ false }
-    requires last { (front : List Entry) × (last : Entry) × (line : List ℕ)
-        × (system.now.journal ≡ front ++ last ∷ []) × Spells line last.statement }
-    ensures failed { MatchResult result (λ _. K.failed keeper.new ≡ false)
-        (λ _. K.failed keeper.new ≡ true) }
-    ensures ok { OnOk result ((front : List Entry) (last : Entry)
-        → system.now.journal ≡ front ++ last ∷ [] → K.keeps keeper.old last keeper.new) }
-    ensures err { OnErr result ((front : List Entry) (last : Entry)
-        → system.now.journal ≡ front ++ last ∷ [] → K.fails keeper.old last keeper.new) }
-{
-    let Some(entry) = system.journal().last() else {
-        unreachable!()
-    };
-    keeper.keep(entry)
 }
 
 /// Asks an allowed change, keeps it, and then tells what it came to. Of one that could not be kept
