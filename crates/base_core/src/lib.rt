@@ -42,6 +42,7 @@ mod sequence;
 mod shared;
 mod stream;
 mod text;
+mod unbuffered;
 mod value;
 mod word;
 
@@ -59,5 +60,6 @@ pub use sequence::{Sequence, twins_of};
 pub use shared::Values;
 pub use stream::{Broken, Sink, Source, StdSink, StdSource, write_all};
 pub use text::Text;
+pub use unbuffered::Unbuffered;
 pub use value::{ColType, Column, Moment, Row, Value};
 pub use word::{MAX_NAME, Word, is_word_byte};

@@ -22,7 +22,7 @@ use Rattle.grants_core.specs.declared.log.GrantLog.{GrantLog}
 use Rattle.grants_core.specs.Keys.{same_granted, granted_by}
 use Rattle.grants_core.specs.Content.{names, option_off}
 use Rattle.grants_core.specs.History.{granted, is_struck, is_struck_by, is_unoptioned, is_unoptioned_by, left_after}
-use Rattle.grants_core.specs.Log.{last_revoked, last_struck, last_unoptioned, was_struck, was_unoptioned, left_by, IsLogOf}
+use Rattle.grants_core.specs.Log.{noted_revocation, last_struck, last_unoptioned, was_struck, was_unoptioned, left_by, IsLogOf}
 use Rattle.grants_core.proofs.OptionLemmas.{options_alike}
 
 cond_or : (a b : Bool) (new old : ℕ) → cond (a || b) new old ≡ cond b new (cond a new old)
@@ -75,9 +75,9 @@ noted_at true new old = refl
 noted_at false new old = refl
 
 -- what is noted of one grant
-pub last_revoked-noted : {S : Type 0} (m n : IndexMap Granted Moment S) (by : User) (atom : Atom) (user : User) (at : Moment) → Updates same_granted m n (record { by = by; holding = record { user = user; privilege = record { 0 = atom } } }) (Some at) → (g : Grant) → last_revoked n g ≡ cond (names by (atom ∷ []) (user ∷ []) g) at.0 (last_revoked m g)
-unfolding last_revoked names
-last_revoked-noted m n by atom user at new g =
+pub noted_revocation-noted : {S : Type 0} (m n : IndexMap Granted Moment S) (by : User) (atom : Atom) (user : User) (at : Moment) → Updates same_granted m n (record { by = by; holding = record { user = user; privilege = record { 0 = atom } } }) (Some at) → (g : Grant) → noted_revocation n g ≡ cond (names by (atom ∷ []) (user ∷ []) g) at.0 (noted_revocation m g)
+unfolding noted_revocation names
+noted_revocation-noted m n by atom user at new g =
     let key : Granted = record { by = by; holding = record { user = user; privilege = record { 0 = atom } } } in
     let old : Option Moment = get same_granted m (granted_by g) in
     ap (λ (o : Option Moment). option_map_or (λ (t : Moment). t.0) o 0) (new.0 (granted_by g))
@@ -85,9 +85,9 @@ last_revoked-noted m n by atom user at new g =
     ∙ ap (λ b. cond b at.0 (option_map_or (λ (t : Moment). t.0) old 0)) (one_named (same_user by g.grantor) (same_atom atom g.atom) (same_user user g.grantee))
 
 -- an empty map
-pub last_revoked-none : {S : Type 0} (m : IndexMap Granted Moment S) (g : Grant) → m.entries ≡ [] → last_revoked m g ≡ 0
-unfolding last_revoked
-last_revoked-none m g empty = ap (λ es. option_map_or (λ (t : Moment). t.0) (lookup (same_granted (granted_by g)) es) 0) empty
+pub noted_revocation-none : {S : Type 0} (m : IndexMap Granted Moment S) (g : Grant) → m.entries ≡ [] → noted_revocation m g ≡ 0
+unfolding noted_revocation
+noted_revocation-none m g empty = ap (λ es. option_map_or (λ (t : Moment). t.0) (lookup (same_granted (granted_by g)) es) 0) empty
 
 -- the later of two revocations decides
 later_decides : (named : Bool) (at m last : ℕ) → last ≤ m → ltb at (cond named m last) ≡ (ltb at last || (ltb at m && named))

@@ -9,3 +9,4 @@ pub mod Log
 pub mod Keys
 pub mod KeyLaws
 pub mod Kept
+pub mod Lawful

@@ -17,8 +17,8 @@ use Rattle.grants_core.specs.Content.{names, option_off}
 use Rattle.grants_core.specs.History.{owners_after, granted, is_struck, is_unoptioned}
 
 -- the moment that is noted for the grant's grantor, privilege and grantee, or 0
-unfoldable pub last_revoked : {S : Type 0} → IndexMap Granted Moment S → Grant → ℕ
-last_revoked last g = option_map_or (λ at. at.0) (get same_granted last (granted_by g)) 0
+unfoldable pub noted_revocation : {S : Type 0} → IndexMap Granted Moment S → Grant → ℕ
+noted_revocation noted g = option_map_or (λ at. at.0) (get same_granted noted (granted_by g)) 0
 
 -- when the grant was last revoked, once a change of moment m follows
 abbrev pub last_struck : ℕ → Change → Grant → ℕ → ℕ
@@ -39,11 +39,11 @@ last_unoptioned m change.Other g last = last
 
 -- whether the log notes a later revocation of the grant
 abbrev pub was_struck : GrantLog → Grant → Bool
-was_struck log g = nat_lt g.moment.0 (last_revoked log.struck g)
+was_struck log g = nat_lt g.moment.0 (noted_revocation log.struck g)
 
 -- or of its option
 abbrev pub was_unoptioned : GrantLog → Grant → Bool
-was_unoptioned log g = nat_lt g.moment.0 (last_revoked log.unoptioned g)
+was_unoptioned log g = nat_lt g.moment.0 (noted_revocation log.unoptioned g)
 
 -- the grants that were not revoked, without the options that were
 abbrev pub left_by : GrantLog → List Grant → List Grant

@@ -54,6 +54,7 @@ pub mod laws;
 mod log;
 mod owners;
 mod replay;
+mod revocations;
 mod singles;
 mod support;
 
@@ -64,4 +65,5 @@ pub use kept::KeptGrants;
 pub use key::{Granted, Holding, Key};
 pub use owners::Owners;
 pub use replay::Replay;
+pub use revocations::{Revocations, note_revocation, noted_revocation};
 pub use singles::single_grants;

@@ -1,71 +1,24 @@
 //! The log by which a list of changes is audited: the owners, the grants that were made, and when
 //! each was last revoked.
-ghost use Rattle.std.specs.Prelude.{◌≡◌, [], ◌∷◌, ◌++◌, nat_lt, if◌then◌else◌, length, OnOk, IfOk};
+ghost use Rattle.std.specs.Prelude.{◌≡◌, ◌++◌, nat_lt, length, OnOk, IfOk};
 ghost use Rattle.grants_core.specs.declared.grant.Grant.{Grant as grants};
-ghost use Rattle.grants_core.specs.Content.{names, option_off};
+ghost use Rattle.grants_core.specs.Content.{option_off};
 ghost use Rattle.grants_core.specs.History.{owners_with, grants_of};
-ghost use Rattle.grants_core.specs.Log.{last_revoked, last_struck, last_unoptioned, was_struck, was_unoptioned, IsLogOf};
+ghost use Rattle.grants_core.specs.Log.{noted_revocation, last_struck, last_unoptioned, was_struck, was_unoptioned, IsLogOf};
 
 use crate::grant::{Change, Grant};
 use crate::grants::append;
-use crate::key::{Granted, Holding, Key};
 use crate::owners::Owners;
-use base_core::{Atom, Moment, NoMemory, User};
+use crate::revocations::{Revocations, note_revocation, noted_revocation};
+use base_core::{Moment, NoMemory};
 use indexmap::IndexMap;
 use std::alloc::Global;
 
-/// For who granted what to whom, the moment of the last revocation.
-type Last = IndexMap<Granted, Moment>;
-
-// Notes a revocation of one privilege.
-fn note_each(
-    last: &mut Last,
-    by: &User,
-    atom: &Atom,
-    whom: &[User],
-    at: Moment,
-) -> Result<(), NoMemory>
-    ensures { OnOk result ((g : grants) → last_revoked last.new g
-        ≡ (if names by.now (atom.now ∷ []) whom.now g then at.0 else last_revoked last.old g)) }
-{
-    for user in whom {
-        let Atom { table, kind } = *atom;
-        let holding = Holding {
-            user: *user,
-            privilege: Key(Atom { table, kind }),
-        };
-        last.insert(Granted { by: *by, holding }, at)?;
-    }
-    Ok(())
-}
-
-// Notes a revocation by this user of these atoms from these users.
-fn note(
-    last: &mut Last,
-    by: &User,
-    atoms: &[Atom],
-    whom: &[User],
-    at: Moment,
-) -> Result<(), NoMemory>
-    ensures { OnOk result ((g : grants) → last_revoked last.new g
-        ≡ (if names by.now atoms.now whom.now g then at.0 else last_revoked last.old g)) }
-{
-    for atom in atoms {
-        note_each(last, by, atom, whom, at)?;
-    }
-    Ok(())
-}
-
 // Whether the grant was revoked after it was made.
-fn is_revoked(last: &Last, grant: &Grant) -> bool
-    ensures { result ≡ nat_lt grant.now.moment.0 (last_revoked last.now grant.now) }
+fn is_revoked(last: &Revocations, grant: &Grant) -> bool
+    ensures { result ≡ nat_lt grant.now.moment.0 (noted_revocation last.now grant.now) }
 {
-    let holding = Holding {
-        user: grant.grantee,
-        privilege: Key(grant.atom),
-    };
-    let by = grant.grantor;
-    match last.get(&Granted { by, holding }) {
+    match noted_revocation(last, grant) {
         Some(at) => grant.moment.0 < at.0,
         None => false,
     }
@@ -77,8 +30,8 @@ fn is_revoked(last: &Last, grant: &Grant) -> bool
 pub struct GrantLog {
     pub owners: Owners,
     pub made: Vec<Grant>,
-    struck: Last,
-    unoptioned: Last,
+    struck: Revocations,
+    unoptioned: Revocations,
 }
 
 impl GrantLog {
@@ -87,10 +40,10 @@ impl GrantLog {
         ensures owners { OnOk result (self.new.owners ≡ owners_with self.old.owners change.now) }
         ensures made { OnOk result (self.new.made.items ≡ self.old.made.items
             ++ grants_of (length self.old.made.items) moment.0 change.now) }
-        ensures struck { OnOk result ((g : grants) → last_revoked self.new.struck g
-            ≡ last_struck moment.0 change.now g (last_revoked self.old.struck g)) }
-        ensures unoptioned { OnOk result ((g : grants) → last_revoked self.new.unoptioned g
-            ≡ last_unoptioned moment.0 change.now g (last_revoked self.old.unoptioned g)) }
+        ensures struck { OnOk result ((g : grants) → noted_revocation self.new.struck g
+            ≡ last_struck moment.0 change.now g (noted_revocation self.old.struck g)) }
+        ensures unoptioned { OnOk result ((g : grants) → noted_revocation self.new.unoptioned g
+            ≡ last_unoptioned moment.0 change.now g (noted_revocation self.old.unoptioned g)) }
     {
         match change {
             Change::Create { table, owner } => self.owners.set(*table, *owner)?,
@@ -108,11 +61,11 @@ impl GrantLog {
             }
             Change::Revoke { by, atoms, whom } => {
                 let (atoms, whom) = (atoms.as_slice(), whom.as_slice());
-                note(&mut self.struck, by, atoms, whom, moment)?;
+                note_revocation(&mut self.struck, by, atoms, whom, moment)?;
             }
             Change::RevokeOption { by, atoms, whom } => {
                 let (atoms, whom) = (atoms.as_slice(), whom.as_slice());
-                note(&mut self.unoptioned, by, atoms, whom, moment)?;
+                note_revocation(&mut self.unoptioned, by, atoms, whom, moment)?;
             }
             Change::Other => {}
         }

@@ -8,3 +8,5 @@ pub mod Written
 pub mod Text
 pub mod Said
 pub mod Again
+pub mod PassedOver
+pub mod ReplayEnds

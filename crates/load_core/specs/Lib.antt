@@ -1,4 +1,6 @@
 pub mod Loading
+pub mod Replaying
+pub mod Replayer
 pub mod Loader
 pub mod FaultTexts
 pub mod Kept

@@ -82,10 +82,13 @@ outcome_at endings.Whole w stop = outcome_of w stop
 outcome_at endings.Over w stop = outcome_of w stop
 
 -- ---- lines that are too long are answered alike
+pub unmarked-too_long : (line : List ℕ) → LONGEST_LINE < length line → unmarked line ≡ line
+unmarked-too_long line h = grind (arith, nat_tests)
+
 line_at-too_long : (journal : List Entry) (line : List ℕ)
     → LONGEST_LINE < length line
     → line_at journal line ≡ line
-line_at-too_long [] line h = grind (arith, nat_tests)
+line_at-too_long [] line h = unmarked-too_long line h
 line_at-too_long (e ∷ es) line h = refl
 
 address-too_long : (line : List ℕ)
@@ -93,7 +96,7 @@ address-too_long : (line : List ℕ)
     → addressed_up_to LONGEST_LINE line ≡ Err (codes.TooLong, LONGEST_LINE)
 address-too_long line h = grind (arith, nat_tests)
 
-says-too_long : (line : List ℕ) (e : Entry) → LONGEST_LINE < length line → SaysEntry line e → ⊥
+pub says-too_long : (line : List ℕ) (e : Entry) → LONGEST_LINE < length line → SaysEntry line e → ⊥
 says-too_long line e h s = let l = address-too_long line h in let a = s.speaker in cc
 
 fault-too_long : (line other : List ℕ) (code : Code) (offset : ℕ)

@@ -39,10 +39,13 @@ mod fault_text;
 mod laws;
 mod loader;
 mod loading;
+mod replaying;
 mod silence;
 
 pub use fault::{LoadFault, Undone};
 pub use fault_text::load_fault_text;
 pub use laws::{journal_is_loaded, script_is_kept};
+pub use loader::enter_line;
 pub use loading::{load, load_or_text};
+pub use replaying::{ReplayFault, Replayed, is_out_of_memory, replay};
 pub use silence::Silence;

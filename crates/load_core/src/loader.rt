@@ -101,7 +101,7 @@ impl Loader {
 }
 
 /// The line without the byte order mark at its front. One that is too long keeps it.
-fn unmarked(line: &[u8]) -> &[u8]
+pub fn unmarked(line: &[u8]) -> &[u8]
     ensures { result.now ≡ unmarked line.now }
 {
     if line.len() <= LONGEST_LINE && line.starts_with(&BYTE_ORDER_MARK) {
@@ -162,8 +162,9 @@ fn enter(system: &mut System, entry: Entry) -> Option<Undone>
     }
 }
 
-/// Enters the change that the line says. Else it gives why not.
-fn enter_line(
+/// Enters the change that the line says, through pass 0. Else it gives why not, and leaves the core
+/// as it was. The tokens are room for those of a line.
+pub fn enter_line(
     alloc: Global,
     tokens: &mut Vec<Token>,
     system: &mut System,

@@ -72,6 +72,7 @@ pub fn load_or_text<S: Source>(
         (λ system. EndsLoad chunk (Ok system) (S.left reader.old) (S.left reader.new)) }
     ensures err { IfErr result (λ told. (fault : load_fault)
         × EndsLoad chunk (Err fault) (S.left reader.old) (S.left reader.new)
+        × ((fault ≡ LoadFault.Read) ↔ (S.failed reader.new ≡ true))
         × IfOk told (λ text. text.items ≡ load_fault_text fault)) }
     ensures passes { IfOk result (λ system. All (λ e. e.pass ≡ 0) system.journal) }
 {

@@ -11,6 +11,10 @@ IsChunk chunk = (0 < chunk) × (chunk ≤ 64)
 abbrev pub IsIdle : Option ℕ → Type 0
 IsIdle idle = IfSome idle (λ seconds. (0 < seconds) × (seconds ≤ 86400))
 
+-- the moment that is asked for, if one is
+abbrev pub IsMoment : Option ℕ → Type 0
+IsMoment at = IfSome at (λ m. m ≤ 1000000)
+
 -- each number that is asked for is in its range
 abbrev pub IsInRange : CommandLine → Type 0
 IsInRange (asked.Run r) = IsChunk r.chunk
@@ -22,3 +26,4 @@ IsInRange (asked.Serve s) =
     × ((0 < s.sessions) × (s.sessions ≤ 10000))
     × IsChunk s.chunk
     × IsIdle s.idle
+IsInRange (asked.Explain e) = IsMoment e.at

@@ -1,10 +1,11 @@
 //! What the command line says.
 ghost use Rattle.std.specs.Prelude.{◌<◌, ◌≤◌, IfOk};
-ghost use Rattle.sysr.specs.Ranges.{IsChunk, IsIdle, IsInRange};
+ghost use Rattle.sysr.specs.Ranges.{IsChunk, IsIdle, IsMoment, IsInRange};
 
 use crate::commands::program;
 use clap::error::ErrorKind;
 use clap::{ArgMatches, Error};
+use explain_text::{Format, Question};
 use lines_core::{NO_MEMORY, SessionFault, fault_text, give_up};
 use std::alloc::Global;
 use std::convert::AsStr;
@@ -24,6 +25,8 @@ const MAX_SESSIONS: u16 = 10_000;
 
 const MAX_IDLE: u32 = 86_400;
 
+const MAX_MOMENT: u32 = 1_000_000;
+
 /// What the command line asks for.
 #[derive(Clone, Copy)]
 pub enum CommandLine<'a> {
@@ -35,6 +38,8 @@ pub enum CommandLine<'a> {
     Dump { load: Option<&'a str> },
     /// To serve sessions.
     Serve(Serving<'a>),
+    /// To explain the rights that the lines of standard input make.
+    Explain(Explaining<'a>),
 }
 
 /// How lines are answered: how many records a step of the checkpointer takes, from which file the
@@ -64,6 +69,15 @@ pub struct Serving<'a> {
     pub journal: Option<&'a str>,
     pub dump: Option<&'a str>,
     pub audit: bool,
+}
+
+/// What is to be explained of a script: a question, as of which moment, if not at its end, and in
+/// which form.
+#[derive(Clone, Copy)]
+pub struct Explaining<'a> {
+    pub at: Option<u64>,
+    pub format: Format,
+    pub question: Question<'a>,
 }
 
 // clap has refused a number out of range, so that the last is for no chunk at all.
@@ -117,18 +131,95 @@ fn running_of<'a>(matches: &ArgMatches<'a>) -> Running<'a>
     }
 }
 
+// clap has refused a number out of range.
+fn moment_of(matches: &ArgMatches<'_>) -> Option<u64>
+    ensures { IsMoment result }
+{
+    let moment = matches.get_one::<u32>("at")?;
+    Some(moment.min(MAX_MOMENT) as u64)
+}
+
+// clap has refused another word.
+fn format_of(matches: &ArgMatches<'_>) -> Format {
+    match matches.get_str("format") {
+        Some("csv") => Format::Csv,
+        Some("dot") => Format::Dot,
+        _ => Format::Text,
+    }
+}
+
+// clap has refused a command line without a word that is required.
+fn word_of<'a>(matches: &ArgMatches<'a>, id: &str) -> &'a str {
+    matches.get_str(id).unwrap_or("")
+}
+
+fn why_of<'a>(matches: &ArgMatches<'a>) -> Question<'a> {
+    Question::Why {
+        user: word_of(matches, "user"),
+        privilege: word_of(matches, "privilege"),
+        table: word_of(matches, "table"),
+    }
+}
+
+fn cut_of<'a>(matches: &ArgMatches<'a>) -> Question<'a> {
+    Question::Cut {
+        user: word_of(matches, "user"),
+        privilege: word_of(matches, "privilege"),
+        table: word_of(matches, "table"),
+    }
+}
+
+// clap has refused a command line without a question.
+fn question_of<'a>(matches: &ArgMatches<'a>) -> Question<'a> {
+    if let Some(why) = matches.subcommand_matches("why") {
+        return why_of(why);
+    }
+    if let Some(who) = matches.subcommand_matches("who") {
+        return Question::Who {
+            table: word_of(who, "table"),
+            privilege: who.get_str("privilege"),
+        };
+    }
+    if let Some(supposed) = matches.subcommand_matches("if") {
+        return Question::If {
+            line: word_of(supposed, "line"),
+        };
+    }
+    if let Some(cut) = matches.subcommand_matches("cut") {
+        return cut_of(cut);
+    }
+    match matches.subcommand_name() {
+        Some("fell") => Question::Fell,
+        Some("grants") => Question::Grants,
+        _ => Question::Rights,
+    }
+}
+
+fn explaining_of<'a>(matches: &ArgMatches<'a>) -> Explaining<'a>
+    ensures { IsInRange (CommandLine.Explain result) }
+{
+    Explaining {
+        at: moment_of(matches),
+        format: format_of(matches),
+        question: question_of(matches),
+    }
+}
+
 /// Reads the words of a command line, of which the first is the name of the program. Each number is
 /// in its range: the chunk from 1 to 64, and 16 where none is given; the port from 1 to 65,535; the
 /// workers from 1 to 16, and 4 where none are given; the sessions from 1 to 10,000, and 10,000
-/// where none are given; the seconds of an idle session, if they are given, from 1 to 86,400. An
-/// error is clap's: the words were refused, help or the version was asked for, or there was no
-/// memory.
+/// where none are given; the seconds of an idle session, if they are given, from 1 to 86,400; the
+/// moment of an explanation, if it is given, from 0 to 1,000,000. An error is clap's: the words
+/// were refused, help or the version was asked for, or there was no memory.
 pub fn options<'a, S: AsStr>(alloc: Global, words: &'a [S]) -> Result<CommandLine<'a>, Error>
     ensures { IfOk result IsInRange }
 {
     let matches = program(alloc)?.try_get_matches_from(words)?;
     if let Some(serve) = matches.subcommand_matches("serve") {
         return Ok(CommandLine::Serve(serving_of(serve)));
+    }
+    if let Some(explain) = matches.subcommand_matches("explain") {
+        return Ok(CommandLine::Explain(explaining_of(explain)));
     }
     if let Some(dump) = matches.subcommand_matches("dump") {
         return Ok(CommandLine::Dump {

@@ -1,5 +1,6 @@
 //! The commands of the program, and what each may be given.
 
+use crate::explain_commands::explain_command;
 use clap::{Arg, ArgAction, Command};
 use std::alloc::{AllocError, Global};
 
@@ -154,5 +155,6 @@ pub fn program<'a>(alloc: Global) -> Result<Command<'a>, AllocError> {
         .subcommand(run_command(alloc)?)?
         .subcommand(journal_command(alloc))?
         .subcommand(dump_command(alloc)?)?
-        .subcommand(serve_command(alloc)?)
+        .subcommand(serve_command(alloc)?)?
+        .subcommand(explain_command(alloc)?)
 }

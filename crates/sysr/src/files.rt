@@ -1,8 +1,7 @@
 //! The files that the command line names.
 ghost use Rattle.std.specs.Prelude.{◌≡◌, false, IfOk};
 
-use crate::unbuffered::Unbuffered;
-use base_core::{StdSink, StdSource};
+use base_core::{StdSink, StdSource, Unbuffered};
 use lines_core::{NO_MEMORY, Steady, give_up};
 use std::fs;
 use std::fs::{File, OpenOptions};

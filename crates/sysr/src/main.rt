@@ -1,12 +1,14 @@
 //! `sysr run` answers the lines of standard input on standard output, and `sysr serve` those of
 //! sessions over TCP. `sysr journal` writes the accepted changes of standard input as lines, and
-//! `sysr dump` lines that make what it leaves.
+//! `sysr dump` lines that make what it leaves. `sysr explain` says why somebody holds a right that
+//! these lines make, or how he lost it.
 //!
 //! Each line of `run` is `user: statement`, and what was read is answered before more is read. The
 //! exit status is 0 where the input was read to its end, whatever the replies; 1 where the program
-//! itself could not go on, with the reason on standard error; 2 where the command line was refused;
-//! 3 where an audit failed. Help and the version go to standard output, with status 0. A call that
-//! a signal interrupted is made again.
+//! itself could not go on, with the reason on standard error, or where an explanation is that
+//! somebody does not hold a right, or owns what could be taken; 2 where the command line was
+//! refused; 3 where an audit failed. Help and the version go to standard output, with status 0. A
+//! call that a signal interrupted is made again.
 //!
 //! Before `serve` opens its first socket it fills the places of standard streams that are closed,
 //! so that no client is told what is meant for standard error.
@@ -14,7 +16,8 @@
 //! What is written for what was read is the contract of [`script`](script_core::script); what a
 //! journal's file gets that of [`LineKeeper`](journal_core::LineKeeper); what a file makes that of
 //! [`load`](load_core::load); what a dump says that of [`write_dump`](dump_core::write_dump); what
-//! the command line may say that of [`options`]; and what the threads of a server do to its core
+//! is explained that of [`explain`](explain_text::explain); what the command line may say that of
+//! [`options`]; and what the threads of a server do to its core
 //! that of [`serve_on`](serving::serve_on). This crate joins them with files and streams.
 #![tactic(auto)]
 
@@ -23,15 +26,17 @@ ghost use Rattle.std.specs.Prelude.{◌<◌, ◌≤◌};
 mod auditing;
 mod command_line;
 mod commands;
+mod explain_commands;
+mod explaining;
 mod files;
 mod listening;
 mod loading;
 mod recording;
 mod running;
 mod serving;
-mod unbuffered;
 
 use command_line::{CommandLine, options, refuse};
+use explaining::explained;
 use lines_core::{NO_MEMORY, give_up};
 use listening::serve;
 use recording::{dump, journal};
@@ -56,6 +61,7 @@ fn main(rt: HostRuntime) -> ExitCode {
         Ok(CommandLine::Journal) => journal(&rt),
         Ok(CommandLine::Dump { load }) => dump(&rt, load),
         Ok(CommandLine::Serve(asked)) => serve(&rt, &rt, asked),
+        Ok(CommandLine::Explain(asked)) => explained(&rt, asked),
         Err(error) => Err(refuse(&rt, &error)),
     };
     match ended {

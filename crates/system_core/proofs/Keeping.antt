@@ -66,7 +66,7 @@ new at user statements.Checkpoints ok = tt
 new at user (statements.Export number only) ok = tt
 
 -- an allowed grant is of atoms of a table
-on_tables : (at : State) (user : User) (s : Statement) → verdict at user s ≡ Ok tt → OnTables at.tables (change_of at.tables user s)
+pub on_tables : (at : State) (user : User) (s : Statement) → verdict at user s ≡ Ok tt → OnTables at.tables (change_of at.tables user s)
 on_tables at user (statements.Grant privileges table users option) ok =
     let here : is_table at.tables table ≡ true = require-Ok _ _ (passed (checks at user (statements.Grant privileges table users option)) ok).0 in
     All-atoms (λ a. a.table ≡ table) (λ a. is_table at.tables a.table ≡ true) (atoms_at at.tables table privileges) (λ a of_this. ap (is_table at.tables) of_this ∙ here) (atoms-table table (columns_of at.tables table) privileges)
@@ -82,7 +82,7 @@ on_tables at user statements.Checkpoints ok = tt
 on_tables at user (statements.Export number only) ok = tt
 
 -- whoever grants may grant each of the atoms
-may : (at : State) (user : User) (privileges : List Privilege) (table : Name) (users : List User) (option : Bool) → verdict at user (statements.Grant privileges table users option) ≡ Ok tt
+pub may : (at : State) (user : User) (privileges : List Privilege) (table : Name) (users : List User) (option : Bool) → verdict at user (statements.Grant privileges table users option) ≡ Ok tt
     → All (λ atom. rights_of.may_grant at.rights.owners at.rights.in_force user atom ≡ true) (atoms_at at.tables table privileges)
 may at user privileges table users option ok =
     let May : Atom → Type 0 = λ atom. rights_of.may_grant at.rights.owners at.rights.in_force user atom ≡ true in

@@ -19,3 +19,4 @@ pub mod Entered
 pub mod Unworn
 pub mod Lawful
 pub mod Captured
+pub mod Accepted

@@ -1,8 +1,9 @@
 -- In a lawful journal the owner of a table is the same by its tables and by its rights, at each moment.
-use Rattle.std.proofs.Common.{◌≡◌, ℕ, zero, suc, Bool, true, false, cond, List, [], ◌∷◌, ◌++◌, Option, Some, None, take, refl, sym, ap, ◌∙◌, subst, append-nil, append_assoc, ⊎_elim}
+use Rattle.std.proofs.Common.{◌≡◌, ℕ, zero, suc, Bool, true, false, cond, List, [], ◌∷◌, ◌++◌, Option, Some, None, take, refl, sym, ap, ◌∙◌, subst, append-nil, append_assoc, ⊎_elim, length}
 use Rattle.std.specs.Option.{option_map}
 use Rattle.std.proofs.lemmas.Bool.{cases_Bool}
 use Rattle.std.proofs.lemmas.List.Sums.{fold-append}
+use Rattle.std.proofs.Math.Seq.{take-length}
 use Rattle.base_core.specs.Words.{same_name}
 use Rattle.base_core.specs.declared.name.Name.{Name}
 use Rattle.base_core.specs.declared.name.User.{User}
@@ -91,3 +92,7 @@ owners-from limits before (e ∷ es) h lawful (suc n) =
 -- **at each moment of a lawful journal**
 pub owners-at : (limits : Limits) (journal : List Entry) (point : Moment) → IsLawful limits journal → OwnersStand (journal_at journal point)
 owners-at limits journal point lawful = owners-from limits [] journal (λ name. refl) lawful point.0
+
+-- and at its end
+pub owners-whole : (limits : Limits) (journal : List Entry) → IsLawful limits journal → OwnersStand journal
+owners-whole limits journal lawful = subst OwnersStand (take-length journal) (owners-from limits [] journal (λ name. refl) lawful (length journal))

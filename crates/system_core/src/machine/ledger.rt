@@ -5,6 +5,7 @@ ghost use Rattle.tables_core.specs.Contents.{selected_rows, table_of};
 ghost use Rattle.grants_core.specs.History.{in_force_after};
 ghost use Rattle.monitor_core.specs.Verdict.{columns_of, is_change, allowed_by};
 ghost use Rattle.capture_core.specs.Image.{row_total};
+ghost use Rattle.grants_core.specs.Lawful.{AreLawful};
 ghost use Rattle.system_core.specs.Journal.{IsLawful, verdict_at, contents, changes, rights_at};
 ghost use Rattle.monitor_core.specs.Atoms.{columns_given};
 ghost use Rattle.capture_core.specs.Capturing.{begin_lack, CanGoOn, TellsProgress};
@@ -146,7 +147,8 @@ impl Ledger {
     /// The accepted changes, each as what it changes of rights. `NoMemory` where a request for
     /// memory was refused.
     pub fn changes(&self) -> Result<Vec<Change>, NoMemory>
-        ensures { IfOk result (λ found. found.items ≡ changes self.now.journal) }
+        ensures changes { IfOk result (λ found. found.items ≡ changes self.now.journal) }
+        ensures lawful { IfOk result (λ found. AreLawful found.items) }
     {
         changes_of(self.alloc, &self.tables, self.journal.as_slice())
     }

@@ -5,6 +5,7 @@ ghost use Rattle.grants_core.specs.History.{in_force_after};
 ghost use Rattle.monitor_core.specs.Verdict.{first_lack, is_change};
 ghost use Rattle.tables_core.specs.Contents.{table_of};
 ghost use Rattle.reader_core.specs.declared.statement.Statement.TheVariants as statements;
+ghost use Rattle.grants_core.specs.Lawful.{AreLawful};
 ghost use Rattle.system_core.specs.Journal.{verdict_at, contents, changes, rights_at};
 ghost use Rattle.system_core.specs.World.{opening, entry, moment_of, IsLawfulWorld};
 ghost use Rattle.system_core.specs.Judging.{checkpoint_checks, verdict_of};
@@ -131,7 +132,8 @@ impl System {
     /// both forms of REVOKE, as atoms in the order written, UPDATE without columns as that of every
     /// column that the table then had. `NoMemory` where a request for memory was refused.
     pub fn changes(&self) -> Result<Vec<Change>, NoMemory>
-        ensures { IfOk result (λ found. found.items ≡ changes self.now.journal) }
+        ensures changes { IfOk result (λ found. found.items ≡ changes self.now.journal) }
+        ensures lawful { IfOk result (λ found. AreLawful found.items) }
     {
         self.ledger.changes()
     }

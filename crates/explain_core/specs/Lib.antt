@@ -1,0 +1,11 @@
+pub mod Branches
+pub mod Chains
+pub mod Cuts
+pub mod Ends
+pub mod Falls
+pub mod Kept
+pub mod Life
+pub mod Lives
+pub mod Losses
+pub mod Reading
+pub mod Supports

@@ -1,0 +1,175 @@
+//! What would take a privilege from a user.
+ghost use Rattle.std.specs.Prelude.{◌≡◌, ◌&&◌, true, is_none, IfOk, All, filter};
+ghost use Rattle.std.specs.List.{list_any};
+ghost use Rattle.grants_core.specs.Content.{gives, has_made};
+ghost use Rattle.grants_core.specs.History.{in_force_after};
+ghost use Rattle.explain_core.specs.Losses.{is_of, holds_without, IsLoss, AreAllOf};
+ghost use Rattle.explain_core.specs.Losses.{IsLossBy, IsLossAlong};
+ghost use Rattle.explain_core.specs.Cuts.{IsCut};
+
+use crate::history::History;
+use crate::life::Life;
+use crate::why::Why;
+use base_core::{Atom, NoMemory, User};
+use grants_core::{Grant, KeptGrants, Owners};
+use std::alloc::Global;
+use std::slice;
+
+/// A revocation: its user, and from whom he revokes.
+#[derive(Drop)]
+pub struct Cut {
+    pub by: User,
+    pub whom: Vec<User>,
+}
+
+/// The owners, and the grants of one atom in force.
+#[derive(Clone, Copy)]
+struct Standing<'a> {
+    owners: &'a Owners,
+    atom: &'a Atom,
+    grants: &'a [Grant],
+}
+
+impl<'a> Standing<'a> {
+    /// To whom the grants by this user are, each once.
+    fn grantees(&self, alloc: Global, by: &User) -> Result<Vec<User>, NoMemory>
+        requires { All (λ g. is_of self.now.atom.now g ≡ true) self.now.grants.now }
+        ensures made { IfOk result (λ whom. All
+            (λ v. has_made self.now.grants.now by.now v self.now.atom.now ≡ true) whom.items) }
+        ensures all { IfOk result (λ whom. AreAllOf by.now self.now.grants.now whom.items) }
+    {
+        let mut whom = Vec::new(alloc);
+        for grant in self.grants {
+            if grant.grantor == *by && !whom.as_slice().contains(&grant.grantee) {
+                whom.push(grant.grantee)?;
+            }
+        }
+        Ok(whom)
+    }
+
+    /// Whether the user, who does not own the table, would hold the atom if this one revoked it
+    /// from these.
+    fn holds_without(
+        &self,
+        alloc: Global,
+        user: &User,
+        by: &User,
+        whom: &[User],
+    ) -> Result<bool, NoMemory>
+        ensures { IfOk result (λ holds. holds ≡ holds_without self.now.owners.now
+            self.now.grants.now self.now.atom.now user.now by.now whom.now) }
+    {
+        let atoms = slice::from_ref(self.atom);
+        let mut kept = KeptGrants::new(alloc);
+        for grant in self.grants {
+            if !grant.is_named(by, atoms, whom) {
+                kept.add(self.owners, grant)?;
+            }
+        }
+        Ok(gives_any(&kept.grants, user, self.atom))
+    }
+
+    /// Those of the users from whom this one has to revoke, so that the other loses the atom: each
+    /// is left out in turn, and stays out where the rest is enough.
+    fn needed(
+        &self,
+        alloc: Global,
+        user: &User,
+        by: &User,
+        whom: Vec<User>,
+    ) -> Result<Vec<User>, NoMemory>
+        requires { IsLoss self.now.owners.now self.now.grants.now self.now.atom.now user.now by.now
+            whom.items }
+        ensures { IfOk result (λ needed. IsLoss self.now.owners.now self.now.grants.now
+            self.now.atom.now user.now by.now needed.items) }
+    {
+        let mut needed = whom;
+        for _ in 0..needed.len() {
+            let Some(one) = needed.pop() else {
+                return Ok(needed);
+            };
+            if self.holds_without(alloc, user, by, &needed)? {
+                needed.insert(0, one)?;
+            }
+        }
+        Ok(needed)
+    }
+
+    /// The revocation by this user that takes the atom from the other, if one does. One by the
+    /// owner does.
+    fn cut_by(&self, alloc: Global, user: &User, by: &User) -> Result<Option<Cut>, NoMemory>
+        requires { All (λ g. is_of self.now.atom.now g ≡ true) self.now.grants.now }
+        ensures { IfOk result (λ cut. IsLossBy self.now.owners.now self.now.grants.now
+            self.now.atom.now user.now by.now cut) }
+    {
+        let whom = self.grantees(alloc, by)?;
+        if self.holds_without(alloc, user, by, &whom)? {
+            return Ok(None);
+        }
+        let whom = self.needed(alloc, user, by, whom)?;
+        Ok(Some(Cut { by: *by, whom }))
+    }
+
+    /// The first that takes it from him, by a grantor of the chain, from the last to the owner.
+    fn cut(&self, alloc: Global, user: &User, chain: &[Grant]) -> Result<Option<Cut>, NoMemory>
+        requires { All (λ g. is_of self.now.atom.now g ≡ true) self.now.grants.now }
+        ensures { IfOk result (λ cut. IsLossAlong self.now.owners.now self.now.grants.now
+            self.now.atom.now user.now chain.now cut) }
+    {
+        for grant in chain.iter().rev() {
+            if let Some(cut) = self.cut_by(alloc, user, &grant.grantor)? {
+                return Ok(Some(cut));
+            }
+        }
+        Ok(None)
+    }
+}
+
+/// Whether one of the grants gives the user the atom.
+fn gives_any(grants: &[Grant], user: &User, atom: &Atom) -> bool
+    ensures { result ≡ list_any (gives user.now atom.now) grants.now }
+{
+    grants.iter().any(|grant| grant.gives(user, atom))
+}
+
+/// Whether the grant stands, and is of the atom.
+fn stands_of(life: &Life, atom: &Atom) -> bool
+    ensures { result ≡ (is_none life.now.fell && is_of atom.now life.now.grant) }
+{
+    life.fell.is_none() && life.grant.atom == *atom
+}
+
+impl History {
+    /// The grants of the atom in force, in order.
+    fn standing_of(&self, alloc: Global, atom: &Atom) -> Result<Vec<Grant>, NoMemory>
+        ensures { IfOk result (λ grants. grants.items
+            ≡ filter (is_of atom.now) (in_force_after self.now)) }
+    {
+        let mut grants = Vec::new(alloc);
+        for life in &self.lives {
+            if stands_of(life, atom) {
+                grants.push(life.left())?;
+            }
+        }
+        Ok(grants)
+    }
+
+    /// A revocation after which the user no longer holds the atom: by the grantor who is nearest to
+    /// him of those on whom all his grants rest, and from no one who could be left out. None
+    /// exactly if he owns the table or does not hold it. `NoMemory` where a request for memory was
+    /// refused.
+    pub fn cut(&self, alloc: Global, user: &User, atom: &Atom) -> Result<Option<Cut>, NoMemory>
+        ensures { IfOk result (λ cut. IsCut self.now user.now atom.now cut) }
+    {
+        let Why::Holds { chain } = self.why(alloc, user, atom)? else {
+            return Ok(None);
+        };
+        let grants = self.standing_of(alloc, atom)?;
+        let standing = Standing {
+            owners: &self.owners,
+            atom,
+            grants: &grants,
+        };
+        standing.cut(alloc, user, &chain)
+    }
+}

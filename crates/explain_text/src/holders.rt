@@ -1,0 +1,183 @@
+//! Who holds which privileges on a table.
+
+use crate::lives::put_chain;
+use crate::past::{Owned, Past};
+use crate::privileges::{are_of_word, push_atom, put_privilege};
+use crate::prose::Prose;
+use crate::records::Records;
+use crate::rows::Rows;
+use crate::teller::Teller;
+use base_core::{Atom, Name, NoMemory, User};
+use explain_core::Life;
+use grants_core::{Holding, Key};
+use indexmap::IndexMap;
+use std::alloc::Global;
+
+const FIELDS: [&[u8]; 6] = [b"table", b"user", b"privilege", b"option", b"since", b"by"];
+
+/// The first grant in force by which somebody holds a privilege, and whether one has the option.
+#[derive(Clone, Copy)]
+struct Held {
+    number: u64,
+    option: bool,
+}
+
+/// For each user and privilege how he holds it, in the order of the first grants.
+type Holders = IndexMap<Holding, Held>;
+
+/// Notes a grant in force.
+fn note(holders: &mut Holders, life: &Life) -> Result<(), NoMemory> {
+    let Atom { table, kind } = life.grant.atom;
+    let holding = Holding {
+        user: life.grant.grantee,
+        privilege: Key(Atom { table, kind }),
+    };
+    let option = life.option_end.is_none();
+    if let Some(held) = holders.get_mut(&holding) {
+        held.option |= option;
+        return Ok(());
+    }
+    let number = life.grant.number;
+    holders.insert(holding, Held { number, option })?;
+    Ok(())
+}
+
+/// Who holds the privileges on the table, but for its owner.
+fn holders_of(
+    alloc: Global,
+    past: &Past<'_>,
+    table: &Name,
+    owner: &User,
+) -> Result<Holders, NoMemory> {
+    let mut holders = IndexMap::new(alloc);
+    for life in past.history.lives() {
+        let grant = &life.grant;
+        if life.fell.is_none() && grant.atom.table == *table && grant.grantee != *owner {
+            note(&mut holders, life)?;
+        }
+    }
+    Ok(holders)
+}
+
+/// Atoms of one word that the same users hold by the same chains.
+#[derive(Drop)]
+struct Group {
+    atoms: Vec<Atom>,
+    rows: Rows,
+}
+
+/// A row for who holds it: `  cy, with option   ann -@25-> cy`.
+fn push_holder(teller: &mut Teller<'_>, user: &User, held: Held) -> Result<(), NoMemory> {
+    let chain = teller.past.chain_to(teller.alloc, held.number)?;
+    let mut left = teller.indented(2)?;
+    left.put_name(&user.0)?;
+    if held.option {
+        left.put(b", with option")?;
+    }
+    let mut right = teller.indented(0)?;
+    put_chain(&mut right, &chain)?;
+    teller.rows.push(left, right.bytes)
+}
+
+/// The rows of an atom's holders.
+fn push_holders(teller: &mut Teller<'_>, holders: &Holders, atom: &Atom) -> Result<(), NoMemory> {
+    for (holding, held) in holders.iter() {
+        if holding.privilege.0 == *atom {
+            push_holder(teller, &holding.user, *held)?;
+        }
+    }
+    Ok(())
+}
+
+/// Adds an atom to the group of its word that has the same rows, or as a further group.
+fn add_atom(
+    alloc: Global,
+    groups: &mut Vec<Group>,
+    atom: &Atom,
+    rows: Rows,
+) -> Result<(), NoMemory> {
+    for at in 0..groups.len() {
+        if are_of_word(&groups[at].atoms, &atom.kind) && groups[at].rows.same(&rows) {
+            return push_atom(&mut groups[at].atoms, atom);
+        }
+    }
+    let mut atoms = Vec::new(alloc);
+    push_atom(&mut atoms, atom)?;
+    groups.reserve(1)?;
+    groups.push_reserved(Group { atoms, rows });
+    Ok(())
+}
+
+fn groups_of(
+    teller: &mut Teller<'_>,
+    holders: &Holders,
+    atoms: &[Atom],
+) -> Result<Vec<Group>, NoMemory> {
+    let mut groups = Vec::new(teller.alloc);
+    for atom in atoms {
+        push_holders(teller, holders, atom)?;
+        let rows = teller.take_rows();
+        add_atom(teller.alloc, &mut groups, atom, rows)?;
+    }
+    Ok(groups)
+}
+
+/// The line above a group, `SELECT on pay @27`, or that nobody but the owner holds it.
+fn push_head(
+    teller: &mut Teller<'_>,
+    table: &Name,
+    owned: &Owned,
+    group: &Group,
+) -> Result<(), NoMemory> {
+    let mut left = teller.indented(0)?;
+    put_privilege(&mut left, teller.past.tables, &group.atoms)?;
+    left.put_all(&[b" on ", table.as_bytes(), b" "])?;
+    left.put_moment(teller.past.now())?;
+    if group.rows.is_empty() {
+        left.put_all(&[b": nobody but ", owned.owner.0.as_bytes()])?;
+    }
+    teller.rows.push_alone(left)
+}
+
+/// Appends who holds the atoms on the table: its owner, and for each privilege who holds it by
+/// which chain.
+pub fn put_holders(
+    text: &mut Prose,
+    alloc: Global,
+    past: &Past<'_>,
+    table: &Name,
+    atoms: &[Atom],
+) -> Result<(), NoMemory> {
+    let mut teller = Teller::new(alloc, *past)?;
+    let Some(owned) = past.owned(table) else {
+        return Ok(());
+    };
+    let holders = holders_of(alloc, past, table, &owned.owner)?;
+    let groups = groups_of(&mut teller, &holders, atoms)?;
+    teller.push_owner(0, table, &owned)?;
+    for group in groups {
+        push_head(&mut teller, table, &owned, &group)?;
+        let Group { rows, .. } = group;
+        teller.rows.append(rows)?;
+    }
+    teller.rows.write(text)
+}
+
+/// The records of those who hold the atoms on the table by grants in force.
+pub fn holders_as_records(
+    alloc: Global,
+    past: &Past<'_>,
+    atoms: &[Atom],
+) -> Result<Vec<u8>, NoMemory> {
+    let mut records = Records::under(alloc, &FIELDS)?;
+    for life in past.history.lives() {
+        if life.fell.is_none() && atoms.contains(&life.grant.atom) {
+            records.put_holding(&life.grant.grantee.0, &life.grant.atom)?;
+            records.put_flag(life.option_end.is_none())?;
+            records.put_moment(Some(life.grant.moment))?;
+            records.put_name(&life.grant.grantor.0)?;
+            records.end()?;
+        }
+    }
+    records.finish()
+}

@@ -1,0 +1,290 @@
+//! What a change that is only supposed would take, and from whom.
+ghost use Rattle.std.specs.Prelude.{◌<◌, ◌≤◌, length};
+
+use crate::folds::{Fold, folds_of};
+use crate::lives::{put_arrow, put_chain, put_option};
+use crate::outcomes::{Outcome, Outcomes, users_of};
+use crate::past::Past;
+use crate::privileges::{are_of_word, atoms_of_table, push_atom, put_privilege};
+use crate::prose::Prose;
+use crate::records::Records;
+use crate::teller::Teller;
+use base_core::{Atom, Moment, Name, NoMemory, User};
+use explain_core::Life;
+use grants_core::{Holding, Key};
+use monitor_core::columns_of;
+use std::alloc::Global;
+
+const FIELDS: [&[u8]; 9] = [
+    b"table",
+    b"user",
+    b"privilege",
+    b"option",
+    b"since",
+    b"by",
+    b"how",
+    b"line",
+    b"outcome",
+];
+
+/// Atoms of one word of which the same is left to a user.
+#[derive(Drop)]
+struct Left {
+    atoms: Vec<Atom>,
+    /// Whether he keeps them.
+    keeps: bool,
+    /// By what he does.
+    by: Vec<u8>,
+}
+
+/// How a grant is taken.
+fn put_taking(text: &mut Prose, past: &Past<'_>, life: &Life, at: Moment) -> Result<(), NoMemory> {
+    if life.fell != Some(at) {
+        return text.put(b"option revoked: ");
+    }
+    text.put(if past.is_struck(life) {
+        b"revoked: ".as_slice()
+    } else {
+        b"falls: ".as_slice()
+    })
+}
+
+/// Whether the atoms of the fold are all that the change of the moment names.
+fn is_all_named(past: &Past<'_>, fold: &Fold, at: Moment) -> bool {
+    let named = past.atoms_named_at(at);
+    named.len() == fold.atoms.len() && named.iter().all(|atom| fold.atoms.contains(atom))
+}
+
+/// Whether the second fold is of the statement of the first, and differs in its user alone.
+fn are_alike(past: &Past<'_>, one: &Fold, other: &Fold) -> bool {
+    one.life.grant.moment == other.life.grant.moment
+        && one.life.fell == other.life.fell
+        && one.life.option_end == other.life.option_end
+        && past.is_struck(&one.life) == past.is_struck(&other.life)
+        && one.atoms == other.atoms
+}
+
+/// How many folds, from the first on, are alike.
+fn alike_ahead(past: &Past<'_>, folds: &[Fold]) -> usize
+    requires { 0 < length folds.now }
+    ensures some { 0 < result }
+    ensures most { result ≤ length folds.now }
+{
+    for count in 1..folds.len() {
+        if !are_alike(past, &folds[0], &folds[count]) {
+            return count;
+        }
+    }
+    folds.len()
+}
+
+/// The grantees of folds, each with a comma before it.
+fn put_more_grantees(text: &mut Prose, folds: &[Fold]) -> Result<(), NoMemory> {
+    for fold in folds {
+        text.put_all(&[b", ", fold.life.grant.grantee.0.as_bytes()])?;
+    }
+    Ok(())
+}
+
+/// `  falls: @13 bob -> cy, di, with option`, and the line that granted it, of folds that are
+/// alike. The privilege is told where it is not all that the change names.
+fn push_taken(teller: &mut Teller<'_>, folds: &[Fold], at: Moment) -> Result<(), NoMemory> {
+    let Some((first, others)) = folds.split_first() else {
+        return Ok(());
+    };
+    let mut left = teller.indented(2)?;
+    put_taking(&mut left, &teller.past, &first.life, at)?;
+    put_arrow(&mut left, &first.life.grant)?;
+    put_more_grantees(&mut left, others)?;
+    if !is_all_named(&teller.past, first, at) {
+        left.put(b", ")?;
+        put_privilege(&mut left, teller.past.tables, &first.atoms)?;
+    }
+    if first.life.fell == Some(at) {
+        put_option(&mut left, &first.life)?;
+    }
+    teller.push_quoted(left, first.life.grant.moment)
+}
+
+fn push_all_taken(teller: &mut Teller<'_>, lives: &[Life], at: Moment) -> Result<(), NoMemory> {
+    let folds = folds_of(teller.alloc, lives)?;
+    let mut rest = folds.as_slice();
+    while !rest.is_empty() {
+        let (front, behind) = rest.split_at(alike_ahead(&teller.past, rest));
+        push_taken(teller, front, at)?;
+        rest = behind;
+    }
+    Ok(())
+}
+
+/// By what a user keeps a privilege.
+fn put_kept(
+    text: &mut Prose,
+    teller: &Teller<'_>,
+    outcome: Outcome,
+    is_owner: bool,
+) -> Result<(), NoMemory> {
+    if is_owner {
+        return text.put(b" as its owner");
+    }
+    if let Some(number) = outcome.kept {
+        text.put(b" by ")?;
+        put_chain(text, &teller.past.chain_to(teller.alloc, number)?)?;
+    }
+    if outcome.lost_option && !outcome.has_option {
+        text.put(b", but could not grant it on")?;
+    }
+    Ok(())
+}
+
+/// Adds an atom to those of which the same is left, or by itself.
+fn add_left(
+    alloc: Global,
+    lefts: &mut Vec<Left>,
+    atom: &Atom,
+    keeps: bool,
+    by: Vec<u8>,
+) -> Result<(), NoMemory> {
+    for at in 0..lefts.len() {
+        let is_same = lefts[at].keeps == keeps && lefts[at].by == by;
+        if is_same && are_of_word(&lefts[at].atoms, &atom.kind) {
+            return push_atom(&mut lefts[at].atoms, atom);
+        }
+    }
+    let mut atoms = Vec::new(alloc);
+    push_atom(&mut atoms, atom)?;
+    lefts.reserve(1)?;
+    lefts.push_reserved(Left { atoms, keeps, by });
+    Ok(())
+}
+
+/// What is left to a user of the atoms.
+fn lefts_of(
+    teller: &Teller<'_>,
+    outcomes: &Outcomes,
+    user: &User,
+    atoms: &[Atom],
+) -> Result<Vec<Left>, NoMemory> {
+    let mut lefts = Vec::new(teller.alloc);
+    for atom in atoms {
+        let holding = Holding {
+            user: *user,
+            privilege: Key(*atom),
+        };
+        if let Some(outcome) = outcomes.of.get(&holding) {
+            let is_owner = teller.past.history.owns(user, atom);
+            let keeps = is_owner || outcome.kept.is_some();
+            let mut by = teller.indented(0)?;
+            if keeps {
+                put_kept(&mut by, teller, *outcome, is_owner)?;
+            }
+            add_left(teller.alloc, &mut lefts, atom, keeps, by.bytes)?;
+        }
+    }
+    Ok(lefts)
+}
+
+/// `  bob would lose SELECT on pay`, for each privilege of his of which a grant is taken.
+fn push_lefts(
+    teller: &mut Teller<'_>,
+    user: &User,
+    table: &Name,
+    lefts: &[Left],
+) -> Result<(), NoMemory> {
+    for one in lefts {
+        let mut left = teller.indented(2)?;
+        left.put_name(&user.0)?;
+        left.put(if one.keeps {
+            b" would keep ".as_slice()
+        } else {
+            b" would lose ".as_slice()
+        })?;
+        put_privilege(&mut left, teller.past.tables, &one.atoms)?;
+        left.put_all(&[b" on ", table.as_bytes(), &one.by])?;
+        teller.rows.push_alone(left)?;
+    }
+    Ok(())
+}
+
+/// What is left to each user whose grants on the table are taken.
+fn push_outcomes(
+    teller: &mut Teller<'_>,
+    outcomes: &Outcomes,
+    table: &Name,
+) -> Result<(), NoMemory> {
+    let columns = columns_of(teller.past.tables, *table);
+    let atoms = atoms_of_table(teller.alloc, *table, columns)?;
+    for user in &users_of(teller.alloc, outcomes)? {
+        let lefts = lefts_of(teller, outcomes, user, &atoms)?;
+        push_lefts(teller, user, table, &lefts)?;
+    }
+    Ok(())
+}
+
+/// Appends what the last change takes, which is only supposed: the grants that it revokes, those
+/// that fall with them, and who loses what, or keeps it by which chain.
+pub fn put_consequences(text: &mut Prose, alloc: Global, past: &Past<'_>) -> Result<(), NoMemory> {
+    let at = past.now();
+    let mut teller = Teller::new(alloc, *past)?;
+    let mut left = teller.indented(0)?;
+    left.put_moment(at)?;
+    left.put(b" would be ")?;
+    teller.quotes.put_statement(&mut left, past, at)?;
+    teller.rows.push_alone(left)?;
+    let lives = past.history.taken_at(alloc, at)?;
+    match lives.first() {
+        Some(first) => {
+            push_all_taken(&mut teller, &lives, at)?;
+            let outcomes = Outcomes::read(alloc, past, &lives, at)?;
+            push_outcomes(&mut teller, &outcomes, &first.grant.atom.table)?;
+        }
+        None => {
+            let mut left = teller.indented(2)?;
+            left.put(b"it takes nothing from anybody")?;
+            teller.rows.push_alone(left)?;
+        }
+    }
+    teller.rows.write(text)
+}
+
+/// How a grant is taken, in a word.
+fn taking_word(past: &Past<'_>, life: &Life, at: Moment) -> &'static [u8] {
+    if life.fell != Some(at) {
+        b"option"
+    } else if past.is_struck(life) {
+        b"revoked"
+    } else {
+        b"fell"
+    }
+}
+
+/// What is left to the grantee, in a word or two.
+fn outcome_words(past: &Past<'_>, outcomes: &Outcomes, life: &Life) -> &'static [u8] {
+    if past.history.owns(&life.grant.grantee, &life.grant.atom) {
+        return b"keeps";
+    }
+    match outcomes.of_life(life) {
+        Some(outcome) if outcome.kept.is_none() => b"loses",
+        Some(outcome) if outcome.lost_option && !outcome.has_option => b"keeps without option",
+        _ => b"keeps",
+    }
+}
+
+/// A record for each grant that the last change takes, which is only supposed, or its option.
+pub fn consequences_as_records(alloc: Global, past: &Past<'_>) -> Result<Vec<u8>, NoMemory> {
+    let at = past.now();
+    let lives = past.history.taken_at(alloc, at)?;
+    let outcomes = Outcomes::read(alloc, past, &lives, at)?;
+    let mut records = Records::under(alloc, &FIELDS)?;
+    for life in &lives {
+        records.put_holding(&life.grant.grantee.0, &life.grant.atom)?;
+        records.put_flag(life.loses_option_at(at))?;
+        records.put_moment(Some(life.grant.moment))?;
+        records.put_name(&life.grant.grantor.0)?;
+        records.put(taking_word(past, life, at))?;
+        records.put_any(past.line_of(life.grant.moment))?;
+        records.put(outcome_words(past, &outcomes, life))?;
+        records.end()?;
+    }
+    records.finish()
+}

@@ -1,0 +1,98 @@
+//! What is asked, and how it is answered.
+
+/// A question about the rights that a script makes, in the words of the command line.
+#[derive(Clone, Copy)]
+pub enum Question<'a> {
+    /// Why the user holds the privilege on the table, or why he does not.
+    Why {
+        user: &'a str,
+        privilege: &'a str,
+        table: &'a str,
+    },
+    /// Who holds the privileges on the table, or this one alone.
+    Who {
+        table: &'a str,
+        privilege: Option<&'a str>,
+    },
+    /// Every right in force.
+    Rights,
+    /// Every grant that fell.
+    Fell,
+    /// Every grant that was ever made.
+    Grants,
+    /// What this line would take.
+    If {
+        line: &'a str,
+    },
+    /// What would take the privilege from the user.
+    Cut {
+        user: &'a str,
+        privilege: &'a str,
+        table: &'a str,
+    },
+}
+
+/// The form of an answer.
+#[derive(Clone, Copy, PartialEq, Eq)]
+pub enum Format {
+    /// For people.
+    Text,
+    /// Records with commas, under a line that names their fields.
+    Csv,
+    /// A graph, as the programs of Graphviz read it.
+    Dot,
+}
+
+impl<'a> Question<'a> {
+    /// The word of the command line.
+    pub fn word(&self) -> &'static [u8] {
+        match self {
+            Question::Why { .. } => b"why",
+            Question::Who { .. } => b"who",
+            Question::Rights => b"rights",
+            Question::Fell => b"fell",
+            Question::Grants => b"grants",
+            Question::If { .. } => b"if",
+            Question::Cut { .. } => b"cut",
+        }
+    }
+
+    /// The word for the user, if it has one.
+    pub fn user(&self) -> &'a str {
+        match self {
+            Question::Why { user, .. } | Question::Cut { user, .. } => *user,
+            _ => "",
+        }
+    }
+
+    /// The word for the table, if it has one.
+    pub fn table(&self) -> &'a str {
+        match self {
+            Question::Why { table, .. }
+            | Question::Who { table, .. }
+            | Question::Cut { table, .. } => *table,
+            _ => "",
+        }
+    }
+
+    /// The words for the privilege, if it has some.
+    pub fn privilege(&self) -> &'a str {
+        match self {
+            Question::Why { privilege, .. } | Question::Cut { privilege, .. } => *privilege,
+            Question::Who { privilege, .. } => privilege.unwrap_or(""),
+            _ => "",
+        }
+    }
+
+    /// Whether it can be answered in this form: as a graph only what is of one table.
+    pub fn has_format(&self, format: Format) -> bool {
+        match self {
+            Question::Why { .. } | Question::Who { .. } => true,
+            Question::Rights
+            | Question::Fell
+            | Question::Grants
+            | Question::If { .. }
+            | Question::Cut { .. } => format != Format::Dot,
+        }
+    }
+}
