@@ -10,6 +10,7 @@ use capture_core::{Capture, Image, Progress};
 use grants_core::Authority;
 use graph_core::Graph;
 use std::alloc::Global;
+use std::mem::forget;
 use std::process::Abort;
 use std::sync::Arc;
 use tables_core::Tables;
@@ -166,6 +167,7 @@ fn a_step_takes_k_records(rt: HostRuntime) {
     assert!(rt; matches!(state.step(&rt, 2), Progress::Done(_)));
     assert!(rt; state.capture.active() == None);
     assert!(rt; state.tables.left() == 0 && state.rights.left() == 0);
+    forget(state);
 }
 
 #[test]
@@ -182,6 +184,7 @@ fn one_at_a_time_and_two_in_all(rt: HostRuntime) {
     assert!(rt; state.give_up() == Some((2, 5)));
     assert!(rt; state.begin(&rt) == Err(Lack::Full(What::Checkpoints)));
     assert!(rt; state.capture.active() == None);
+    forget(state);
 }
 
 /// The capture after one that was given up has all records, as they are then.
@@ -198,6 +201,7 @@ fn the_next_capture_is_whole(rt: HostRuntime) {
     has_rows(&rt, &image, 0, "a", &[10, 11]);
     has_rows(&rt, &image, 1, "b", &[20]);
     has_rows(&rt, &image, 2, "c", &[30]);
+    forget(state);
 }
 
 /// Changes rows, tables and rights.
@@ -232,6 +236,7 @@ fn an_image_is_the_state_at_the_begin(rt: HostRuntime) {
     has_rows(&rt, &image, 2, "c", &[30]);
     assert!(rt; image.grants.len() == 2);
     assert!(rt; image.holds(bob, &a) && !image.holds(bob, &b));
+    forget(state);
 }
 
 /// The owner of a granted SELECT of it to zoe, to ann with the option, and ann to bob. No table has
@@ -282,6 +287,7 @@ fn an_image_has_the_options_of_its_begin(rt: HostRuntime) {
     has_grant(&rt, &image, 0, "a", "zoe", false);
     has_grant(&rt, &image, 1, "a", "ann", true);
     has_grant(&rt, &image, 2, "ann", "bob", false);
+    forget(state);
 }
 
 /// One that was revoked before is not.
@@ -295,6 +301,7 @@ fn an_image_has_no_option_revoked_before(rt: HostRuntime) {
     has_grant(&rt, &image, 0, "a", "zoe", false);
     has_grant(&rt, &image, 1, "a", "ann", false);
     has_grant(&rt, &image, 2, "a", "bob", false);
+    forget(state);
 }
 
 /// A capture of nothing has one record.
@@ -311,4 +318,5 @@ fn a_capture_of_nothing(rt: HostRuntime) {
         }
         _ => panic!(rt; "a capture is not finished"),
     }
+    forget((tables, rights, capture));
 }

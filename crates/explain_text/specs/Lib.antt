@@ -1,0 +1,4 @@
+pub mod Supposing
+pub use Rattle.system_core.specs.Journal
+pub use Rattle.system_core.specs.World
+pub use Rattle.load_core.specs.Loader

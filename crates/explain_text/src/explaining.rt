@@ -12,12 +12,11 @@ use crate::past::Past;
 use crate::privileges::{atoms_named, atoms_of_table, table_of, user_of};
 use crate::prose::Prose;
 use crate::question::{Format, Question};
-use crate::reading::history_of;
 use crate::reasons::put_reasons_of;
 use crate::rights::{fallen_records, grants_made, put_all_fallen, rights_in_force};
 use crate::steps::steps_of;
-use crate::supposing::suppose;
 use base_core::{Atom, Name, NoMemory, Sink, User, write_all};
+use explain_core::History;
 use load_core::Replayed;
 use monitor_core::columns_of;
 use std::alloc::Global;
@@ -166,42 +165,18 @@ fn answer_of(
     })
 }
 
-/// The answer to a question of what was replayed.
-fn answer_to(
-    alloc: Global,
-    replayed: &mut Replayed,
-    question: &Question<'_>,
-    format: Format,
-) -> Result<Answer, Unanswered> {
-    if !question.has_format(format) {
-        return Err(Unanswered::NoGraph);
-    }
-    if let Question::If { line } = question {
-        suppose(alloc, &mut replayed.system, *line)?;
-    }
-    let history = history_of(alloc, &replayed.system)?;
-    let past = Past {
-        history: &history,
-        tables: replayed.system.tables(),
-        journal: replayed.system.journal(),
-        lines: replayed.lines.as_slice(),
-    };
-    answer_of(alloc, &past, question, format)
-}
-
 /// Writes the answer to a question about the rights that a script made, and has the writer hand it
-/// on. Says whether it is yes: of `why`, that he holds all of what was asked; of `cut`, that he
-/// does not own the table; of any other question always.
+/// on. The history is that of what was replayed, as [`history_asked`] gives it. Says whether the
+/// answer is yes: of `why`, that he holds all of what was asked; of `cut`, that he does not own the
+/// table; of any other question always.
 ///
 /// - `Write` exactly if the writer has failed. A front of the answer was written.
 /// - `Unanswered` if the question has no answer, by its words or since a request for memory was
 ///   refused. Nothing was written.
-///
-/// A question about a line that is only supposed carries that out in the core, which is then of no
-/// further use.
 pub fn explain<W: Sink>(
     alloc: Global,
-    replayed: &mut Replayed,
+    history: &History,
+    replayed: &Replayed,
     question: &Question<'_>,
     format: Format,
     writer: &mut W,
@@ -211,7 +186,13 @@ pub fn explain<W: Sink>(
     ensures unanswered { (why : reasons) → result ≡ Err (ExplainFault.Unanswered why)
         → Keeps (W.taken writer.old) (W.taken writer.new) }
 {
-    let answer = answer_to(alloc, replayed, question, format)?;
+    let past = Past {
+        history,
+        tables: replayed.system.tables(),
+        journal: replayed.system.journal(),
+        lines: replayed.lines.as_slice(),
+    };
+    let answer = answer_of(alloc, &past, question, format)?;
     write_all(writer, &answer.text)?;
     writer.flush()?;
     Ok(answer.is_yes)

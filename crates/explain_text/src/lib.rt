@@ -1,8 +1,12 @@
 //! Questions about rights, and their answers as text.
 //!
-//! [`explain`] is the one contract: it answers a [`Question`] about the rights that a script made,
-//! in a [`Format`]. What it says is what the [`History`](explain_core::History) of the script's
-//! changes tells, with each moment's line quoted.
+//! [`history_asked`] gives the [`History`](explain_core::History) that a [`Question`] is about: that
+//! of the changes which a script made, and of the one that the question supposes. By it [`explain`]
+//! writes the answer in a [`Format`], with each moment's line quoted.
+//!
+//! **The contract**: the history is that of the core's journal, and a supposed line is entered as a
+//! session's would be. `explain` fails exactly where its writer does, and writes nothing where there
+//! is no answer.
 //!
 //! ```text
 //! eve lacks SELECT on pay @23
@@ -23,7 +27,8 @@
 //!
 //! # Cost
 //!
-//! The history is read once. Each question goes over its lives once for each atom that it asks for,
+//! The history is read once. Who ends behind the answer may forget it: to let it go takes a call
+//! for each change. Each question goes over its lives once for each atom that it asks for,
 //! `why` and `if` besides over chains and descents, and `why` of what was lost over the lives of
 //! its privilege for each step of a descent. The text is gathered in memory before it is written.
 #![tactic(auto)]
@@ -50,9 +55,9 @@ mod records;
 mod rights;
 mod rows;
 mod steps;
-mod supposing;
 mod teller;
 
 pub use explaining::explain;
 pub use fault::{ExplainFault, Unanswered, explain_fault_text};
 pub use question::{Format, Question};
+pub use reading::history_asked;

@@ -1,4 +1,6 @@
 //! What is asked, and how it is answered.
+ghost use Rattle.std.specs.Prelude.{◌≡◌, option_map};
+ghost use Rattle.explain_text.specs.Supposing.{supposed_line};
 
 /// A question about the rights that a script makes, in the words of the command line.
 #[derive(Clone, Copy)]
@@ -81,6 +83,21 @@ impl<'a> Question<'a> {
             Question::Why { privilege, .. } | Question::Cut { privilege, .. } => *privilege,
             Question::Who { privilege, .. } => privilege.unwrap_or(""),
             _ => "",
+        }
+    }
+
+    /// The line that it supposes, if it supposes one.
+    pub fn line(&self) -> Option<&'a str>
+        ensures { option_map (λ line. line.now) result ≡ supposed_line self.now }
+    {
+        match self {
+            Question::If { line } => Some(*line),
+            Question::Why { .. }
+            | Question::Who { .. }
+            | Question::Rights
+            | Question::Fell
+            | Question::Grants
+            | Question::Cut { .. } => None,
         }
     }
 

@@ -1,12 +1,52 @@
-//! The history of a core's rights.
+//! The history that a question is about.
+ghost use Rattle.std.specs.Prelude.{◌≡◌, None, IfOk, OnOk};
+ghost use Rattle.system_core.specs.Journal.{changes};
+ghost use Rattle.load_core.specs.Loader.{EntersLine};
+ghost use Rattle.explain_text.specs.Supposing.{supposed_line, Supposes};
 
-use base_core::NoMemory;
+use crate::fault::Unanswered;
+use crate::question::{Format, Question};
 use explain_core::History;
+use load_core::{Replayed, enter_line, is_out_of_memory};
 use std::alloc::Global;
 use system_core::System;
 
-/// The history of the rights that a core's journal makes. `NoMemory` where a request for memory was
-/// refused.
-pub fn history_of(alloc: Global, system: &System) -> Result<History, NoMemory> {
-    History::read(alloc, system.changes()?)
+/// Carries the line's change out in the core, which is not to be used for anything else any more.
+/// The error is `NoMemory` where a request for memory was refused, and else names why the change
+/// would not be done.
+fn suppose(alloc: Global, system: &mut System, line: &str) -> Result<(), Unanswered>
+    ensures { OnOk result (EntersLine system.old line.now None system.new) }
+{
+    match enter_line(alloc, &mut Vec::new(alloc), system, line.as_bytes()) {
+        None => Ok(()),
+        Some(why) => Err(if is_out_of_memory(&why) {
+            Unanswered::NoMemory
+        } else {
+            Unanswered::Undone(why)
+        }),
+    }
+}
+
+/// The history of the rights that were made by what was replayed. A line that the question supposes
+/// is carried out before, in the core, which is then of no use but to [`explain`](crate::explain).
+///
+/// The error names why the question has no answer: it has none in this form; its line would not be
+/// done; or a request for memory was refused.
+pub fn history_asked(
+    alloc: Global,
+    replayed: &mut Replayed,
+    question: &Question<'_>,
+    format: Format,
+) -> Result<History, Unanswered>
+    ensures supposed { OnOk result
+        (Supposes (supposed_line question.now) replayed.old.world replayed.new.world) }
+    ensures history { IfOk result (λ history. history ≡ changes replayed.new.world.journal) }
+{
+    if !question.has_format(format) {
+        return Err(Unanswered::NoGraph);
+    }
+    if let Some(line) = question.line() {
+        suppose(alloc, &mut replayed.system, line)?;
+    }
+    Ok(History::read(alloc, replayed.system.changes()?)?)
 }

@@ -3,8 +3,8 @@ ghost use Rattle.std.specs.Prelude.{◌≡◌, false};
 
 use crate::command_line::Explaining;
 use crate::running::output;
-use base_core::StdSource;
-use explain_text::{ExplainFault, Question, explain, explain_fault_text};
+use base_core::{Sink, StdSource};
+use explain_text::{ExplainFault, Question, explain, explain_fault_text, history_asked};
 use lines_core::{NO_MEMORY, SessionFault, Steady, fault_text, give_up};
 use load_core::{ReplayFault, Replayed, replay};
 use std::io::Write;
@@ -56,18 +56,29 @@ fn replayed_to(rt: &HostRuntime, at: Option<u64>) -> Result<Replayed, ExitCode> 
     }
 }
 
+/// Writes the answer to a question about what was replayed, and says whether it is yes.
+fn answer<W: Sink>(
+    rt: &HostRuntime,
+    replayed: &mut Replayed,
+    asked: &Explaining<'_>,
+    writer: &mut W,
+) -> Result<bool, ExplainFault>
+    requires { W.failed writer.old ≡ false }
+{
+    let (question, format) = (&asked.question, asked.format);
+    let history = history_asked(rt.alloc(), replayed, question, format)?;
+    let answered = explain(rt.alloc(), &history, replayed, question, format, writer);
+    // The process ends behind this, and its memory goes back as a whole.
+    forget(history);
+    answered
+}
+
 /// Answers a question about the rights that the lines of standard input make. The status is 0 if
 /// the answer is yes, and 1 if it is no.
 pub fn explained(rt: &HostRuntime, asked: Explaining<'_>) -> Result<ExitCode, ExitCode> {
     let mut writer = output(rt)?;
     let mut replayed = replayed_to(rt, asked.at)?;
-    let answered = explain(
-        rt.alloc(),
-        &mut replayed,
-        &asked.question,
-        asked.format,
-        &mut writer,
-    );
+    let answered = answer(rt, &mut replayed, &asked, &mut writer);
     // The process ends here, and its memory goes back as a whole.
     forget(replayed);
     match answered {
