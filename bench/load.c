@@ -1,7 +1,8 @@
 /* Clients of `sysr serve`, each on a thread: load PORT CLIENTS STATEMENTS PIPELINED KIND. Each client sends so
    many statements, INSERT or SELECT by the kind, as many at a time as are pipelined, and waits for their answers.
-   It prints statements a second, and the 50th, 99th and 99.9th percentile of the time to the answers of one
-   write, in microseconds. */
+   RPUSH is for a server of Redis: what it answers has one line feed too, also to the first two lines, which are
+   faults to it. It prints statements a second, and the 50th, 99th and 99.9th percentile of the time to the answers of
+   one write, in microseconds. */
 #include <arpa/inet.h>
 #include <netinet/in.h>
 #include <netinet/tcp.h>
@@ -15,7 +16,8 @@
 
 enum { MOST_CLIENTS = 64, LONGEST = 80 };
 
-static int port, clients, statements, pipelined, inserts;
+static int port, clients, statements, pipelined;
+static const char *kind;
 static double *times[MOST_CLIENTS];
 
 static double now(void) {
@@ -46,6 +48,15 @@ static void say(int stream, const char *text, size_t length) {
     }
 }
 
+/* The statement of this number, as text. */
+static int statement(char *text, long own, int n) {
+    if (strcmp(kind, "INSERT") == 0)
+        return sprintf(text, "INSERT INTO t%ld VALUES ('row %d', %d)\n", own, n, n);
+    if (strcmp(kind, "SELECT") == 0)
+        return sprintf(text, "SELECT name FROM t%ld WHERE amount = %d\n", own, n);
+    return sprintf(text, "*3\r\n$5\r\nRPUSH\r\n$3\r\nt%02ld\r\n$10\r\n%010d\r\n", own, n);
+}
+
 static void *client(void *number) {
     long own = (long)number;
     int stream = socket(AF_INET, SOCK_STREAM, 0), on = 1;
@@ -61,9 +72,7 @@ static void *client(void *number) {
     for (int n = 0; n < statements; n += pipelined) {
         length = 0;
         for (int k = 0; k < pipelined; k++)
-            length += inserts
-                ? sprintf(text + length, "INSERT INTO t%ld VALUES ('row %d', %d)\n", own, n + k, n + k)
-                : sprintf(text + length, "SELECT name FROM t%ld WHERE amount = %d\n", own, n + k);
+            length += statement(text + length, own, n + k);
         double start = now();
         say(stream, text, length);
         read_lines(stream, pipelined);
@@ -85,7 +94,7 @@ int main(int count, char **words) {
     if (count != 6)
         return 2;
     port = atoi(words[1]), clients = atoi(words[2]), statements = atoi(words[3]), pipelined = atoi(words[4]);
-    inserts = strcmp(words[5], "INSERT") == 0;
+    kind = words[5];
     if (clients < 1 || clients > MOST_CLIENTS || pipelined < 1 || statements < pipelined)
         return 2;
     int writes = statements / pipelined;

@@ -43,9 +43,11 @@ def kinds():
     before, one = filled(ROWS), "SELECT a FROM t WHERE b = 1000"
     yield "SELECT from no row, a statement", filled(0), by("ann", ["SELECT a FROM t WHERE b < 0"] * TIMES), TIMES
     for name, statement, parts in (
-        ("SELECT of one row of 2,000, a statement", one, 1),
+        ("SELECT of one row by an index, a statement", one, 1),
+        ("SELECT of 5 rows by numbers, a row of all", "SELECT a FROM t WHERE b >= 1000 AND b < 1005", ROWS),
+        ("SELECT of 5 rows by texts, a row of all", "SELECT a FROM t WHERE a >= '0000001995'", ROWS),
         ("SELECT of all rows, a row", "SELECT * FROM t", ROWS),
-        ("UPDATE of one row of 2,000, a statement", "UPDATE t SET b = 1000 WHERE b = 1000", 1),
+        ("UPDATE of one row by an index, a statement", "UPDATE t SET b = 1000 WHERE b = 1000", 1),
         ("UPDATE of all rows to a number, a row", "UPDATE t SET b = 7", ROWS),
         ("UPDATE of all rows to a text, a row", "UPDATE t SET a = 'another'", ROWS),
     ):
@@ -54,7 +56,7 @@ def kinds():
     yield "EXPORT by the owner, a row", shared(ROWS, "SELECT"), by("ann", ["EXPORT 1"] * TIMES), TIMES * ROWS
     yield "EXPORT by a grantee, a row", shared(ROWS, "SELECT"), by("bob", ["EXPORT 1"] * TIMES), TIMES * ROWS
     yield "EXPORT cut to a column, a row", shared(ROWS, "SELECT (a)"), by("bob", ["EXPORT 1"] * TIMES), TIMES * ROWS
-    yield "SELECT by a grantee, of one row of 2,000", shared(ROWS, "SELECT"), by("bob", [one] * TIMES), TIMES
+    yield "SELECT by a grantee, of one row by an index", shared(ROWS, "SELECT"), by("bob", [one] * TIMES), TIMES
     for user in ("ann", "bob"):
         for listed in ("c31", "*"):
             yield f"{user}: SELECT {listed} of 32 columns", wide(), by(user, [f"SELECT {listed} FROM t"] * TIMES), TIMES

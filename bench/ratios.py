@@ -80,8 +80,9 @@ def main():
             if wanted and name not in wanted:
                 continue
             rivals = [Rival("sysr", [sys.argv[1], "run", "--chunk", str(scripts.CHUNK)], scripts.lines)]
-            if shutil.which("sqlite3"):
-                rivals.append(Rival("sqlite3", ["sqlite3", "-csv", ":memory:"], scripts.sql))
+            for is_keyed in kind.keys if shutil.which("sqlite3") else ():
+                name_of, notation = ("sqlite3-key", scripts.keyed_sql) if is_keyed else ("sqlite3", scripts.sql)
+                rivals.append(Rival(name_of, ["sqlite3", "-csv", ":memory:"], notation))
             if server is not None and name == "inserts":
                 clear = lambda: subprocess.run([*client, "FLUSHALL"], stdout=subprocess.DEVNULL, check=True)
                 rivals.append(Rival("redis", [*client, "--pipe"], scripts.pushes, clear))

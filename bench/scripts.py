@@ -4,6 +4,7 @@ from dataclasses import dataclass
 
 COLUMNS = 32
 CHUNK = 64
+LOOK_UP = "SELECT name FROM t WHERE amount = 0"
 
 
 @dataclass
@@ -13,6 +14,8 @@ class Kind:
     before: list
     counted: list
     units: int
+    # Whether sqlite3 has a key on the numbers: it is tried in each of these ways.
+    keys: tuple = (False,)
 
 
 def filled(rows):
@@ -50,17 +53,41 @@ def many_conditions():
     return "SELECT c0 FROM t WHERE " + " AND ".join(met + [f"c{COLUMNS - 1} < 5"])
 
 
+def points(rows, statement):
+    """A statement for each of 20,000 rows by chance, or for half of the rows, none twice; what makes an index is before."""
+    picked = random.Random(1976).sample(range(rows), min(20_000, rows // 2))
+    counted = [statement % {"row": row} for row in picked]
+    return Kind("statement", filled(rows) + 2 * [LOOK_UP], counted, len(counted), (True,))
+
+
+def look_ups():
+    """Kinds that look one row up, in small and in large tables."""
+    statements = {"select": "SELECT name FROM t WHERE amount = %(row)d",
+        "update": "UPDATE t SET name = 'new' WHERE amount = %(row)d", "delete": "DELETE FROM t WHERE amount = %(row)d"}
+    return {f"{name} one of {rows}": points(rows, statement) for name, statement in statements.items()
+        for rows in (1_000, 100_000, 900_000)}
+
+
+def indexed(rows):
+    """INSERTs into a table with an index: before each thousand of them a row is looked up, else the index would go."""
+    table, *inserts = filled(rows)
+    counted = [line for start in range(1_000, rows, 1_000) for line in (LOOK_UP, *inserts[start:start + 1_000])]
+    return Kind("statement", [table, *inserts[:1_000], LOOK_UP], counted, len(counted))
+
+
 def kinds():
     """The kinds by name."""
     ranges = [f"SELECT name FROM t WHERE amount >= {n} AND amount < {n + 5}" for n in range(0, 100_000, 2_500)]
     steps = [""] * (100_000 // CHUNK + 1)
     return {
         "inserts": Kind("statement", filled(0), filled(200_000)[1:], 200_000),
-        "mix": Kind("statement", filled(0), list(mix(20_000)), 20_000),
+        "indexed inserts": indexed(200_000),
+        "mix": Kind("statement", filled(0), list(mix(20_000)), 20_000, (False, True)),
         "filter": Kind("row", filled(100_000), ranges, 100_000 * len(ranges)),
         "conditions": Kind("row", wide(10_000), [many_conditions()] * 20, 20 * 10_000),
         "select": Kind("row", filled(100_000), ["SELECT * FROM t"] * 10, 10 * 100_000),
         "export": Kind("row", filled(100_000) + ["CHECKPOINT"] + steps, ["EXPORT 1"] * 10, 10 * 100_000),
+        **look_ups(),
     }
 
 
@@ -76,6 +103,12 @@ def sql(statements):
             yield "SELECT * FROM t;\n"
         elif statement not in ("", "CHECKPOINT"):
             yield f"{statement};\n"
+
+
+def keyed_sql(statements):
+    """The same for sqlite3 with a key on the numbers."""
+    for statement in sql(statements):
+        yield statement.replace("amount INTEGER)", "amount INTEGER PRIMARY KEY)")
 
 
 def pushes(statements):

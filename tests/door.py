@@ -6,6 +6,7 @@ import select
 import signal
 import socket
 import subprocess
+import threading
 import time
 
 from served import WAIT, Server, Session, free_port, in_time, talk
@@ -84,6 +85,61 @@ def silent_clients(program, check):
     finally:
         server.child.kill()
         server.child.communicate(timeout=WAIT)
+
+
+def clients_that_wait(program, check):
+    """Of sixteen clients seven take nothing of 18 MB each, and seven have sent half a line: more than run at once. They
+    hold up neither the others nor a checkpoint."""
+    server = Server(program, 16, workers=16)
+    ann = Session(server, "ann")
+    row = ", ".join(3 * [f"'{1000 * 'x'}'"])
+    ann.send("CREATE TABLE t (a TEXT, b TEXT, c TEXT)\nGRANT SELECT ON t TO eve\n"
+        + 3000 * f"INSERT INTO t VALUES ({row})\n")
+    said = [ann.line() for _ in range(3002)]
+    check("9 MB of rows", said[-1] == "done @3002\n", said[-1])
+    deaf, half = [Session(server, "eve") for _ in range(7)], [Session(server, "eve") for _ in range(7)]
+    for session in deaf:
+        session.send(2 * "SELECT * FROM t\n")
+    for session in half:
+        session.send("SELECT * FROM t\nSELECT")
+        said = [session.line() for _ in range(3001)]
+        check("half a line behind a whole one", said[0] == "rows 3000 @3002\n", said[0])
+    bob = Session(server, "bob")
+    said = [bob.ask("CHECKPOINTS") for _ in range(100)]
+    check("beside clients that wait", said == 100 * ["checkpoints 0 @3002\n"], said[-1])
+    said = [bob.ask("CHECKPOINT"), bob.settled()]
+    check("a checkpoint beside them", said == ["checkpoint 1 begun @3002\n", ["finished,1,3002\n"]], said)
+    said = [ann.ask("CHECKPOINTS"), ann.line(), ann.end(), bob.end()]
+    check("the first beside them", said == ["checkpoints 1 @3002\n", "finished,1,3002\n", "", ""], said)
+    for session in deaf + half:
+        session.reset()
+    ended = server.end()
+    wanted = (0, b"served 16\n", 7 * ["session fault: read"] + 7 * ["session fault: write"])
+    check("clients that wait: the end", (*ended[:2], sorted(ended[2])) == wanted, ended)
+
+
+def streams(program, check):
+    """Clients that send many lines, more than run at once, and one that waits for each answer: all are answered."""
+    server = Server(program, 9, workers=9)
+    lines, said = 20_000, {}
+
+    def stream(user):
+        said[user] = talk(server, f"USER {user}\n" + lines * "CHECKPOINTS\n")
+
+    streaming = [threading.Thread(target=stream, args=(f"u{n}",)) for n in range(8)]
+    for thread in streaming:
+        thread.start()
+    bob = Session(server, "bob")
+    answers = {bob.ask("CHECKPOINTS") for _ in range(300)}
+    check("a line at a time beside streams", answers == {"checkpoints 0 @0\n"}, answers)
+    check("the end beside streams", bob.end() == "", "more was said")
+    for thread in streaming:
+        thread.join()
+    answered = lines * "checkpoints 0 @0\n"
+    seen = {user: text[:40] for user, text in said.items() if text != f"welcome {user}\n{answered}"}
+    check("streams", len(said) == 8 and not seen, seen)
+    ended = server.end()
+    check("streams: the end", ended == (0, b"served 9\n", []), ended)
 
 
 def closed_streams(program, check):
@@ -183,7 +239,7 @@ def refused_accepts(program, check, preloaded):
     check("without a listener: the end", ended == (1, b"", ["sysr: accept fault"]), ended)
 
 
-TESTS = (taken_port, greatest_numbers, fewest_words, closed_streams, logged)
+TESTS = (taken_port, greatest_numbers, fewest_words, clients_that_wait, streams, closed_streams, logged)
 
 
 def played(program, check):

@@ -56,6 +56,20 @@ def example(name):
     return words, given, [line[4:] for line in body if line.startswith("    ")]
 
 
+def looked_up():
+    """Words, lines, and what is written for these: a table gets an index where its column is asked for again, and keeps
+    it. That is never worth a refusal."""
+    rows = 260
+    given = ["CREATE TABLE t (x INTEGER)", *(f"INSERT INTO t VALUES ({number})" for number in range(rows)),
+        "SELECT * FROM t WHERE x = 7", "SELECT * FROM t WHERE x = 7", "INSERT INTO t VALUES (7)",
+        "UPDATE t SET x = 8 WHERE x = 7", "SELECT * FROM t WHERE x = 8", "DELETE FROM t WHERE x = 8",
+        "SELECT * FROM t WHERE x = 8", "SELECT * FROM t WHERE x = 9"]
+    wanted = [*(f"done @{moment}" for moment in range(1, rows + 2)), *2 * [f"rows 1 @{rows + 1}", "row,7"],
+        f"done @{rows + 2}", f"done @{rows + 3}", f"rows 3 @{rows + 3}", *3 * ["row,8"], f"done @{rows + 4}",
+        f"rows 0 @{rows + 4}", f"rows 1 @{rows + 4}", "row,9"]
+    return ["run"], [f"ann: {statement}" for statement in given], wanted
+
+
 class Script:
     """Lines that the program answers where no request for memory is refused."""
 
@@ -131,8 +145,8 @@ class Requests:
 
 
 def each_request(program, check, requests):
-    for name, (steps, behind) in SCRIPTS.items():
-        words, given, wanted = example(name)
+    scripts = {name: (example(name), *more) for name, more in SCRIPTS.items()} | {"looked_up": (looked_up(), 0, [])}
+    for name, ((words, given, wanted), steps, behind) in scripts.items():
         probes = [line for line in [*behind, f"{given[0].split(':')[0]}: CHECKPOINTS"] for _ in range(2)]
         script = Script(program, words, [*given, *probes])
         whole = [line for reply in script.full for line in reply]

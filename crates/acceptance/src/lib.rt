@@ -27,6 +27,8 @@ mod lines;
 #[cfg(test)]
 mod locks;
 #[cfg(test)]
+mod lookups;
+#[cfg(test)]
 mod nobody;
 #[cfg(test)]
 mod pieces;

@@ -6,11 +6,13 @@
 //! pass. Its contract says that sessions went through the pass, and that nothing else was done
 //! through it (`specs/Sessions.antt`); what a session writes, and what it does to the desk, is the
 //! contract of [`serve_session`](session_core::serve_session). There too stands what a whole server
-//! leaves, of which the program's threads make use.
+//! leaves, of which the program's threads make use. How many sessions run at once is a matter of
+//! [`Permits`].
 //!
 //! ```text
 //! let door = Mutex::new(Door::new(100));
-//! let pass = work(&rt, alloc, &desk, pass, &listener, &door, None, &log);
+//! let permits = Permits::new(4);
+//! let pass = work(&rt, alloc, &desk, pass, &listener, &door, &permits, None, &log);
 //! door.into_inner().served(100)?;                                // 100
 //! ```
 //!
@@ -28,6 +30,11 @@
 //! not be kept, shuts the door besides. [`Notes`] are taken of each session, for a log of
 //! where sessions begin and end.
 //!
+//! With more threads than processors at the desk most would sleep there, and be woken for each turn.
+//! So a session answers lines while it holds one of the [`Permits`], which are fewer, and reads and
+//! writes without one; it goes on without one if none is free for some milliseconds. Behind 32 lines
+//! it hands its permit to a session that waits. No contract speaks of permits.
+//!
 //! A client that sends nothing holds its worker, and so does one that takes nothing of its replies,
 //! for as long as [`Manners`] say. What it takes counts once that makes room in the socket, and
 //! whatever of a reply then goes in begins the time anew. The kernel is not asked to look after
@@ -36,17 +43,21 @@
 //!
 //! # Cost
 //!
-//! A socket and two buffers of 65,536 bytes for each session that runs.
+//! A socket and two buffers of 65,536 bytes for each session. Where no session waits, its permit
+//! costs some five atomic steps for each piece of input.
 #![tactic(auto)]
 
 mod door;
 mod log;
 mod manners;
 mod notes;
+mod permit;
+mod permits;
 mod worker;
 
 pub use door::{Door, Guest, ServeFault};
 pub use log::{Log, SharedLog};
 pub use manners::Manners;
 pub use notes::Notes;
+pub use permits::Permits;
 pub use worker::work;

@@ -5,6 +5,8 @@ ghost use Rattle.server_core.specs.Sessions.{IsOf, Attends, Attended};
 use crate::door::{Door, ServeFault};
 use crate::log::Log;
 use crate::notes::Notes;
+use crate::permit::{Counting, Permit, Yielding};
+use crate::permits::Permits;
 use base_core::{StdSink, StdSource};
 use desk_core::{Desk, Pass};
 use journal_core::Keeper;
@@ -42,13 +44,14 @@ fn let_go(stream: &TcpStream) {
 }
 
 /// Serves one session to its end, through the pass and through nothing else. A read or a write that
-/// waits for longer than `idle` is its fault.
+/// waits for longer than `idle` is its fault. No permit is held before and behind the call.
 fn attend<K: Keeper + Drop, R: Wait>(
     rt: &R,
     alloc: Global,
     desk: &Desk<K>,
     pass: &mut Pass<K>,
     stream: &TcpStream,
+    permits: &Permits,
     idle: Option<Duration>,
     notes: &Notes,
 ) -> Result<u64, SessionEnd>
@@ -58,22 +61,25 @@ fn attend<K: Keeper + Drop, R: Wait>(
     let _ = stream.set_nodelay(true);
     let _ = stream.set_read_timeout(idle);
     let _ = stream.set_write_timeout(idle);
-    let output = Steady::new(stream);
+    let permit = Permit::new(rt, permits);
+    let output = Yielding::new(&permit, Steady::new(stream));
     let Ok(buffered) = BufWriter::with_capacity(alloc, OUTPUT_BYTES, output) else {
         return Err(SessionEnd::Session(SessionFault::NoMemory));
     };
-    let mut reader = StdSource::new(Steady::new(stream));
+    let mut reader = StdSource::new(Yielding::new(&permit, Steady::new(stream)));
     let mut writer = StdSink::new(buffered);
-    let served = serve_session(rt, alloc, desk, pass, &mut reader, &mut writer, notes);
+    let gate = Counting::new(&permit, notes);
+    let served = serve_session(rt, alloc, desk, pass, &mut reader, &mut writer, &gate);
+    permit.rest();
     let_go(stream);
     served
 }
 
 /// Takes sessions one by one and serves each through the pass, until all are taken or the door is
-/// shut. Nothing else is done through it. A session ends with a fault whose client sends nothing for
-/// as long as `idle` says, or takes nothing; without it a session waits. One of which a reply was
-/// withheld, since a change could not be kept, shuts the door, so that no further session is taken;
-/// those that run end at their next statement.
+/// shut. Nothing else is done through it. The permits say how many sessions run at once. A session
+/// ends with a fault whose client sends nothing for as long as `idle` says, or takes nothing;
+/// without it a session waits. One of which a reply was withheld, since a change could not be kept,
+/// shuts the door, so that no further session is taken; those that run end at their next statement.
 pub fn work<K: Keeper + Drop, R: Wait + Clock, L: Log>(
     rt: &R,
     alloc: Global,
@@ -81,6 +87,7 @@ pub fn work<K: Keeper + Drop, R: Wait + Clock, L: Log>(
     pass: Pass<K>,
     listener: &TcpListener,
     door: &Mutex<Door>,
+    permits: &Permits,
     idle: Option<Duration>,
     log: &L,
 ) -> Pass<K>
@@ -94,7 +101,8 @@ pub fn work<K: Keeper + Drop, R: Wait + Clock, L: Log>(
         };
         log.begun(rt, &guest);
         let notes = Notes::new();
-        if let Err(end) = attend(rt, alloc, desk, &mut pass, &guest.stream, idle, &notes) {
+        let stream = &guest.stream;
+        if let Err(end) = attend(rt, alloc, desk, &mut pass, stream, permits, idle, &notes) {
             log.tell(rt, end);
             if let SessionEnd::Journal = end {
                 door.lock(rt).shut(ServeFault::Journal);

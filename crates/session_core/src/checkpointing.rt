@@ -23,8 +23,10 @@ pub enum CheckFault {
     Unkept,
 }
 
-// How long it sleeps where no checkpoint is active.
-const IDLE_MILLIS: u64 = 2;
+// How long it sleeps where no checkpoint is active, at first and at most.
+const SHORTEST_MILLIS: u64 = 2;
+
+const LONGEST_MILLIS: u64 = 40;
 
 /// A step of the active checkpoint, which is given up exactly where the step was refused memory.
 fn step<K: Keeper + Drop, R: Wait>(
@@ -47,9 +49,10 @@ fn step<K: Keeper + Drop, R: Wait>(
 
 /// Takes steps of the active checkpoint, each in a turn of the pass, until the flag is set. A
 /// checkpoint is given up exactly where its step was refused memory, in the turn of the pass behind
-/// that. The pass makes no entry. Where no checkpoint is active it sleeps two milliseconds before
-/// it looks again; between two steps it calls the gate with the number of records that are left.
-/// `Worn` where all turns are drawn, and `Unkept` where a reply was withheld.
+/// that. The pass makes no entry. Where no checkpoint is active it sleeps two milliseconds before it
+/// looks again, and twice as long each further time, up to 40 milliseconds; between two steps it
+/// calls the gate with the number of records that are left. `Worn` where all turns are drawn, and
+/// `Unkept` where a reply was withheld.
 pub fn checkpointer<K: Keeper + Drop, R: Wait + Clock, G: Gate>(
     rt: &R,
     desk: &Desk<K>,
@@ -64,6 +67,7 @@ pub fn checkpointer<K: Keeper + Drop, R: Wait + Clock, G: Gate>(
     ensures worn { IsErrOf result CheckFault.Worn
         → Checks desk.now pass.old pass.new × (pass.new.drawn ≡ 2 ^ 62) }
 {
+    let mut pause = SHORTEST_MILLIS;
     for _ in rt.forever() {
         if stop.load(Ordering::SeqCst) {
             return Ok(());
@@ -73,13 +77,19 @@ pub fn checkpointer<K: Keeper + Drop, R: Wait + Clock, G: Gate>(
             Err(Unkept) => return Err(CheckFault::Unkept),
         };
         match &reply {
-            Reply::Stepped { left, .. } => gate.before_step(*left),
-            Reply::Idle => thread::sleep(rt, Duration::from_millis(IDLE_MILLIS)),
+            Reply::Idle => {
+                thread::sleep(rt, Duration::from_millis(pause));
+                pause = pause.saturating_mul(2).min(LONGEST_MILLIS);
+            }
+            Reply::Stepped { left, .. } => {
+                pause = SHORTEST_MILLIS;
+                gate.before_step(*left);
+            }
             Reply::Refused { lack, .. } => match lack {
                 Lack::Worn => return Err(CheckFault::Worn),
                 _ => {}
             },
-            _ => {}
+            _ => pause = SHORTEST_MILLIS,
         }
     }
     unreachable!()

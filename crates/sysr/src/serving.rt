@@ -10,7 +10,7 @@ ghost use Rattle.sysr.specs.Ready.{IsReady};
 use desk_core::{Desk, Pass};
 use export_core::NoGate;
 use journal_core::Keeper;
-use server_core::{Door, Log, Manners, ServeFault, SharedLog, work};
+use server_core::{Door, Log, Manners, Permits, ServeFault, SharedLog, work};
 use session_core::checkpointer;
 use std::alloc::Global;
 use std::io::Write;
@@ -72,13 +72,14 @@ fn attend<K: Keeper + Drop, R: Wait + Clock, L: Log>(
     pass: Pass<K>,
     listener: &TcpListener,
     door: &Mutex<Door>,
+    permits: &Permits,
     idle: Option<Duration>,
     log: &L,
 ) -> Pass<K>
     requires { IsNew begun.now.value.journal desk.now pass }
     ensures { IsWorkers begun.now.value.journal desk.now result }
 {
-    work(rt, alloc, desk, pass, listener, door, idle, log)
+    work(rt, alloc, desk, pass, listener, door, permits, idle, log)
 }
 
 // Keeps a thread. There is room for it.
@@ -132,6 +133,14 @@ fn with_pass<K: Keeper + Drop>(
     }
 }
 
+/// How many processors the threads may use: one, where that is not known.
+fn processors<R: Threads>(rt: &R) -> usize {
+    match thread::available_parallelism(rt) {
+        Ok(count) => count.get(),
+        Err(_) => 1,
+    }
+}
+
 /// Runs all threads to their end, and gives the passes back.
 fn serve_all<K, R, L>(
     rt: &R,
@@ -141,6 +150,7 @@ fn serve_all<K, R, L>(
     passes: Vec<Pass<K>>,
     listener: &TcpListener,
     door: &Mutex<Door>,
+    permits: &Permits,
     idle: Option<Duration>,
     log: &L,
     stop: &AtomicBool,
@@ -185,7 +195,11 @@ where
                     move || -> Pass<K>
                         requires { IsNew begun.now.value.journal desk.now pass }
                         ensures { IsWorkers begun.entry.now.value.journal desk.entry.now result }
-                    { attend(rt, alloc, desk, begun, pass, listener, door, idle, log) },
+                    {
+                        attend(
+                            rt, alloc, desk, begun, pass, listener, door, permits, idle, log,
+                        )
+                    },
                 ) {
                     Ok(worker) => keep(desk, begun, &mut workers, worker),
                     Err(_) => closed.shut(ServeFault::NoMemory),
@@ -231,6 +245,7 @@ fn serve_sessions<K, R, W>(
     system: System,
     keeper: K,
     door: &Mutex<Door>,
+    permits: &Permits,
     idle: Option<Duration>,
     log: &SharedLog<'_, W>,
 ) -> Result<(System, K), ServeFault>
@@ -249,7 +264,7 @@ where
     let (desk, passes) = Desk::build(alloc, system, chunk, keeper, workers + 1)?;
     let stop = AtomicBool::new(false);
     match serve_all(
-        rt, alloc, &desk, &begun, passes, listener, door, idle, log, &stop,
+        rt, alloc, &desk, &begun, passes, listener, door, permits, idle, log, &stop,
     ) {
         Ok(passes) => close(desk, passes),
         Err(fault) => {
@@ -313,9 +328,10 @@ where
         writer: Mutex::new(err),
         sessions: manners.log,
     };
+    let permits = Permits::new(processors(rt));
     let idle = manners.idle;
     let (system, keeper) = serve_sessions(
-        rt, alloc, listener, workers, chunk, system, keeper, &door, idle, &log,
+        rt, alloc, listener, workers, chunk, system, keeper, &door, &permits, idle, &log,
     )?;
     match door.into_inner().served(sessions) {
         Ok(sessions) => Ok(Served {

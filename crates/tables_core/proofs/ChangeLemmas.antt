@@ -22,6 +22,10 @@ use Rattle.tables_core.proofs.ContentsLemmas.{with_change-some, with_change-none
 pub shown-found : (name : Name) (ts : List (Name × Covered)) → table_of (shown_tables ts) name ≡ option_map (λ (t : Covered). t.contents) (lookup (same_name name) ts)
 shown-found name ts = lookup-map_values (λ (t : Covered). t.contents) (same_name name) ts
 
+-- a table that was written as it was
+pub same-written : (name : Name) (ts after : List (Name × Covered)) (x y : Covered) → lookup (same_name name) ts ≡ Some x → after ≡ set_value (same_name name) ts y → y ≡ x → after ≡ ts
+same-written name ts after x y there written same = written ∙ set_value_same (same_name name) ts y (there ∙ ap Some (sym same))
+
 module _ (name : Name) (ts after : List (Name × Covered)) (w : Walk) (x y : Covered) (there : lookup (same_name name) ts ≡ Some x) (written : after ≡ set_value (same_name name) ts y) where
   pub shown-there : table_of (shown_tables ts) name ≡ Some x.contents
   shown-there = shown-found name ts ∙ ap (option_map (λ (t : Covered). t.contents)) there

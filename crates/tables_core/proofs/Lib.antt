@@ -1,8 +1,11 @@
-pub mod ContentsLemmas
-pub mod NumberLemmas
-pub mod FittingLemmas
-pub mod ColumnLemmas
-pub mod ResolvedLemmas
+pub mod BoundLemmas
 pub mod CaptureLemmas
-pub mod NewRowLemmas
 pub mod ChangeLemmas
+pub mod ColumnLemmas
+pub mod ContentsLemmas
+pub mod FittingLemmas
+pub mod IndexLemmas
+pub mod NewRowLemmas
+pub mod NumberLemmas
+pub mod PickingLemmas
+pub mod ResolvedLemmas

@@ -1,7 +1,8 @@
 -- The new rows of an UPDATE, put under their numbers one after another.
 use Rattle.std.proofs.Common.{◌≡◌, ◌≢◌, ◌≤◌, ◌+◌, ℕ, Bool, true, false, cond, List, [], ◌∷◌, Option, Some, IsSome, is_some, map, filter, refl, sym, ap, subst, ◌∙◌, arith}
-use Rattle.std.specs.List.{AllByRecursion}
+use Rattle.std.specs.List.{All, AllByRecursion}
 use Rattle.std.proofs.lemmas.Bool.{eq-eqb, ne_eqb, eqb-true}
+use Rattle.std.proofs.lemmas.List.Elements.{All-from_recursion, recursion_from_All}
 use Rattle.std.proofs.Math.Dec.{eqb}
 use Rattle.base_core.specs.declared.value.Row.{Row}
 use Rattle.copyup_core.specs.Holding.{Rise, value_at, with_item}
@@ -86,3 +87,20 @@ chosen-there p f numbered (e ∷ rows) = by (p e) (there-cons e rows _ (chosen-t
     by : (b : Bool) → AreThere (e ∷ rows) (map f (filter p rows)) → AreThere (e ∷ rows) (map f (cond b (e ∷ filter p rows) (filter p rows)))
     by true h = (ap (λ b. is_some (cond b (Some e.1) (value_at (f e).0 rows))) here, h)
     by false h = h
+
+-- what is so of the rows, and of the new ones, is so of the rows with these under their numbers
+module _ (P : ℕ × Row → Type 0) where
+  all-with_item : (n : ℕ) (v : Row) (rows : List (ℕ × Row)) → P (n, v) → AllByRecursion P rows → AllByRecursion P (with_item n v rows)
+  all-with_item n v [] new h = tt
+  all-with_item n v (e ∷ rows) new h = by (eqb e.0 n) (all-with_item n v rows new h.1)
+    where
+      by : (b : Bool) → AllByRecursion P (with_item n v rows) → AllByRecursion P (cond b ((n, v) ∷ rows) (e ∷ with_item n v rows))
+      by true later = (new, h.1)
+      by false later = (h.0, later)
+
+  each-with_new_rows : (rows new_rows : List (ℕ × Row)) → AllByRecursion P rows → AllByRecursion P new_rows → AllByRecursion P (with_new_rows rows new_rows)
+  each-with_new_rows rows [] h new = h
+  each-with_new_rows rows (r ∷ new_rows) h new = each-with_new_rows (with_item r.0 r.1 rows) new_rows (all-with_item r.0 r.1 rows new.0 h) new.1
+
+  pub all-with_new_rows : (rows new_rows : List (ℕ × Row)) → All P rows → All P new_rows → All P (with_new_rows rows new_rows)
+  all-with_new_rows rows new_rows h new = All-from_recursion P (with_new_rows rows new_rows) (each-with_new_rows rows new_rows (recursion_from_All P rows h) (recursion_from_All P new_rows new))

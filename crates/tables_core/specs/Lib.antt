@@ -1,7 +1,10 @@
+pub mod Bounding
 pub mod Capture
 pub mod Contents
 pub mod Fitting
+pub mod Indexing
 pub mod Laws
+pub mod Picking
 pub mod Resolving
 pub mod Updating
 pub use Rattle.base_core.specs.Words

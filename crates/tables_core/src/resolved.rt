@@ -58,6 +58,7 @@ impl<'a, T: Named> Resolved<'a, T> {
 
     /// The index of the column that the item at this place of the list names. None where there is
     /// no such column.
+    #[inline(always)]
     pub fn index_of(&self, at: usize, item: &T) -> Option<usize>
         requires { slice_get self.now.items.now at ≡ Some item.now }
         ensures { result ≡ column_index self.now.columns.now (T.name_of item.now) }

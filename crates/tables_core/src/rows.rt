@@ -6,9 +6,13 @@ ghost use Rattle.base_core.specs.Filter.{at_index, is_chosen};
 ghost use Rattle.base_core.specs.Values.{has_type};
 ghost use Rattle.tables_core.specs.Contents.{satisfies, projected_values};
 ghost use Rattle.tables_core.specs.Fitting.{ValuesFit, assignment_fits};
+ghost use Rattle.tables_core.specs.Indexing.{ListAll};
 ghost use Rattle.tables_core.specs.Resolving.{AreInOrder};
 
+use crate::indexes::Indexes;
+use crate::listed::drop_listed;
 use crate::resolved::Resolved;
+use crate::scan::Scan;
 use base_core::{
     Assignment, Column, Condition, Name, NoMemory, Row, Twin, Value, ValuesBuilder, column_index,
 };
@@ -63,7 +67,7 @@ pub fn value_at(values: &[Value], index: Option<usize>) -> Option<&Value>
 }
 
 /// The values of the named columns.
-pub fn cut(alloc: Global, names: &Resolved<'_, Name>, values: &[Value]) -> Result<Row, NoMemory>
+fn cut(alloc: Global, names: &Resolved<'_, Name>, values: &[Value]) -> Result<Row, NoMemory>
     ensures { IfOk result
         (λ row.
         row.values ≡ projected_values names.now.columns.now names.now.items.now values.now) }
@@ -79,7 +83,7 @@ pub fn cut(alloc: Global, names: &Resolved<'_, Name>, values: &[Value]) -> Resul
 }
 
 /// Whether each name is that of the column at its own place.
-fn are_in_order(names: &Resolved<'_, Name>) -> bool
+pub fn are_in_order(names: &Resolved<'_, Name>) -> bool
     ensures { IsTrue result ↔ AreInOrder names.now.columns.now names.now.items.now }
 {
     for (at, name) in names.items().iter().enumerate() {
@@ -91,7 +95,7 @@ fn are_in_order(names: &Resolved<'_, Name>) -> bool
 }
 
 /// The named columns of a row. One that has all of them in order, and no more, is shared.
-fn cut_or_shared(
+pub fn cut_or_shared(
     alloc: Global,
     names: &Resolved<'_, Name>,
     in_order: bool,
@@ -126,9 +130,10 @@ pub fn select_chosen(
         rows.now.contents)) }
 {
     let in_order = are_in_order(names);
+    let scan = Scan::new(conditions);
     let mut chosen = Vec::new(alloc);
     for (_, row) in rows.items() {
-        if conditions.choose(row) {
+        if scan.choose(row) {
             chosen.push(cut_or_shared(alloc, names, in_order, row)?)?;
         }
     }
@@ -138,20 +143,44 @@ pub fn select_chosen(
 /// Keeps the rows that the filter does not choose.
 #[derive(Drop)]
 struct Unchosen<'a> {
-    filter: Resolved<'a, Condition>,
+    scan: Scan<'a>,
 }
 
 impl Sieve<Row> for Unchosen<'_> {
-    ghost keeps = { λ s row. not (is_chosen s.filter.columns.now s.filter.items.now row.values) };
+    ghost keeps = { λ s row. not (is_chosen
+        s.scan.conditions.now.columns.now s.scan.conditions.now.items.now row.values) };
 
     #[inline(always)]
     fn keeps(&self, row: &Row) -> bool {
-        !self.filter.choose(row)
+        !self.scan.choose(row)
+    }
+}
+
+/// Drops the rows that the filter chooses.
+fn drop_each(rows: &mut Store<Row>, indexes: &Indexes, conditions: &Resolved<'_, Condition>)
+    requires { ListAll indexes.now.kept.items rows.old.contents }
+    ensures contents { rows.new.contents
+        ≡ filter (λ r. not (satisfies conditions.now.columns.now conditions.now.items.now r))
+        rows.old.contents }
+    ensures next { rows.new.next ≡ rows.old.next }
+    ensures rest { rows.new.rest ≡ rows.old.rest }
+{
+    match indexes.find(conditions, rows) {
+        Some(numbers) => drop_listed(rows, numbers),
+        None => rows.retain(&Unchosen {
+            scan: Scan::new(conditions),
+        }),
     }
 }
 
 /// Drops the rows that the filter chooses, and says how many.
-pub fn drop_chosen(columns: &[Column], rows: &mut Store<Row>, conditions: &[Condition]) -> usize
+pub fn drop_chosen(
+    columns: &[Column],
+    rows: &mut Store<Row>,
+    indexes: &Indexes,
+    conditions: &[Condition],
+) -> usize
+    requires { ListAll indexes.now.kept.items rows.old.contents }
     ensures contents { rows.new.contents
         ≡ filter (λ r. not (satisfies columns.now conditions.now r)) rows.old.contents }
     ensures count { result + length rows.new.contents ≡ length rows.old.contents }
@@ -160,6 +189,6 @@ pub fn drop_chosen(columns: &[Column], rows: &mut Store<Row>, conditions: &[Cond
 {
     let before = rows.len();
     let filter = Resolved::new(columns, conditions);
-    rows.retain(&Unchosen { filter });
+    drop_each(rows, indexes, &filter);
     before - rows.len()
 }

@@ -4,6 +4,8 @@ ghost use Rattle.tables_core.specs.Capture.{KeepsDue, due_for};
 ghost use Rattle.tables_core.specs.Contents.{empty_table, with_row, without_chosen_rows, with_updated_rows, selected_rows};
 ghost use Rattle.tables_core.specs.Fitting.{ColumnsDiffer, ValuesFit, AssignmentsFit, IsWellTyped};
 
+use crate::indexes::Indexes;
+use crate::listed::select_listed;
 use crate::marked::Marked;
 use crate::resolved::Resolved;
 use crate::rows::{self, NumberedRow};
@@ -21,6 +23,7 @@ pub struct Table {
     columns: Sequence<Column>,
     inserted: u64,
     rows: Marked,
+    indexes: Indexes,
 }
 
 impl Model for Table {
@@ -42,19 +45,27 @@ impl Model for Table {
     } };
 
     ghost use Rattle.tables_core.specs.Fitting.{IsWellTyped};
+    ghost use Rattle.tables_core.specs.Indexing.{ListAll};
 
     ghost invariant = { λ t. IsWellTyped (record {
       owner = t.owner;
       columns = t.columns;
       inserted = t.inserted;
       rows = t.rows.store.contents;
-    }) × (t.inserted ≡ t.rows.store.next) };
+    }) × (t.inserted ≡ t.rows.store.next)
+        × ListAll t.indexes.kept.items t.rows.store.contents };
 }
 
 impl Table {
-    /// A table without rows, which has nothing to give for the capture of this number. It takes no
-    /// memory.
-    pub fn new(alloc: Global, owner: User, columns: Sequence<Column>, number: u64) -> Table
+    /// A table without rows, which has nothing to give for the capture of this number, and gets
+    /// indexes from `least` rows on. It takes no memory.
+    pub fn new(
+        alloc: Global,
+        owner: User,
+        columns: Sequence<Column>,
+        number: u64,
+        least: usize,
+    ) -> Table
         requires { ColumnsDiffer columns }
         ensures contents { result.contents ≡ empty_table owner columns }
         ensures mark { result.mark ≡ number }
@@ -68,6 +79,7 @@ impl Table {
                 store: Store::new(alloc),
                 mark: number,
             },
+            indexes: Indexes::new(alloc, least),
         }
     }
 
@@ -126,9 +138,19 @@ impl Table {
         ensures no_memory { OnErr result (self.new.contents ≡ self.old.contents) }
         ensures due { KeepsDue walk self.old self.new }
     {
+        let count = self.rows.store.len();
+        self.indexes.note(self.inserted, &row, count);
         self.rows.push(walk, row)?;
         self.inserted += 1;
         Ok(())
+    }
+
+    /// Prepares for look-ups of the rows that a filter chooses, where an index may serve them.
+    pub fn prepare(&mut self, filter: &[Condition])
+        ensures { self.new ≡ self.old }
+    {
+        let columns = self.columns.as_slice();
+        self.indexes.prepare(columns, &self.rows.store, filter);
     }
 
     /// The named columns of the chosen rows.
@@ -144,7 +166,10 @@ impl Table {
         let columns = self.columns.as_slice();
         let names = Resolved::new(columns, names);
         let conditions = Resolved::new(columns, filter);
-        rows::select_chosen(alloc, &names, &conditions, &self.rows.store)
+        match self.indexes.find(&conditions, &self.rows.store) {
+            Some(numbers) => select_listed(alloc, &names, &self.rows.store, numbers),
+            None => rows::select_chosen(alloc, &names, &conditions, &self.rows.store),
+        }
     }
 
     /// Makes the assignments in the chosen rows.
@@ -162,7 +187,16 @@ impl Table {
         ensures due { KeepsDue walk self.old self.new }
     {
         let columns = self.columns.as_slice();
-        update_chosen(alloc, walk, columns, &mut self.rows, sets, filter)
+        self.indexes.prepare(columns, &self.rows.store, filter);
+        update_chosen(
+            alloc,
+            walk,
+            columns,
+            &mut self.rows,
+            &mut self.indexes,
+            sets,
+            filter,
+        )
     }
 
     /// Drops the chosen rows, and says how many.
@@ -171,8 +205,12 @@ impl Table {
         ensures count { result + length self.new.contents.rows ≡ length self.old.contents.rows }
         ensures due { KeepsDue walk self.old self.new }
     {
+        let columns = self.columns.as_slice();
+        self.indexes.prepare(columns, &self.rows.store, filter);
         self.rows.prepare(walk);
-        rows::drop_chosen(self.columns.as_slice(), &mut self.rows.store, filter)
+        let dropped = rows::drop_chosen(columns, &mut self.rows.store, &self.indexes, filter);
+        self.indexes.note_dropped(dropped, self.rows.store.len());
+        dropped
     }
 
     /// Lets the table's own capture bear no number.

@@ -19,6 +19,9 @@ use indexmap::IndexMap;
 use std::alloc::Global;
 use std::marker::Model;
 
+/// A table of fewer rows gets no index, unless another number was asked for.
+const MANY: usize = 256;
+
 /// One of several tables, to look at. It is `Copy`.
 #[derive(Clone, Copy)]
 pub struct TableView<'a> {
@@ -40,6 +43,8 @@ pub struct Tables {
     tables: IndexMap<Name, Table>,
     walk: Walk,
     total: usize,
+    /// A table of fewer rows gets no index.
+    least: usize,
 }
 
 impl Model for Tables {
@@ -61,6 +66,13 @@ impl Tables {
     pub fn new(alloc: Global) -> Tables
         ensures { result ≡ record { tables = []; rest = [] } }
     {
+        Tables::indexed_from(alloc, MANY)
+    }
+
+    /// No tables, of which each gets indexes from so many rows on. It takes no memory.
+    pub fn indexed_from(alloc: Global, least: usize) -> Tables
+        ensures { result ≡ record { tables = []; rest = [] } }
+    {
         Tables {
             alloc,
             tables: IndexMap::new(alloc),
@@ -71,6 +83,7 @@ impl Tables {
                 left: 0,
             },
             total: 0,
+            least,
         }
     }
 
@@ -219,7 +232,7 @@ impl Tables {
         ensures rest { self.new.rest ≡ self.old.rest }
         ensures no_memory { OnErr result (self.new ≡ self.old) }
     {
-        let table = Table::new(self.alloc, owner, columns, self.walk.number);
+        let table = Table::new(self.alloc, owner, columns, self.walk.number, self.least);
         self.tables.insert(name, table)?;
         Ok(())
     }
@@ -243,6 +256,18 @@ impl Tables {
         }
         self.total = self.total.wrapping_add(1);
         Ok(())
+    }
+
+    /// Prepares for a [`select`](Tables::select) with this filter: a column that it asks for by `=`
+    /// gets an index where it was asked for before, unless there are few rows or memory is refused.
+    /// Nothing that can be seen changes. Where there is no such table, it does nothing.
+    #[inline(never)]
+    pub fn prepare(&mut self, name: Name, filter: &[Condition])
+        ensures { self.new ≡ self.old }
+    {
+        if let Some(table) = self.tables.get_mut(&name) {
+            table.prepare(filter);
+        }
     }
 
     /// Copies of the rows that the filter chooses, in the order of their numbers, each cut to the

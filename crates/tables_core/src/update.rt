@@ -5,11 +5,15 @@ ghost use Rattle.base_core.specs.Filter.{with_value};
 ghost use Rattle.copyup_core.specs.Holding.{due, value_at};
 ghost use Rattle.tables_core.specs.Capture.{rows_due_for};
 ghost use Rattle.tables_core.specs.Contents.{assigned_row, assigned_values, satisfies, updated_row};
+ghost use Rattle.tables_core.specs.Indexing.{ListAll};
 ghost use Rattle.tables_core.specs.Updating.{with_new_rows};
 
+use crate::indexes::Indexes;
+use crate::listed::new_rows_listed;
 use crate::marked::Marked;
 use crate::resolved::Resolved;
 use crate::rows::NumberedRow;
+use crate::scan::Scan;
 use crate::walk::Walk;
 use base_core::{Assignment, Column, Condition, NoMemory, Row, Twin, Value, ValuesBuilder};
 use copyup_core::Store;
@@ -43,7 +47,7 @@ fn with_assignments(
 }
 
 /// Appends the row as it is after the assignments, under its number.
-fn push_assigned(
+pub fn push_assigned(
     alloc: Global,
     sets: &Resolved<'_, Assignment>,
     number: u64,
@@ -64,24 +68,46 @@ fn push_assigned(
 fn new_rows_of(
     alloc: Global,
     rows: &Store<Row>,
-    sets: &[Assignment],
+    sets: &Resolved<'_, Assignment>,
     conditions: &Resolved<'_, Condition>,
 ) -> Result<Vec<NumberedRow>, NoMemory>
     ensures { IfOk result
         (λ new_rows.
         new_rows.items
-        ≡ map (assigned_row conditions.now.columns.now sets.now)
+        ≡ map (assigned_row sets.now.columns.now sets.now.items.now)
         (filter (satisfies conditions.now.columns.now conditions.now.items.now)
         rows.now.contents)) }
 {
-    let sets = Resolved::new(conditions.columns(), sets);
+    let scan = Scan::new(conditions);
     let mut new_rows = Vec::new(alloc);
     for (number, row) in rows.items() {
-        if conditions.choose(row) {
-            push_assigned(alloc, &sets, number, row, &mut new_rows)?;
+        if scan.choose(row) {
+            push_assigned(alloc, sets, number, row, &mut new_rows)?;
         }
     }
     Ok(new_rows)
+}
+
+/// The same, by an index where one serves.
+fn new_rows_found(
+    alloc: Global,
+    rows: &Store<Row>,
+    indexes: &Indexes,
+    sets: &Resolved<'_, Assignment>,
+    conditions: &Resolved<'_, Condition>,
+) -> Result<Vec<NumberedRow>, NoMemory>
+    requires { ListAll indexes.now.kept.items rows.now.contents }
+    ensures { IfOk result
+        (λ new_rows.
+        new_rows.items
+        ≡ map (assigned_row sets.now.columns.now sets.now.items.now)
+        (filter (satisfies conditions.now.columns.now conditions.now.items.now)
+        rows.now.contents)) }
+{
+    match indexes.find(conditions, rows) {
+        Some(numbers) => new_rows_listed(alloc, rows, sets, numbers),
+        None => new_rows_of(alloc, rows, sets, conditions),
+    }
 }
 
 /// Puts the rows under their numbers, which have to be there.
@@ -103,9 +129,12 @@ pub fn update_chosen(
     walk: Walk,
     columns: &[Column],
     rows: &mut Marked,
+    indexes: &mut Indexes,
     sets: &[Assignment],
     filter: &[Condition],
 ) -> Result<(), NoMemory>
+    requires { ListAll indexes.old.kept.items rows.old.store.contents }
+    ensures listed { ListAll indexes.new.kept.items rows.new.store.contents }
     ensures ok { OnOk result
         (rows.new.store.contents
         ≡ map (updated_row columns.now sets.now filter.now) rows.old.store.contents) }
@@ -116,9 +145,11 @@ pub fn update_chosen(
         → rows_due_for walk.number rows.new ≡ rows_due_for walk.number rows.old }
 {
     // No two rows have one number: theirs rise, as `len` tells.
-    let _len = rows.store.len();
+    let count = rows.store.len();
     let conditions = Resolved::new(columns, filter);
-    let new_rows = new_rows_of(alloc, &rows.store, sets, &conditions)?;
+    let changes = Resolved::new(columns, sets);
+    let new_rows = new_rows_found(alloc, &rows.store, indexes, &changes, &conditions)?;
+    indexes.note_changed(columns, sets, new_rows.as_slice(), count);
     rows.prepare(walk);
     set_new_rows(&mut rows.store, new_rows);
     Ok(())

@@ -267,6 +267,13 @@ impl Ledger {
         capture.abandon(&mut self.tables, &mut self.rights)
     }
 
+    /// Prepares the tables for a query with this filter. Nothing that can be seen changes.
+    pub fn prepare(&mut self, table: Name, filter: &[Condition])
+        ensures { self.new ≡ self.old }
+    {
+        self.tables.prepare(table, filter);
+    }
+
     /// The rows that answer a query of a table that stands. `NoMemory` where a request for memory
     /// was refused.
     pub fn select(

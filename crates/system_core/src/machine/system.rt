@@ -177,16 +177,17 @@ impl System {
 
     /// Answers a query of a table that stands.
     fn select(
-        &self,
+        &mut self,
         list: &Option<Distinct<Name, MAX_ITEMS>>,
         table: Name,
         filter: &[Condition],
     ) -> Reply
-        requires { IsSome (table_of (contents self.now.journal) table) }
+        requires { IsSome (table_of (contents self.old.journal) table) }
         ensures { (pass : ℕ) (user : User)
-            → CarriesOut self.now
-            (entry pass user (statements.Select list.now table filter.now)) result self.now }
+            → CarriesOut self.old
+            (entry pass user (statements.Select list.now table filter.now)) result self.new }
     {
+        self.ledger.prepare(table, filter);
         let at = self.ledger.moment();
         match self.ledger.select(list, table, filter) {
             Ok(rows) => Reply::Rows {

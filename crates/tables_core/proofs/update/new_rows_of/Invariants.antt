@@ -4,4 +4,4 @@ use Rattle.tables_core.proofs.update.new_rows_of.Given as goal
 
 abbrev pub invariant-loop-number : goal.invariant-loop-number
 invariant-loop-number l =
-    l.new_rows.items ++ map (assigned_row l.conditions.columns.now l.sets.items.now) (filter (satisfies l.conditions.columns.now l.conditions.items.now) l.number-iterator) ≡ map (assigned_row l.conditions.columns.now l.sets.items.now) (filter (satisfies l.conditions.columns.now l.conditions.items.now) l.rows.contents)
+    l.new_rows.items ++ map (assigned_row l.sets.columns.now l.sets.items.now) (filter (satisfies l.fn.conditions.columns.now l.fn.conditions.items.now) l.number-iterator) ≡ map (assigned_row l.sets.columns.now l.sets.items.now) (filter (satisfies l.fn.conditions.columns.now l.fn.conditions.items.now) l.rows.contents)

@@ -10,8 +10,8 @@ use Rattle.system_core.proofs.machine.system.System.look.Goals as goal
 
 pub returns-in-Select : goal.returns-in-Select
 returns-in-Select c =
-    let By : Statement → Type 0 = λ s. Responds c.args.self.now (entry c.args.entry.now.pass c.args.entry.now.user s) (first_lack (checkpoint_checks c.args.self.now c.args.entry.now.user s)) c.select.result c.args.self.now in
-    let Asked : List Condition → Type 0 = λ f. CarriesOut c.args.self.now (entry c.args.entry.now.pass c.args.entry.now.user (statements.Select c.in-Select.list c.in-Select.table f)) c.select.result c.args.self.now in
+    let By : Statement → Type 0 = λ s. Responds c.args.self.now (entry c.args.entry.now.pass c.args.entry.now.user s) (first_lack (checkpoint_checks c.args.self.now c.args.entry.now.user s)) c.select.result c.select.new.self in
+    let Asked : List Condition → Type 0 = λ f. CarriesOut c.args.self.now (entry c.args.entry.now.pass c.args.entry.now.user (statements.Select c.in-Select.list c.in-Select.table f)) c.select.result c.select.new.self in
     subst By (sym c.in-Select.is) (subst Asked c.as_slice.ensures.items (c.select.ensures c.args.entry.now.pass c.args.entry.now.user))
 
 pub returns-in-Checkpoint : goal.returns-in-Checkpoint

@@ -1,0 +1,44 @@
+-- What the indexes of a table list.
+use Rattle.std.specs.Prelude.{◌≡◌, ℕ, Bool, true, List, Some, nat_eq, slice_get}
+use Rattle.std.specs.List.{All, Contains, list_any}
+use Rattle.std.specs.Option.{option_eq}
+use Rattle.base_core.specs.Filter.{column_index}
+use Rattle.base_core.specs.declared.value.Column.{Column}
+use Rattle.base_core.specs.declared.condition.Assignment.{Assignment}
+use Rattle.base_core.specs.declared.value.Value.{Value}
+use Rattle.base_core.specs.declared.value.Row.{Row}
+use Rattle.index_core.specs.declared.index.Index.{Index}
+use Rattle.index_core.specs.Listed.{listed}
+use Rattle.tables_core.specs.declared.column_index.ColumnIndex.{ColumnIndex}
+
+-- a row and its number
+abbrev pub Numbered : Type 0
+Numbered = ℕ × Row
+
+-- an index lists the row for the value that it has at the place, if it has one there
+abbrev pub Lists : Index → ℕ → Numbered → Type 0
+Lists index place row =
+    (value : Value) → slice_get row.1.values place ≡ Some value → Contains (listed index value) row.0
+
+-- the index of a column, if there is one, lists the row
+abbrev pub ColumnLists : ColumnIndex → Numbered → Type 0
+ColumnLists column row =
+    (index : Index) → column.index ≡ Some index → Lists index column.place row
+
+-- each of the indexes lists the row
+abbrev pub EachLists : List ColumnIndex → Numbered → Type 0
+EachLists kept row = All (λ column. ColumnLists column row) kept
+
+-- and so each of the rows
+abbrev pub ListAll : List ColumnIndex → List Numbered → Type 0
+ListAll kept rows = All (EachLists kept) rows
+
+-- whether one of the assignments is to the column at the place
+abbrev pub assigns : List Column → List Assignment → ℕ → Bool
+assigns columns sets place =
+    list_any (λ set. option_eq nat_eq (column_index columns set.column) (Some place)) sets
+
+-- the index lists for the value each row that the indexes list and that passes the test
+abbrev pub Leads : List ColumnIndex → (Numbered → Bool) → Index → Value → Type 0
+Leads kept test index value =
+    (r : Numbered) → EachLists kept r → test r ≡ true → Contains (listed index value) r.0

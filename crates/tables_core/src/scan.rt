@@ -1,0 +1,51 @@
+//! A filter for a walk over the rows of a table.
+ghost use Rattle.std.specs.Prelude.{◌≡◌, List, true};
+ghost use Rattle.base_core.specs.declared.value.Value.{Value as values};
+ghost use Rattle.base_core.specs.Filter.{is_chosen};
+ghost use Rattle.tables_core.specs.Bounding.{IsWithin};
+
+use crate::bounds::{Bounds, bounds_of};
+use crate::resolved::Resolved;
+use base_core::{Condition, Row};
+
+/// A filter for a walk over many rows. Most of those that it does not choose are told by one look
+/// at one column.
+#[derive(Drop)]
+pub struct Scan<'a> {
+    conditions: &'a Resolved<'a, Condition>,
+    bounds: Bounds,
+    ghost found: { (row : List values)
+        → is_chosen conditions.now.columns.now conditions.now.items.now row ≡ true
+        → IsWithin bounds row },
+}
+
+impl<'a> Scan<'a> {
+    pub fn new(conditions: &'a Resolved<'a, Condition>) -> Scan<'a>
+        ensures { result.conditions.now ≡ conditions.now }
+    {
+        let bounds = bounds_of(conditions);
+        Scan { conditions, bounds }
+    }
+
+    // Out of line, so that a walk over rows out of bounds needs few registers.
+    #[inline(never)]
+    fn meets_each(&self, row: &Row) -> bool
+        ensures { result
+            ≡ is_chosen
+            self.now.conditions.now.columns.now self.now.conditions.now.items.now
+            row.now.values }
+    {
+        self.conditions.choose(row)
+    }
+
+    /// Whether the row meets every condition.
+    #[inline(always)]
+    pub fn choose(&self, row: &Row) -> bool
+        ensures { result
+            ≡ is_chosen
+            self.now.conditions.now.columns.now self.now.conditions.now.items.now
+            row.now.values }
+    {
+        self.bounds.admit(row.values.as_slice()) && self.meets_each(row)
+    }
+}
