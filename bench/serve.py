@@ -2,36 +2,31 @@
 import os
 import re
 import shutil
-import socket
 import subprocess
 import sys
 import tempfile
 import time
 
+import load_engine
+from load_table import free_port
+from loads import loaded, work
 from postgres import running
 
 RUNS = 3
 
 
-def free_port():
-    with socket.socket() as taken:
-        taken.bind(("127.0.0.1", 0))
-        return taken.getsockname()[1]
-
-
-def served(program, load, workers, clients, statements, pipelined, kind, folder=None):
+def served(program, engine, workers, clients, statements, pipelined, kind, folder=None):
     """Statements a second and percentiles in microseconds, of the best of some runs; with a journal in a folder."""
     best = None
     for n in range(RUNS):
         port = free_port()
-        words = ["--port", str(port), "--workers", str(workers), "--sessions", str(clients)]
+        # (each client has a session before, which makes its table)
+        words = ["--port", str(port), "--workers", str(workers), "--sessions", str(2 * clients)]
         words += ["--journal", os.path.join(folder, f"journal{port}-{n}")] if folder else []
         child = subprocess.Popen([program, "serve", *words], stdout=subprocess.PIPE)
         child.stdout.readline()
-        words = [str(word) for word in (port, clients, statements, pipelined)]
-        done = subprocess.run([load, *words, kind], stdout=subprocess.PIPE, check=True)
+        found = loaded(engine, work(port, clients, statements, pipelined, kind.lower()))
         child.communicate(timeout=60)
-        found = [float(number) for number in done.stdout.split()]
         best = max(best, found) if best else found
     return best
 
@@ -85,17 +80,15 @@ def postgres(clients):
         return float(re.search(r"tps = ([\d.]+)", done.stdout)[1])
 
 
-def main(program, source):
-    compiler = shutil.which("cc")
-    if compiler is None:
+def main(program):
+    if shutil.which("cc") is None:
         print("no C compiler: nothing was measured")
         return
     processors = min(os.cpu_count() or 1, 16)
     print(f"load at the start: {os.getloadavg()[0]:.1f} on {os.cpu_count()} processors")
     print(f"sysr run alone: {alone(program, 200_000):,.0f} INSERT/s")
     with tempfile.TemporaryDirectory() as folder:
-        load = os.path.join(folder, "load")
-        subprocess.run([compiler, "-O2", "-pthread", "-o", load, source], check=True)
+        engine = load_engine.build(folder)
         for workers, clients, statements, pipelined, kind in (
             (processors, 1, 40_000, 1, "INSERT"),
             (processors, 4, 20_000, 1, "INSERT"),
@@ -105,11 +98,11 @@ def main(program, source):
             (16, 16, 10_000, 1, "INSERT"),
             (16, 16, 25_000, 1000, "INSERT"),
         ):
-            rate, half, most, last = served(program, load, workers, clients, statements, pipelined, kind)
+            rate, half, most, last = served(program, engine, workers, clients, statements, pipelined, kind)
             told = f"{workers:2} workers, {clients:2} clients, {pipelined:4} at a time, {kind}: {rate:9,.0f}/s"
             print(f"{told}  50 % in {half:.0f} us, 99 % in {most:.0f}, 99.9 % in {last:.0f}")
         for clients, statements, pipelined in ((1, 40_000, 1), (4, 20_000, 1), (4, 100_000, 1000)):
-            rate, half, most, last = served(program, load, processors, clients, statements, pipelined, "INSERT", folder)
+            rate, half, most, last = served(program, engine, processors, clients, statements, pipelined, "INSERT", folder)
             told = f"with a journal, {clients:2} clients, {pipelined:4} at a time, INSERT: {rate:9,.0f}/s"
             print(f"{told}  50 % in {half:.0f} us, 99 % in {most:.0f}, 99.9 % in {last:.0f}")
     for clients, pipelined in ((4, 1), (4, 16), (16, 1)):

@@ -4,4 +4,4 @@
 set -eu
 here=$(cd "$(dirname "$0")" && pwd)
 "$here/../sysr" --help > /dev/null
-python3 "$here/serve.py" "$here/../crates/sysr/out/sysr" "$here/load.c"
+python3 "$here/serve.py" "$here/../crates/sysr/out/sysr"

@@ -13,7 +13,9 @@ import sys
 import tempfile
 import time
 
-from serve import free_port
+import load_engine
+from load_table import free_port, prepare
+from loads import loaded, work
 
 ROUNDS = 7
 WORKERS = 16
@@ -61,31 +63,27 @@ def redis():
     return port, started(["redis-server", "--port", port, "--bind", "127.0.0.1", "--save", ""], False)
 
 
-def loaded(load, port, case, kind="INSERT"):
-    words = [load, port, *(str(number) for number in case), kind]
-    done = subprocess.run(words, stdout=subprocess.PIPE, check=True, timeout=120)
-    return [float(number) for number in done.stdout.split()]
-
-
-def measured(load, made, case, kind="INSERT"):
+def measured(engine, made, case, kind="insert"):
     """Statements a second, three percentiles in microseconds, microseconds of the server's threads for a statement,
     and how often they sleep for it."""
     port, serving = made
     with serving as child:
         before = used(child.pid)
-        found = loaded(load, port, case, kind)
+        found = loaded(engine, work(port, *case, kind))
         took, slept = (now - then for now, then in zip(used(child.pid), before))
     return [*found, took / 1e3 / case[0] / case[1], slept / case[0] / case[1]]
 
 
-def asked_beside_streams(program, load):
+def asked_beside_streams(program, engine):
     """The percentiles of a client that waits for each answer, in microseconds."""
     port, serving = server(program)
-    with serving, subprocess.Popen([load, port, *(str(number) for number in STREAMS), "INSERT"],
-            stdout=subprocess.DEVNULL) as streams:
+    streams = work(port, *STREAMS, "insert")
+    with serving:
+        prepare(streams)
+        run = load_engine.Run(engine, streams)
         time.sleep(0.1)
-        found = loaded(load, port, ASKED)
-        streams.kill()
+        found = loaded(engine, work(port, *ASKED, "insert", table="asked"))
+        run.stop()
     return found
 
 
@@ -111,23 +109,21 @@ def say_ratio(name, rows, others):
     print(f"{name}: {statistics.median(ratios):.2f} ({min(ratios):.2f} to {max(ratios):.2f})")
 
 
-def main(program, source):
-    compiler = shutil.which("cc")
-    if compiler is None:
+def main(program):
+    if shutil.which("cc") is None:
         print("no C compiler: nothing was measured")
         return
     print(f"load at the start: {os.getloadavg()[0]:.1f} on {os.cpu_count()} processors")
     found = {}
     with tempfile.TemporaryDirectory() as folder:
-        load = os.path.join(folder, "load")
-        subprocess.run([compiler, "-O2", "-pthread", "-o", load, source], check=True)
+        engine = load_engine.build(folder)
         for _ in range(ROUNDS):
             for name, case in CASES.items():
-                found.setdefault(name, []).append(measured(load, server(program), case))
+                found.setdefault(name, []).append(measured(engine, server(program), case))
             if shutil.which("redis-server"):
                 case = CASES["16 clients, 1 line"]
-                found.setdefault("Redis, the same", []).append(measured(load, redis(), case, "RPUSH"))
-        asked = [asked_beside_streams(program, load) for _ in range(ROUNDS)]
+                found.setdefault("Redis, the same", []).append(measured(engine, redis(), case, "rpush"))
+        asked = [asked_beside_streams(program, engine) for _ in range(ROUNDS)]
     one, many, single, *other = found.values()
     for name, rows in found.items():
         say(name, rows)

@@ -1,0 +1,1 @@
+"""sysr-shell: a line editor over a session."""

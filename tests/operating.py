@@ -1,0 +1,141 @@
+"""What stands in packaging: the program takes the words of the unit and of the container file, is killed and goes on with
+its journal; journals are mended; and what a container gets is all that the program needs."""
+import json
+import os
+import shutil
+import subprocess
+import tempfile
+
+from served import WAIT, Server, Session, in_time
+
+ROOT = os.path.dirname(os.path.dirname(os.path.abspath(__file__)))
+PACKAGING = os.path.join(ROOT, "packaging")
+UNIT = os.path.join(PACKAGING, "sysr.service")
+MEND = os.path.join(PACKAGING, "mend-journal")
+
+
+def unit():
+    """The settings of the unit, each with its values."""
+    found = {}
+    with open(UNIT) as file:
+        for line in file:
+            name, is_setting, value = line.rstrip("\n").partition("=")
+            if is_setting and not line.startswith("#"):
+                found.setdefault(name, []).append(value)
+    return found
+
+
+def words_of_unit():
+    """The words behind `sysr`, as systemd makes them."""
+    name, _, words = unit()["Environment"][0].strip('"').partition("=")
+    return unit()["ExecStart"][0].replace(f"${name}", words).split()[1:]
+
+
+def words_of_container():
+    with open(os.path.join(PACKAGING, "Containerfile")) as file:
+        return next(json.loads(line[4:]) for line in file if line.startswith("CMD "))
+
+
+def without(words, option):
+    """The words without an option and its value."""
+    at = words.index(option)
+    return words[:at] + words[at + 2:]
+
+
+def goes_on(program, check, name, words):
+    """A server of these words, but at a free port, is killed. The next one has what was told."""
+    check(f"{name}: serve", words[0] == "serve", words)
+    more = without(without(words[1:], "--port"), "--workers")
+    with tempfile.TemporaryDirectory() as folder:
+        mended(folder)
+        server = Server(program, None, workers=16, more=more, cwd=folder)
+        first = [server.listening, server.child.stdout.readline()]
+        ann = Session(server, "ann")
+        told = [ann.ask(line) for line in ("CREATE TABLE pay (name TEXT)", "INSERT INTO pay VALUES ('Bo')")]
+        server.child.kill()
+        server.end()
+        mended(folder)
+        server = Server(program, None, workers=16, more=more, cwd=folder)
+        second = [server.listening, server.child.stdout.readline()]
+        ann = Session(server, "ann")
+        told += [ann.ask("SELECT * FROM pay"), ann.line()]
+        server.child.kill()
+        server.end()
+    check(f"{name}: loaded", [first[0], second[0]] == [b"loaded 0 changes\n", b"loaded 2 changes\n"], (first, second))
+    check(f"{name}: goes on", told == ["done @1\n", "done @2\n", "rows 1 @2\n", "row,Bo\n"], told)
+
+
+def mended(folder):
+    return subprocess.run([MEND, "sysr.journal"], cwd=folder, capture_output=True, text=True, timeout=WAIT)
+
+
+def mending(program, check):
+    """Only a line without a line feed is taken away, and kept; all lines before it load."""
+    line = b"ann: CREATE TABLE t (x INTEGER)\n"
+    for given, whole, cut in (
+        (None, b"", None),
+        (b"", b"", None),
+        (line, line, None),
+        (line + b"ann: INS", line, b"ann: INS"),
+        (b"ann", b"", b"ann"),
+        (line + b"\x00\x00", line, b"\x00\x00"),
+    ):
+        with tempfile.TemporaryDirectory() as folder:
+            path = os.path.join(folder, "sysr.journal")
+            if given is not None:
+                with open(path, "wb") as file:
+                    file.write(given)
+            done = mended(folder)
+            seen = [content(path), content(path + ".cut")]
+            check(f"mended: {given}", seen == [whole, cut] and done.returncode == 0, (seen, done))
+            told = "" if cut is None else (
+                f"sysr.journal: its last line was cut off; {len(cut)} bytes were moved to sysr.journal.cut\n")
+            check(f"mended, and told: {given}", done.stderr == told and done.stdout == "", done)
+            words = [program, "run", "--load", path]
+            loaded = subprocess.run(words, stdin=subprocess.DEVNULL, capture_output=True, timeout=WAIT)
+            wanted = b"loaded %d changes\n" % whole.count(b"\n")
+            check(f"mended, and loaded: {given}", loaded.stdout == wanted, loaded)
+
+
+def content(path):
+    if not os.path.exists(path):
+        return None
+    with open(path, "rb") as file:
+        return file.read()
+
+
+def verified(program, check):
+    """systemd reads the unit, with the programs where they are here, and finds nothing to say of it."""
+    if shutil.which("systemd-analyze") is None:
+        print("no systemd-analyze: the unit was not verified")
+        return
+    with tempfile.TemporaryDirectory() as folder:
+        path = os.path.join(folder, "sysr.service")
+        with open(UNIT) as file, open(path, "w") as made:
+            text = file.read().replace("/usr/local/bin/sysr", program)
+            made.write(text.replace("/usr/local/lib/sysr/mend-journal", MEND))
+        done = subprocess.run(["systemd-analyze", "verify", path], capture_output=True, text=True, timeout=WAIT)
+    told = [line for line in (done.stdout + done.stderr).splitlines() if "sysr" in line]
+    check("the unit is verified", told == [], told)
+
+
+def container(program, check):
+    """In a root with nothing but what the container gets, the program starts."""
+    if shutil.which("ldd") is None or os.geteuid() != 0:
+        print("no ldd, or not root: the root of the container was not tried")
+        return
+    with tempfile.TemporaryDirectory() as folder:
+        made = os.path.join(folder, "context")
+        subprocess.run([os.path.join(PACKAGING, "container-context"), made], check=True, timeout=WAIT)
+        empty = content(os.path.join(made, "journal", "sysr.journal"))
+        check("the container's journal", empty == b"", empty)
+        done = subprocess.run(["chroot", os.path.join(made, "root"), "/sysr", "run"], input=b"ann: CHECKPOINTS\n",
+            capture_output=True, timeout=WAIT)
+        check("the container's root", (done.returncode, done.stdout) == (0, b"checkpoints 0 @0\n"), done)
+
+
+def played(program, check):
+    for name, words in (("the unit", words_of_unit()), ("the container", words_of_container())):
+        in_time(name, check, lambda: goes_on(program, check, name, words))
+    for test in (mending, verified, container):
+        in_time(test.__name__, check, lambda: test(program, check))
