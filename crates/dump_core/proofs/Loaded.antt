@@ -9,9 +9,9 @@ use Rattle.printer_core.specs.Printing.{minified}
 use Rattle.tables_core.specs.Contents.{Contents}
 use Rattle.system_core.specs.Journal.{contents, rights_at}
 use Rattle.system_core.specs.declared.machine.event.Entry.{Entry}
-use Rattle.journal_core.specs.Text.{journal_lines, journal_text}
+use Rattle.journal_core.specs.Text.{journal_lines, journal_text, WasRead}
 use Rattle.load_core.specs.Kept.{CanBeLoaded}
-use Rattle.load_core.specs.Loading.{Loads, lines_unmarked, without_pass, WasRead}
+use Rattle.load_core.specs.Loading.{Loads, lines_unmarked, without_pass}
 use Rattle.load_core.proofs.Again.{whole_text}
 use Rattle.load_core.proofs.Text.{lines_are}
 use Rattle.load_core.proofs.Written.{loads, lines_unmarked_is}

@@ -1,5 +1,5 @@
 -- Lines that are written one after another.
-use Rattle.std.proofs.Common.{◌≡◌, ℕ, suc, false, ◌+◌, List, [], ◌∷◌, ◌++◌, map, length, take, drop, Option, Some, Result, Ok, Err, refl, sym, ap, ◌∙◌, subst, append_assoc, append-nil}
+use Rattle.std.proofs.Common.{◌≡◌, ℕ, suc, false, ◌+◌, List, [], ◌∷◌, ◌++◌, map, length, take, drop, Option, Some, Result, Err, refl, sym, ap, ◌∙◌, subst, append_assoc, append-nil}
 use Rattle.std.specs.Prelude.{slice_get}
 use Rattle.std.specs.List.{AllByRecursion, flat_map}
 use Rattle.std.specs.Io.KnownBytes.{Appends, Keeps}
@@ -15,8 +15,10 @@ use Rattle.base_core.specs.declared.value.Row.{Row}
 use Rattle.reader_core.specs.Forming.{IsWellFormed}
 use Rattle.tables_core.specs.Contents.{Contents}
 use Rattle.grants_core.proofs.OwnersLemmas.{AllByRecursion-append}
-use Rattle.journal_core.specs.Text.{journal_lines, journal_text}
-use Rattle.printer_core.specs.Printing.{journal_line, ended_line, has_literals}
+use Rattle.journal_core.specs.Text.{journal_text}
+use Rattle.journal_core.proofs.Fronts.{front-before, front-after}
+use Rattle.journal_core.proofs.Lines.{text-append}
+use Rattle.printer_core.specs.Printing.{ended_line, has_literals}
 use Rattle.grants_core.specs.declared.grant.Grant.{Grant}
 use Rattle.system_core.specs.Journal.{contents, rights_at}
 use Rattle.system_core.specs.declared.machine.event.Entry.{Entry}
@@ -26,30 +28,6 @@ use Rattle.dump_core.specs.Dump.{creation, insertion, insertions, granting, gran
 use Rattle.dump_core.specs.Grouped.{Group}
 use Rattle.dump_core.specs.Laws.{AreWellFormed}
 use Rattle.dump_core.specs.Ending.{HasLine, WritesLines, IsLongItself, IsLongAmong, IsLongIn, IsLongRow, IsNowhere, EndsLines, EndsDump}
-
--- the writer failed at the first of two texts
-pub front-before : (a b : Option (List ℕ)) (text more : List ℕ) → WritesFront a b text → WritesFront a b (text ++ more)
-front-before a b text more w = record {
-  part = w.part;
-  unwritten = w.unwritten ++ more;
-  front = ap (λ t. t ++ more) w.front ∙ append_assoc w.part w.unwritten more;
-  wrote = w.wrote;
-}
-
--- the writer failed at what comes behind a text
-pub front-after : (a b c : Option (List ℕ)) (text more : List ℕ) → Appends a b text → WritesFront b c more → WritesFront a c (text ++ more)
-front-after a b c text more p w = record {
-  part = text ++ w.part;
-  unwritten = w.unwritten;
-  front = ap (λ t. text ++ t) w.front ∙ sym (append_assoc text w.part w.unwritten);
-  wrote = Appends-trans a b c text w.part p w.wrote;
-}
-
-pub text-append : (xs ys : List Entry) → journal_text (xs ++ ys) ≡ journal_text xs ++ journal_text ys
-text-append xs ys =
-    let line : Entry → List ℕ = λ e. journal_line e.user e.statement in
-    let ended : List ℕ → List ℕ = λ line. line ++ 10 ∷ [] in
-    ap (flat_map ended) (map-append line xs ys) ∙ flat_map-append ended (journal_lines xs) (journal_lines ys)
 
 pub none : (a : Option (List ℕ)) → WritesLines [] a a
 none a = record { each = tt; wrote = Appends-nil a }

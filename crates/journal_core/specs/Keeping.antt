@@ -1,10 +1,12 @@
 -- Changes that are kept, one after another.
 -- Of a keeper, `keeps old e new`: from the state old the entry e may be kept, and new is the next.
-use Rattle.std.specs.Prelude.{◌≡◌, ℕ, List, [], ◌∷◌, Option}
-use Rattle.std.specs.Io.KnownBytes.{Appends}
+use Rattle.std.specs.Prelude.{◌≡◌, ℕ, List, [], ◌∷◌, Option, Result, Ok, Err}
+use Rattle.std.specs.Io.KnownBytes.{Appends, Keeps}
 use Rattle.base_core.specs.Streams.{WritesFront}
 use Rattle.system_core.specs.declared.machine.event.Entry.{Entry}
-use Rattle.journal_core.specs.Text.{entry_text}
+use Rattle.journal_core.specs.Text.{entry_text, journal_text, WasRead}
+use Rattle.journal_core.specs.declared.writing.JournalFault.{JournalFault}
+use Rattle.journal_core.specs.declared.writing.JournalFault.TheVariants as faults
 
 -- the entries are kept, one after another
 abbrev pub KeepsAll : {K : Type 0} → (K → Entry → K → Type 0) → K → List Entry → K → Type 0
@@ -13,11 +15,20 @@ KeepsAll {K} keeps old (e ∷ es) new = (mid : K) × keeps old e mid × KeepsAll
 
 -- Of a sink, `taken` and `handed_on` are those of base_core's `Sink`.
 module _ {W : Type 0} (taken handed_on : W → Option (List ℕ)) where
-  -- the sink took the line of the entry, and has handed on all that it took
+  -- the sink took the line of the entry, which a line can say, and has handed on all that it took
   pub record KeepsLine (old : W) (e : Entry) (new : W) : Type 0 where
+    pub read : WasRead e
     pub line : Appends (taken old) (taken new) (entry_text e)
     pub handed_on_all : handed_on new ≡ taken new
 
 -- the sink took a front of the line at most
 abbrev pub FailsLine : {W : Type 0} → (W → Option (List ℕ)) → W → Entry → W → Type 0
 FailsLine taken old e new = WritesFront (taken old) (taken new) (entry_text e)
+
+-- how the writing of a whole journal ends: its text was written, or a front of it, or nothing
+abbrev pub EndsJournal : Result (Unit {0}) JournalFault → List Entry
+    → Option (List ℕ) → Option (List ℕ) → Type 0
+EndsJournal (Ok _) journal taken taken' = Appends taken taken' (journal_text journal)
+EndsJournal (Err faults.Write) journal taken taken' =
+    WritesFront taken taken' (journal_text journal)
+EndsJournal (Err faults.NoMemory) journal taken taken' = Keeps taken taken'

@@ -1,8 +1,16 @@
 -- A journal as a script.
 use Rattle.std.specs.Prelude.{ℕ, List, [], ◌∷◌, ◌++◌, map}
 use Rattle.std.specs.List.{flat_map}
+use Rattle.base_core.specs.Words.{IsName}
+use Rattle.reader_core.specs.Language.{Spells}
 use Rattle.printer_core.specs.Printing.{journal_line, ended_line}
 use Rattle.system_core.specs.declared.machine.event.Entry.{Entry}
+
+-- an entry that a line can say: some line spells its statement, and its user's name is one
+pub record WasRead (e : Entry) : Type 0 where
+  pub line : List ℕ
+  pub spelled : Spells line e.statement
+  pub name : IsName e.user.0
 
 -- the line of an entry with its line feed
 abbrev pub entry_text : Entry → List ℕ

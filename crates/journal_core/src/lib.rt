@@ -14,6 +14,8 @@
 //! nothing else (`specs/Text.antt`, law [`kept_lines_are_the_text`]). After a failure the sink has
 //! a front of one more line at most.
 //!
+//! [`write_journal`] writes a whole journal at once, and has the sink hand it on at the end.
+//!
 //! # Cost
 //!
 //! A line is printed once, in the one page of a keeper, and takes no memory. It is one write and
@@ -23,7 +25,9 @@
 mod keeper;
 mod laws;
 mod line_keeper;
+mod writing;
 
 pub use keeper::{Keeper, NoKeeper, keep_last};
 pub use laws::kept_lines_are_the_text;
 pub use line_keeper::LineKeeper;
+pub use writing::{JournalFault, write_journal};

@@ -54,6 +54,8 @@ fn write_entry<W: Sink>(page: &mut Page, sink: &mut W, entry: &Entry) -> Result<
     ensures ok { OnOk result (KeepsLine W.taken W.handed_on sink.old entry.now sink.new) }
     ensures err { OnErr result (FailsLine W.taken sink.old entry.now sink.new) }
 {
+    // A user's name is one, as its type keeps it.
+    let _ = entry.user.0.as_bytes();
     write_all(sink, page.line(entry.user, &entry.statement))?;
     sink.flush()
 }

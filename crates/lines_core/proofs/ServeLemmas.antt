@@ -47,6 +47,12 @@ module _ {X : Type 0} (R : X → List ℕ → List ℕ → X → Type 0)
         };
       }
 
+  -- The end of the input, at which no byte was read.
+  pub Serving-end : (kept : List ℕ) (start world : X) (unread : ℕ) (left0 left1 left2 taken0 taken1 : Option (List ℕ))
+      → HasServed R kept start world unread left0 left1 taken0 taken1 → Consumes left1 left2 [] → HasServed R kept start world unread left0 left2 taken0 taken1
+  Serving-end kept start world unread left0 left1 left2 taken0 taken1 s read =
+      record { bytes = s.bytes; count = s.count; read = at_end left0 left1 left2 s.bytes s.read read; fed = s.fed }
+
   -- The whole lines are answered, wherever the reading ends.
   pub Run-whole : (kept : List ℕ) (start world : X) (unread : ℕ) (left0 left1 left2 taken0 taken1 : Option (List ℕ))
       → (s : HasServed R kept start world unread left0 left1 taken0 taken1) → Keeps left1 left2 → AnswersInput R whole_lines start world left0 left2 taken0 taken1 s.bytes

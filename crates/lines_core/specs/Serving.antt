@@ -2,7 +2,7 @@
 -- `answers old line text new`: from the state old, text may be written for the line, and new is the
 -- next state. A reader has `left` bytes at first and `left'` at last, a writer has `taken` and `taken'`,
 -- where they are known.
-use Rattle.std.specs.Prelude.{◌≡◌, ◌⊎◌, Bool, true, false, ◌+◌, ◌^◌, ◌≤◌, ℕ, List, [], ◌∷◌, ◌++◌, length, map, take, Option, Result, Ok, Err}
+use Rattle.std.specs.Prelude.{◌≡◌, ◌≢◌, ◌⊎◌, Bool, true, false, ◌+◌, ◌^◌, ◌≤◌, ℕ, List, [], ◌∷◌, ◌++◌, length, map, take, Option, Result, Ok, Err}
 use Rattle.std.specs.Str.Lines.{lines, strip_carriage_return}
 use Rattle.std.specs.Io.KnownBytes.{Appends, Consumes, Keeps, IsAtEnd}
 use Rattle.base_core.specs.Streams.{WritesFront}
@@ -10,6 +10,10 @@ use Rattle.lines_core.specs.Lines.{Cut, whole_lines, IsWhole, IsCutOff}
 use Rattle.lines_core.specs.declared.line.TheConstants.{KEPT_BYTES}
 use Rattle.lines_core.specs.declared.serving.Ending.{Ending}
 use Rattle.lines_core.specs.declared.serving.Ending.TheVariants as endings
+use Rattle.lines_core.specs.declared.serving.WholeEnding.{WholeEnding}
+use Rattle.lines_core.specs.declared.serving.WholeEnding.TheVariants as whole_endings
+use Rattle.lines_core.specs.declared.serving.Stop.{Stop}
+use Rattle.lines_core.specs.declared.serving.Stop.TheVariants as stops
 use Rattle.lines_core.specs.declared.serving.SessionFault.{SessionFault}
 use Rattle.lines_core.specs.declared.serving.SessionFault.TheVariants as faults
 
@@ -144,10 +148,40 @@ EndsTold answers over (Ok endings.Over) old new left left' taken taken' =
 EndsTold answers over (Err fault) old new left left' taken taken' =
     Ends answers over (Err fault) old new left left' taken taken'
 
+-- the same, where only whole lines are answered: of a last line that has no line feed the front is kept
+abbrev pub EndsWhole : {X : Type 0} → (X → List ℕ → List ℕ → X → Type 0) → (X → Bool)
+    → Result WholeEnding SessionFault → X → X
+    → Option (List ℕ) → Option (List ℕ) → Option (List ℕ) → Option (List ℕ) → Type 0
+EndsWhole answers over (Ok whole_endings.Whole) old new left left' taken taken' =
+    (bytes : List ℕ)
+    × AnswersInput answers whole_lines old new left left' taken taken' bytes
+    × IsAtEnd left'
+    × (over old ≡ false → over new ≡ false)
+    × IsWhole bytes
+    × (lines bytes ≡ whole_lines bytes)
+EndsWhole answers over (Ok (whole_endings.CutOff front)) old new left left' taken taken' =
+    (bytes : List ℕ)
+    × AnswersInput answers whole_lines old new left left' taken taken' bytes
+    × IsAtEnd left'
+    × (over old ≡ false → over new ≡ false)
+    × (cut : IsCutOff bytes)
+    × (front.items ≡ take KEPT_BYTES cut.last)
+EndsWhole answers over (Ok whole_endings.Over) old new left left' taken taken' =
+    (bytes : List ℕ)
+    × AnswersInput answers whole_lines old new left left' taken taken' bytes × (over new ≡ true)
+EndsWhole answers over (Err fault) old new left left' taken taken' =
+    Ends answers over (Err fault) old new left left' taken taken'
+
 -- how an input ends, by what its last line has behind the last line feed
 abbrev pub ending_at : List ℕ → Ending
 ending_at [] = endings.Whole
 ending_at (b ∷ bs) = endings.CutOff
+
+-- the same, where that line is not answered but its front handed out
+abbrev pub IsEndingAt : WholeEnding → List ℕ → Type 0
+IsEndingAt whole_endings.Whole kept = kept ≡ []
+IsEndingAt (whole_endings.CutOff front) kept = (front.items ≡ kept) × (kept ≢ [])
+IsEndingAt whole_endings.Over kept = ⊥
 
 -- How far a server has come: the bytes read so far were cut into lines, which were answered; of the
 -- rest the front is kept.
@@ -158,3 +192,18 @@ pub record HasServed {X : Type 0} (answers : X → List ℕ → List ℕ → X �
   pub count : length bytes + unread ≡ 2 ^ 32
   pub read : Consumes left left' bytes
   pub fed : AnswersPiece answers [] bytes kept old new taken taken'
+
+-- where it stopped: at the end of the input, before which it was not over; or where it was over
+abbrev pub EndsReading : {X : Type 0} → (X → List ℕ → List ℕ → X → Type 0) → (X → Bool)
+    → Result Stop SessionFault → List ℕ → X → X
+    → Option (List ℕ) → Option (List ℕ) → Option (List ℕ) → Option (List ℕ) → Type 0
+EndsReading answers over (Ok stops.AtEnd) kept old new left left' taken taken' =
+    (unread : ℕ)
+    × HasServed answers kept old new unread left left' taken taken'
+    × IsAtEnd left'
+    × (over old ≡ false → over new ≡ false)
+EndsReading answers over (Ok stops.Over) kept old new left left' taken taken' =
+    (bytes : List ℕ)
+    × AnswersInput answers whole_lines old new left left' taken taken' bytes × (over new ≡ true)
+EndsReading answers over (Err fault) kept old new left left' taken taken' =
+    Ends answers over (Err fault) old new left left' taken taken'

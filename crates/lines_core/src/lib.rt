@@ -16,7 +16,7 @@
 //! ```
 //!
 //! [`serve_told`] is the same, and tells which end it came to: so a caller can refuse an input whose last
-//! line has no line feed.
+//! line has no line feed. [`serve_whole`] answers no such line, and hands out its front.
 //!
 //! [`fault_text`] and [`fault_name`] say what is told of a fault that ended the answering, [`audit_end`]
 //! how an audit ends, and [`give_up`] ends a process that could not go on. A [`Steady`] stream makes a call
@@ -43,5 +43,7 @@ mod steady;
 
 pub use ending::{NO_MEMORY, audit_end, fault_name, fault_text, give_up};
 pub use line::LONGEST_LINE;
-pub use serving::{Ending, LineServer, MOST_BYTES, SessionFault, serve, serve_told};
+pub use serving::{
+    Ending, LineServer, MOST_BYTES, SessionFault, WholeEnding, serve, serve_told, serve_whole,
+};
 pub use steady::Steady;

@@ -71,6 +71,13 @@ impl Line {
         self.bytes.clear();
     }
 
+    /// Its bytes, by themselves.
+    pub fn into_bytes(self) -> Vec<u8>
+        ensures { result.items ≡ self }
+    {
+        self.bytes
+    }
+
     pub fn as_slice(&self) -> &[u8]
         ensures { result.now ≡ self.now }
     {

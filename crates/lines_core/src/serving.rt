@@ -4,7 +4,7 @@ ghost use Rattle.std.specs.Io.KnownBytes.{Consumes, Keeps, IsAtEnd};
 ghost use Rattle.std.specs.Str.Lines.{strip_carriage_return};
 ghost use Rattle.lines_core.specs.declared.line.TheConstants.{KEPT_BYTES, LONGEST_LINE};
 ghost use Rattle.lines_core.specs.Lines.{NoFeed};
-ghost use Rattle.lines_core.specs.Serving.{WritesAnswer, BreaksAnswer, AnswersPiece, BreaksPiece, Ends, EndsTold, ending_at};
+ghost use Rattle.lines_core.specs.Serving.{WritesAnswer, BreaksAnswer, AnswersPiece, BreaksPiece, EndsReading, Ends, EndsTold, EndsWhole, ending_at, IsEndingAt};
 
 use crate::line::{Line, without_carriage_return};
 use base_core::{Broken, Sink, Source};
@@ -33,6 +33,26 @@ pub enum Ending {
     /// That of the input, whose last line has none.
     CutOff,
     /// The server was over.
+    Over,
+}
+
+/// Which end the answering of whole lines came to.
+#[derive(Drop)]
+pub enum WholeEnding {
+    /// That of the input, of which each line has its line feed.
+    Whole,
+    /// That of the input, whose last line has none and was not answered: what is kept of it.
+    CutOff(Vec<u8>),
+    /// The server was over.
+    Over,
+}
+
+/// Where the answering of whole lines stopped.
+#[derive(Drop)]
+enum Stop {
+    /// At the end of the input.
+    AtEnd,
+    /// Where the server was over.
     Over,
 }
 
@@ -193,6 +213,48 @@ fn ending_at(line: &Line) -> Ending
     }
 }
 
+/// Reads to the end and answers each line whose line feed has come, from a line with nothing in it.
+/// What is kept of what stands behind the last line feed is left in the line.
+fn answer_whole_lines<D: LineServer, S: Source, W: Sink>(
+    server: &mut D,
+    line: &mut Line,
+    buffer: &mut [u8],
+    reader: &mut S,
+    writer: &mut W,
+) -> Result<Stop, SessionFault>
+    requires source { S.failed reader.old ≡ false }
+    requires sink { W.failed writer.old ≡ false }
+    requires start { (line.old ≡ []) × (0 < length buffer.old) }
+    ensures read { IsErrOf result SessionFault.Read ↔ (S.failed reader.new ≡ true) }
+    ensures write { IsErrOf result SessionFault.Write ↔ (W.failed writer.new ≡ true) }
+    ensures memory { IsErrOf result SessionFault.NoMemory → ⊥ }
+    ensures not_over { W.failed writer.new ≡ false
+        → OnErr result (D.over server.old ≡ false → D.over server.new ≡ false) }
+    ensures flushed { W.flushed writer.old ≡ true → W.failed writer.new ≡ false
+        → W.flushed writer.new ≡ true }
+    ensures ends { EndsReading D.answers D.over result line.new server.old server.new
+        (S.left reader.old) (S.left reader.new) (W.taken writer.old) (W.taken writer.new) }
+{
+    let mut unread = MOST_BYTES;
+    while unread > 0 {
+        let most = unread.min(buffer.len() as u64) as usize;
+        let Ok(n) = read_up_to(reader, buffer, most) else {
+            return Err(SessionFault::Read);
+        };
+        if n == 0 {
+            return Ok(Stop::AtEnd);
+        }
+        let Ok(()) = feed(server, line, writer, &buffer[..n]) else {
+            return Err(SessionFault::Write);
+        };
+        if server.is_over() {
+            return Ok(Stop::Over);
+        }
+        unread -= n as u64;
+    }
+    Err(SessionFault::Bound)
+}
+
 /// Reads to the end and answers each line, from a line with nothing in it.
 fn serve_lines<D: LineServer, S: Source, W: Sink>(
     server: &mut D,
@@ -214,28 +276,26 @@ fn serve_lines<D: LineServer, S: Source, W: Sink>(
     ensures ends { EndsTold D.answers D.over result server.old server.new
         (S.left reader.old) (S.left reader.new) (W.taken writer.old) (W.taken writer.new) }
 {
-    let mut unread = MOST_BYTES;
-    while unread > 0 {
-        let most = unread.min(buffer.len() as u64) as usize;
-        let Ok(n) = read_up_to(reader, buffer, most) else {
-            return Err(SessionFault::Read);
-        };
-        if n == 0 {
-            let ending = ending_at(line);
-            return match finish(server, line, writer) {
-                Ok(()) => Ok(ending),
-                Err(Broken) => Err(SessionFault::Write),
-            };
-        }
-        let Ok(()) = feed(server, line, writer, &buffer[..n]) else {
-            return Err(SessionFault::Write);
-        };
-        if server.is_over() {
-            return Ok(Ending::Over);
-        }
-        unread -= n as u64;
+    match answer_whole_lines(server, line, buffer, reader, writer) {
+        Ok(Stop::Over) => Ok(Ending::Over),
+        Ok(Stop::AtEnd) => match finish(server, line, writer) {
+            Ok(()) => Ok(ending_at(line)),
+            Err(Broken) => Err(SessionFault::Write),
+        },
+        Err(fault) => Err(fault),
     }
-    Err(SessionFault::Bound)
+}
+
+/// How an input ends behind whose last line feed this line has begun, which is not answered.
+fn whole_ending(line: Line) -> WholeEnding
+    ensures { IsEndingAt result line }
+{
+    let front = line.into_bytes();
+    if front.is_empty() {
+        WholeEnding::Whole
+    } else {
+        WholeEnding::CutOff(front)
+    }
 }
 
 /// Room for a piece of the input.
@@ -301,4 +361,40 @@ pub fn serve_told<D: LineServer, S: Source, W: Sink>(
         return Err(SessionFault::NoMemory);
     };
     serve_lines(server, &mut line, buffer.as_mut_slice(), reader, writer)
+}
+
+/// Answers the lines whose line feed has come, one by one, until the end of what the reader gives
+/// or until the server is over. A last line without a line feed is passed over, and handed out as
+/// far as it is kept: its first 4,130 bytes at most.
+///
+/// It reads, and answers faults, as [`serve`] does, but that a write cannot fail behind the last
+/// line feed.
+pub fn serve_whole<D: LineServer, S: Source, W: Sink>(
+    alloc: Global,
+    server: &mut D,
+    reader: &mut S,
+    writer: &mut W,
+) -> Result<WholeEnding, SessionFault>
+    requires source { S.failed reader.old ≡ false }
+    requires sink { W.failed writer.old ≡ false }
+    ensures read { IsErrOf result SessionFault.Read ↔ (S.failed reader.new ≡ true) }
+    ensures write { IsErrOf result SessionFault.Write ↔ (W.failed writer.new ≡ true) }
+    ensures flushed { W.flushed writer.old ≡ true → W.failed writer.new ≡ false
+        → W.flushed writer.new ≡ true }
+    ensures not_over { W.failed writer.new ≡ false
+        → OnErr result (D.over server.old ≡ false → D.over server.new ≡ false) }
+    ensures ends { EndsWhole D.answers D.over result server.old server.new
+        (S.left reader.old) (S.left reader.new) (W.taken writer.old) (W.taken writer.new) }
+{
+    let Ok(mut buffer) = new_buffer(alloc) else {
+        return Err(SessionFault::NoMemory);
+    };
+    let Ok(mut line) = Line::new(alloc) else {
+        return Err(SessionFault::NoMemory);
+    };
+    match answer_whole_lines(server, &mut line, buffer.as_mut_slice(), reader, writer) {
+        Ok(Stop::AtEnd) => Ok(whole_ending(line)),
+        Ok(Stop::Over) => Ok(WholeEnding::Over),
+        Err(fault) => Err(fault),
+    }
 }

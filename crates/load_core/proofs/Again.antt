@@ -1,14 +1,16 @@
 -- The journal of a script, kept as lines, loads it.
-use Rattle.std.proofs.Common.{◌≡◌, ℕ, Bool, false, List, [], ◌∷◌, ◌++◌, All, IfOk, Option, Result, Ok, Err, map, refl, sym, ap, subst, ◌∙◌, append_assoc, append-nil, arith, inl, inr}
+use Rattle.std.proofs.Common.{◌≡◌, ℕ, Bool, false, List, [], ◌∷◌, ◌++◌, All, IfOk, Option, Result, Ok, Err, map, drop, refl, sym, ap, subst, ◌∙◌, append_assoc, append-nil, arith, inl, inr}
 use Rattle.std.specs.List.{AllByRecursion}
 use Rattle.std.specs.Str.Lines.{lines}
 use Rattle.std.proofs.lemmas.List.Elements.{All-from_recursion}
 use Rattle.base_core.specs.declared.limits.Limits.{Limits}
 use Rattle.printer_core.specs.Printing.{journal_line}
+use Rattle.grants_core.proofs.OwnersLemmas.{AllByRecursion-append}
 use Rattle.lines_core.specs.Lines.{IsWhole}
+use Rattle.lines_core.specs.declared.line.TheConstants.{LONGEST_LINE}
 use Rattle.system_core.specs.World.{World, opening, AreSound}
 use Rattle.system_core.specs.declared.machine.event.Entry.{Entry}
-use Rattle.journal_core.specs.Text.{journal_lines, journal_text}
+use Rattle.journal_core.specs.Text.{journal_lines, journal_text, WasRead}
 use Rattle.journal_core.specs.Keeping.{KeepsLine, FailsLine}
 use Rattle.journal_core.proofs.Kept.{kept-text}
 use Rattle.script_core.specs.Keeping.{with_keeper, EndsKept}
@@ -16,7 +18,7 @@ use Rattle.script_core.proofs.KeptLemmas.{journal-kept}
 use Rattle.load_core.specs.Kept.{CanBeLoaded}
 use Rattle.load_core.specs.declared.fault.LoadFault.{LoadFault}
 use Rattle.load_core.specs.Loading.{Loads, lines_unmarked, without_pass, EndsLoad}
-use Rattle.load_core.proofs.Said.{Said, ends-said, no_pass, were_read}
+use Rattle.load_core.proofs.Said.{WasSaid, Said, ends-said, no_pass, were_read, speaker_named}
 use Rattle.load_core.proofs.Text.{lines_are}
 use Rattle.load_core.proofs.Written.{loads, lines_unmarked_is}
 
@@ -29,10 +31,10 @@ whole_text (e ∷ es) =
       | inr (front, is) ↦ inr ((line ++ 10 ∷ []) ++ front, ap (λ (t : List ℕ). (line ++ 10 ∷ []) ++ t) is ∙ sym (append_assoc (line ++ 10 ∷ []) front (10 ∷ [])))
     ]
 
-opening_said : (chunk : ℕ) (limits : Limits) → Said (opening chunk limits)
+opening_said : (chunk : ℕ) (limits : Limits) → Said limits (opening chunk limits)
 opening_said chunk limits =
     let sound : AreSound (opening chunk limits) = record { within = omega arith; few = omega arith; rising = tt; begun = tt; past = tt; active = tt } in
-    (record { journal = tt; checkpoints = sound }, tt)
+    (record { journal = tt; checkpoints = sound }, tt, refl)
 
 module _ {W : Type 0} (taken handed_on : W → Option (List ℕ)) (failed : W → Bool) where
   pub kept_again : (chunk : ℕ) (new : World) (sink sink' : W) (left left' out out' : Option (List ℕ)) → failed sink ≡ false
@@ -40,7 +42,7 @@ module _ {W : Type 0} (taken handed_on : W → Option (List ℕ)) (failed : W �
       → CanBeLoaded new.limits (taken sink) (taken sink') new.journal
   kept_again chunk new sink sink' left left' out out' works ends =
       let start = opening chunk ends.0 in
-      let said : Said new = ends-said (KeepsLine taken handed_on) (FailsLine taken) failed (Ok tt) (with_keeper start sink) (with_keeper new sink') left left' out out' (opening_said chunk ends.0) ends.2.1 in
+      let said : Said ends.0 new = ends-said (KeepsLine taken handed_on) (FailsLine taken) failed ends.0 (Ok tt) (with_keeper start sink) (with_keeper new sink') left left' out out' (opening_said chunk ends.0) ends.2.1 in
       let read = were_read new.journal said.1 in
       let as_lines : lines_unmarked (lines (journal_text new.journal)) ≡ journal_lines new.journal = ap lines_unmarked (lines_are new.journal read) ∙ lines_unmarked_is new.journal read in
       let loaded : Loads new.limits [] (journal_lines new.journal) (map without_pass new.journal) = loads new.limits [] new.journal said.0.journal read in
@@ -63,3 +65,14 @@ loaded_passes limits before after (line ∷ ls) (e, says, more) p = loaded_passe
 pub ends_passes : (chunk : ℕ) (result : Result World LoadFault) (left left' : Option (List ℕ)) → EndsLoad chunk result left left' → IfOk result (λ w. All (λ e. e.pass ≡ 0) w.journal)
 ends_passes chunk (Ok new) left left' h = All-from_recursion (λ (e : Entry). e.pass ≡ 0) new.journal (loaded_passes h.0 [] new.journal (lines_unmarked (lines h.1)) h.6 tt)
 ends_passes chunk (Err fault) left left' h = tt
+
+-- what is loaded was said by a line
+pub loaded_said : (limits : Limits) (before after : List Entry) (ls : List (List ℕ)) → Loads limits before ls after → AllByRecursion WasSaid before → AllByRecursion WasSaid after
+loaded_said limits before after [] same said = subst (AllByRecursion WasSaid) (sym same) said
+loaded_said limits before after (line ∷ ls) (e, says, more) said =
+    let read : WasRead e = record { line = drop says.says.start line; spelled = says.says.spelled; name = speaker_named LONGEST_LINE line e.user says.says.start says.says.speaker } in
+    loaded_said limits (before ++ e ∷ []) after ls more (AllByRecursion-append WasSaid before (e ∷ []) said ((read, says.says.pass), tt))
+
+pub ends_read : (chunk : ℕ) (result : Result World LoadFault) (left left' : Option (List ℕ)) → EndsLoad chunk result left left' → IfOk result (λ w. AllByRecursion WasRead w.journal)
+ends_read chunk (Ok new) left left' h = were_read new.journal (loaded_said h.0 [] new.journal (lines_unmarked (lines h.1)) h.6 tt)
+ends_read chunk (Err fault) left left' h = tt

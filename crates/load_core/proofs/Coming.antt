@@ -1,6 +1,7 @@
 -- What a loader has come to by lines.
 use Rattle.std.proofs.Common.{◌≡◌, ℕ, ◌+◌, Option, Some, None, List, [], ◌∷◌, ◌++◌, length, refl, ap, sym, subst, ◌∙◌, arith, length-append}
 use Rattle.lines_core.specs.Serving.{AnswersAll}
+use Rattle.lines_core.specs.declared.line.TheConstants.{LONGEST_LINE}
 use Rattle.system_core.specs.World.{World, with_entry}
 use Rattle.system_core.specs.declared.machine.event.Entry.{Entry}
 use Rattle.load_core.specs.declared.fault.Undone.{Undone}
@@ -21,7 +22,7 @@ pub record Stops (old : World) (ls : List (List ℕ)) (why : Undone) (new : Worl
   pub count : length new.journal ≡ length old.journal + length front
   pub loads : Loads old.limits old.journal front new.journal
   pub same : new ≡ with_journal old new.journal
-  pub undone : IsUndone new line why
+  pub undone : IsUndone LONGEST_LINE new line why
 
 -- what the lines come to from an open loader
 abbrev pub Comes : World → List (List ℕ) → Option Undone → World → Type 0
@@ -29,7 +30,7 @@ Comes old ls None new = Loads old.limits old.journal ls new.journal × (new ≡ 
 Comes old ls (Some why) new = Stops old ls why new
 
 -- one line before them that was entered
-entered : (old : World) (e : Entry) (line : List ℕ) (ls : List (List ℕ)) (stop : Option Undone) (new : World) → SaysChange old.limits old.journal line e → Comes (with_entry old e) ls stop new → Comes old (line ∷ ls) stop new
+entered : (old : World) (e : Entry) (line : List ℕ) (ls : List (List ℕ)) (stop : Option Undone) (new : World) → SaysChange LONGEST_LINE old.limits old.journal line e → Comes (with_entry old e) ls stop new → Comes old (line ∷ ls) stop new
 entered old e line ls None new says q = ((e, says, q.0), q.1)
 entered old e line ls (Some why) new says q = record {
   front = line ∷ q.front;

@@ -6,6 +6,7 @@ use Rattle.base_core.specs.Full.{IsFull}
 use Rattle.base_core.specs.declared.limits.Limits.{Limits}
 use Rattle.lines_core.specs.Lines.{whole_lines}
 use Rattle.lines_core.specs.Serving.{AnswersAll, EndsTold}
+use Rattle.lines_core.specs.declared.line.TheConstants.{LONGEST_LINE}
 use Rattle.lines_core.specs.declared.serving.Ending.{Ending}
 use Rattle.lines_core.specs.declared.serving.Ending.TheVariants as endings
 use Rattle.system_core.specs.World.{World, opening}
@@ -31,7 +32,7 @@ module _ (chunk : ℕ) (limits : Limits) (full : IsFull limits) (left left' : Op
     lines_are = s.lines_are;
     number_is = omega (arith, s.count);
     loads = s.loads;
-    undone = subst (λ (x : World). IsUndone x s.line why) s.same s.undone;
+    undone = subst (λ (x : World). IsUndone LONGEST_LINE x s.line why) s.same s.undone;
   }
 
   -- by the lines of an input, of which each has its line feed

@@ -17,7 +17,7 @@ use Rattle.system_core.proofs.Judged.{failed-first}
 use Rattle.load_core.specs.declared.fault.Undone.{Undone}
 use Rattle.load_core.specs.declared.fault.Undone.TheVariants as reasons
 use Rattle.load_core.specs.Loading.{SaysEntry, is_done, IsUndoneEntry}
-use Rattle.load_core.specs.Loader.{EntersEntry, EntersLine}
+use Rattle.load_core.specs.Loader.{EntersEntry, EntersUpTo}
 
 -- a lack is answered by no Done
 lack_not_done : (b : Bool) (at : Moment) (lack : Lack) → is_done (if b then replies.Denied at lack else replies.Refused at lack) ≡ false
@@ -40,9 +40,9 @@ module _ (old new : World) (e : Entry) (reply : Reply) (denied : verdict_at old.
       ((change, subst (λ (w : World). Step old (events.Say 0 e.user e.statement) reply w) r.1 step, r.0), r.1)
 
 -- what an entry comes to is what the line comes to that says it
-pub line_enters : (old new : World) (line : List ℕ) (e : Entry) → SaysEntry line e → (stop : Option Undone) → EntersEntry old e stop new → EntersLine old line stop new
-line_enters old new line e says None p = (e, record { says = says; change = p.0; allowed = p.1 }, p.2)
-line_enters old new line e says (Some (reasons.Fault code offset)) p = absurd p.0
-line_enters old new line e says (Some reasons.Unread) p = absurd p.0
-line_enters old new line e says (Some reasons.NoChange) p = ((e, says, p.0), p.1)
-line_enters old new line e says (Some (reasons.Answer reply)) p = ((e, says, p.0), p.1)
+pub line_enters : (most : ℕ) (old new : World) (line : List ℕ) (e : Entry) → SaysEntry most line e → (stop : Option Undone) → EntersEntry old e stop new → EntersUpTo most old line stop new
+line_enters most old new line e says None p = (e, record { says = says; change = p.0; allowed = p.1 }, p.2)
+line_enters most old new line e says (Some (reasons.Fault code offset)) p = absurd p.0
+line_enters most old new line e says (Some reasons.Unread) p = absurd p.0
+line_enters most old new line e says (Some reasons.NoChange) p = ((e, says, p.0), p.1)
+line_enters most old new line e says (Some (reasons.Answer reply)) p = ((e, says, p.0), p.1)

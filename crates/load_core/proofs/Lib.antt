@@ -10,3 +10,5 @@ pub mod Said
 pub mod Again
 pub mod PassedOver
 pub mod ReplayEnds
+pub mod ReplayInput
+pub mod GoneOn

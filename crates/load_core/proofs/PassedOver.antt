@@ -1,6 +1,5 @@
 -- A line that was passed over says no change that is allowed.
-use Rattle.std.proofs.Common.{◌≡◌, ℕ, ◌+◌, Bool, true, false, List, Option, Result, Ok, Err, drop, refl, sym, ap, subst, ◌∙◌}
-use Rattle.base_core.specs.declared.lack.Lack.{Lack}
+use Rattle.std.proofs.Common.{◌≡◌, ℕ, Bool, true, false, List, Result, Ok, Err, drop, refl, sym, ap, subst, ◌∙◌}
 use Rattle.base_core.specs.declared.name.User.{User}
 use Rattle.base_core.specs.declared.value.Row.{Row}
 use Rattle.lexer_core.specs.declared.fault.Code.{Code}
@@ -8,7 +7,6 @@ use Rattle.reader_core.specs.Language.{Spells, IsReadFault}
 use Rattle.reader_core.specs.declared.statement.Statement.{Statement}
 use Rattle.reader_core.specs.declared.statement.Statement.TheVariants as statements
 use Rattle.reader_core.proofs.Exactness.{spelled_no_fault, spelled_once}
-use Rattle.lines_core.specs.declared.line.TheConstants.{LONGEST_LINE}
 use Rattle.monitor_core.specs.Verdict.{Check, is_change, first_lack}
 use Rattle.system_core.specs.Ticket.{Exporting}
 use Rattle.script_core.specs.Script.{addressed_up_to}
@@ -24,7 +22,7 @@ use Rattle.system_core.proofs.Judged.{passed-first, no_more_checks}
 use Rattle.load_core.specs.declared.fault.Undone.{Undone}
 use Rattle.load_core.specs.declared.fault.Undone.TheVariants as reasons
 use Rattle.load_core.specs.Loading.{SaysEntry, SaysChange, IsFaultOfLine, address, statement, is_done, IsUndone}
-use Rattle.load_core.specs.Replayer.{is_memory, is_memory_refused, is_out_of_memory}
+use Rattle.load_core.specs.Replaying.{is_memory, is_memory_refused, is_out_of_memory}
 
 -- ---- a line says one thing
 parts : {A B : Type 0} (p q : A × B) → p ≡ q → (p.0 ≡ q.0) × (p.1 ≡ q.1)
@@ -39,15 +37,15 @@ ok_pair {A} {B} {E} a c b d e h k = parts {A = A} {B = B} (a, b) (c, d) (ok_once
 ok_or_err : {T E : Type 0} (a : T) (b : E) → (e : Result T E) → e ≡ Ok a → e ≡ Err b → ⊥
 ok_or_err a b e h k = let both = sym h ∙ k in cc
 
-said_or_faulty : (line : List ℕ) (e : Entry) (code : Code) (offset : ℕ) → SaysEntry line e → IsFaultOfLine line code offset → ⊥
-said_or_faulty line e code offset s (address f) = ok_or_err _ _ (addressed_up_to LONGEST_LINE line) s.speaker f
-said_or_faulty line e code _ s (statement person begin place f k) =
-    let starts = (ok_pair person e.user begin s.start (addressed_up_to LONGEST_LINE line) f s.speaker).1 in
+said_or_faulty : (most : ℕ) (line : List ℕ) (e : Entry) (code : Code) (offset : ℕ) → SaysEntry most line e → IsFaultOfLine most line code offset → ⊥
+said_or_faulty most line e code offset s (address f) = ok_or_err _ _ (addressed_up_to most line) s.speaker f
+said_or_faulty most line e code _ s (statement person begin place f k) =
+    let starts = (ok_pair person e.user begin s.start (addressed_up_to most line) f s.speaker).1 in
     spelled_no_fault (drop s.start line) e.statement code place s.spelled (subst (λ n. IsReadFault (drop n line) code place) starts k)
 
-said_once : (line : List ℕ) (e f : Entry) → SaysEntry line e → SaysEntry line f → (e.user ≡ f.user) × (e.statement ≡ f.statement)
-said_once line e f s t =
-    let same = ok_pair e.user f.user s.start t.start (addressed_up_to LONGEST_LINE line) s.speaker t.speaker in
+said_once : (most : ℕ) (line : List ℕ) (e f : Entry) → SaysEntry most line e → SaysEntry most line f → (e.user ≡ f.user) × (e.statement ≡ f.statement)
+said_once most line e f s t =
+    let same = ok_pair e.user f.user s.start t.start (addressed_up_to most line) s.speaker t.speaker in
     (same.0, spelled_once (drop s.start line) e.statement f.statement s.spelled (subst (λ n. Spells (drop n line) f.statement) (sym same.1) t.spelled))
 
 -- ---- an allowed change is done, or memory ran out
@@ -105,13 +103,13 @@ no_more : (b : Bool) → b ≡ false → b ≡ true → ⊥
 no_more b f t = let both : true ≡ false = sym t ∙ f in cc
 
 -- **it says none, unless memory ran out**
-pub not_entered : (w : World) (line : List ℕ) (why : Undone) → IsUndone w line why → is_out_of_memory why ≡ false → (e : Entry) → SaysChange w.limits w.journal line e → ⊥
-not_entered w line (reasons.Fault code offset) fault enough e s = said_or_faulty line e code offset s.says fault
-not_entered w line reasons.Unread fault enough e s = cc
-not_entered w line reasons.NoChange (other, says, none) enough e s =
-    no_more (is_change other.statement) none (ap is_change (said_once line other e says s.says).1 ∙ s.change)
-not_entered w line (reasons.Answer reply) (other, says, undone) enough e s =
-    let same = said_once line other e says s.says in
+pub not_entered : (most : ℕ) (w : World) (line : List ℕ) (why : Undone) → IsUndone most w line why → is_out_of_memory why ≡ false → (e : Entry) → SaysChange most w.limits w.journal line e → ⊥
+not_entered most w line (reasons.Fault code offset) fault enough e s = said_or_faulty most line e code offset s.says fault
+not_entered most w line reasons.Unread fault enough e s = cc
+not_entered most w line reasons.NoChange (other, says, none) enough e s =
+    no_more (is_change other.statement) none (ap is_change (said_once most line other e says s.says).1 ∙ s.change)
+not_entered most w line (reasons.Answer reply) (other, says, undone) enough e s =
+    let same = said_once most line other e says s.says in
     let By : User → Statement → Type 0 = λ u t. verdict_at w.limits w.journal u t ≡ Ok tt in
     let allowed : By other.user other.statement = subst (λ u. By u other.statement) (sym same.0) (subst (λ t. By e.user t) (sym same.1) s.allowed) in
     no_more (is_memory_refused reply) enough (stepped w w other reply undone.0 allowed undone.1 undone.2)

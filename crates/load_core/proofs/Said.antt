@@ -4,6 +4,7 @@ use Rattle.std.specs.Prelude.{if◌then◌else◌, not, nat_lt, ◌==◌, slice_
 use Rattle.std.specs.List.{AllByRecursion, list_all, prefix_len}
 use Rattle.std.specs.Char.{is_ascii_alphabetic}
 use Rattle.base_core.specs.Words.{is_name, is_word_byte, name_of, folded, IsName}
+use Rattle.base_core.specs.declared.limits.Limits.{Limits}
 use Rattle.base_core.specs.declared.name.User.{User}
 use Rattle.base_core.specs.declared.word.TheConstants.{MAX_NAME}
 use Rattle.base_core.proofs.Folded.{IsName-folded}
@@ -23,9 +24,10 @@ use Rattle.system_core.specs.declared.machine.event.Reply.{Reply}
 use Rattle.system_core.specs.declared.machine.event.Reply.TheVariants as replies
 use Rattle.system_core.proofs.Entered.{step_enters}
 use Rattle.system_core.proofs.Lawful.{step-lawful}
-use Rattle.script_core.specs.Script.{colon, spoken_by, addressed_by, addressed, Asks, AnswersLine, faulty, said, unread, Follows, stepped, gave_up}
+use Rattle.script_core.specs.Script.{colon, spoken_by, addressed_by, addressed_up_to, Asks, AnswersLine, faulty, said, unread, Follows, stepped, gave_up}
 use Rattle.script_core.specs.Keeping.{WithKeeper, AnswersKept, over, answered, withheld, has_failed}
-use Rattle.load_core.specs.Loading.{WasRead, without_pass}
+use Rattle.journal_core.specs.Text.{WasRead}
+use Rattle.load_core.specs.Loading.{without_pass}
 
 -- ---- who speaks in a line has a name
 chosen : {A : Type 0} (b : Bool) (x y z : A) → (if b then x else y) ≡ z → (x ≡ z → ⊥) → y ≡ z
@@ -46,10 +48,10 @@ named_by word n user start e = go (is_name word) refl e
         subst IsName (ap (λ (p : User × ℕ). p.0.0) same) (IsName-folded word h)
     go false h e = cc
 
-pub speaker_named : (line : List ℕ) (user : User) (start : ℕ) → addressed line ≡ Ok (user, start) → IsName user.0
-speaker_named line user start e =
+pub speaker_named : (most : ℕ) (line : List ℕ) (user : User) (start : ℕ) → addressed_up_to most line ≡ Ok (user, start) → IsName user.0
+speaker_named most line user start e =
     let n = prefix_len is_word_byte line in
-    let short : (if list_all is_blank line then Err (codes.Empty, 0) else addressed_by n line) ≡ Ok (user, start) = chosen (nat_lt MAX_LINE (length line)) (Err (codes.TooLong, MAX_LINE)) _ _ e (λ h. cc) in
+    let short : (if list_all is_blank line then Err (codes.Empty, 0) else addressed_by n line) ≡ Ok (user, start) = chosen (nat_lt most (length line)) (Err (codes.TooLong, most)) _ _ e (λ h. cc) in
     let by : addressed_by n line ≡ Ok (user, start) = chosen (list_all is_blank line) (Err (codes.Empty, 0)) _ _ short (λ h. cc) in
     let letter = chosen (not (is_ascii_alphabetic (slice_index line 0))) (Err (codes.Expected, 0)) _ _ by (λ h. cc) in
     let few = chosen (nat_lt MAX_NAME n) (Err (codes.LongName, 0)) _ _ letter (λ h. cc) in
@@ -60,13 +62,13 @@ speaker_named line user start e =
 abbrev pub WasSaid : Entry → Type 0
 WasSaid e = WasRead e × (e.pass ≡ 0)
 
--- the world is lawful, and each of its entries was said
-abbrev pub Said : World → Type 0
-Said w = IsLawfulWorld w × AllByRecursion WasSaid w.journal
+-- the world is lawful, each of its entries was said, and its limits are these
+abbrev pub Said : Limits → World → Type 0
+Said limits w = IsLawfulWorld w × AllByRecursion WasSaid w.journal × (w.limits ≡ limits)
 
 module _ (line : List ℕ) (user : User) (asked : Statement) (a : Asks line user asked) where
   enters_said : (reply : Reply) → AllByRecursion WasSaid (entered (events.Say 0 user asked) reply)
-  enters_said (replies.Done at) = ((record { line = _; spelled = a.spelled; name = speaker_named line user a.start a.speaker }, refl), tt)
+  enters_said (replies.Done at) = ((record { line = _; spelled = a.spelled; name = speaker_named MAX_LINE line user a.start a.speaker }, refl), tt)
   enters_said (replies.Rows at rows) = tt
   enters_said (replies.Listed at entries) = tt
   enters_said (replies.Begun number at) = tt
@@ -78,39 +80,41 @@ module _ (line : List ℕ) (user : User) (asked : Statement) (a : Asks line user
   enters_said (replies.Finished number) = tt
   enters_said (replies.Abandoned number) = tt
 
-line-said : (old new : World) (line text : List ℕ) → Said old → AnswersLine old line text new → Said new
-line-said old _ line _ s (faulty h) = s
-line-said old new line text s (said user asked reply a step tells) =
+line-said : (limits : Limits) (old new : World) (line text : List ℕ) → Said limits old → AnswersLine old line text new → Said limits new
+line-said limits old _ line _ s (faulty h) = s
+line-said limits old new line text s (said user asked reply a step tells) =
     let m = step_enters old new (events.Say 0 user asked) reply step in (
       step-lawful old new (events.Say 0 user asked) reply s.0 step,
       subst (AllByRecursion WasSaid) (sym m.journal) (AllByRecursion-append WasSaid old.journal (entered (events.Say 0 user asked) reply) s.1 (enters_said line user asked a reply)),
+      m.limits ∙ s.2,
     )
-line-said old _ line _ s (unread user start e) = s
+line-said limits old _ line _ s (unread user start e) = s
 
-follows-said : (old new : World) (text : List ℕ) → Said old → Follows old text new → Said new
-follows-said old new _ s (stepped reply step h) =
+follows-said : (limits : Limits) (old new : World) (text : List ℕ) → Said limits old → Follows old text new → Said limits new
+follows-said limits old new _ s (stepped reply step h) =
     let m = step_enters old new events.Step reply step in
-    (step-lawful old new events.Step reply s.0 step, subst (AllByRecursion WasSaid) (sym m.journal) (AllByRecursion-append WasSaid old.journal [] s.1 tt))
-follows-said old new text s (gave_up mid refusal reply step r abandon tells) =
+    (step-lawful old new events.Step reply s.0 step, subst (AllByRecursion WasSaid) (sym m.journal) (AllByRecursion-append WasSaid old.journal [] s.1 tt), m.limits ∙ s.2)
+follows-said limits old new text s (gave_up mid refusal reply step r abandon tells) =
     let m = step_enters old mid events.Step refusal step in
     let n = step_enters mid new events.Abandon reply abandon in
     let between : AllByRecursion WasSaid mid.journal = subst (AllByRecursion WasSaid) (sym m.journal) (AllByRecursion-append WasSaid old.journal [] s.1 tt) in (
       step-lawful mid new events.Abandon reply (step-lawful old mid events.Step refusal s.0 step) abandon,
       subst (AllByRecursion WasSaid) (sym n.journal) (AllByRecursion-append WasSaid mid.journal [] between tt),
+      n.limits ∙ m.limits ∙ s.2,
     )
 
 module _ {K : Type 0} (keeps fails : K → Entry → K → Type 0) (failed : K → Bool) where
-  kept-said : (old new : WithKeeper K) (line text : List ℕ) → Said old.world → AnswersKept keeps fails failed old line text new → Said new.world
-  kept-said old _ line _ s (over o) = s
-  kept-said old new line text s (answered o n a kept) = follows-said a.mid new.world a.second (line-said old.world a.mid line a.first s a.answered) a.followed
-  kept-said old new line _ s (withheld {text} o n a lost) = line-said old.world new.world line text s a
+  kept-said : (limits : Limits) (old new : WithKeeper K) (line text : List ℕ) → Said limits old.world → AnswersKept keeps fails failed old line text new → Said limits new.world
+  kept-said limits old _ line _ s (over o) = s
+  kept-said limits old new line text s (answered o n a kept) = follows-said limits a.mid new.world a.second (line-said limits old.world a.mid line a.first s a.answered) a.followed
+  kept-said limits old new line _ s (withheld {text} o n a lost) = line-said limits old.world new.world line text s a
 
   -- **what is entered by lines that are answered was read from them**
-  pub ends-said : (ending : Result (Unit {0}) SessionFault) (old new : WithKeeper K) (left left' taken taken' : Option (List ℕ))
-      → Said old.world → Ends (AnswersKept keeps fails failed) (has_failed failed) ending old new left left' taken taken' → Said new.world
-  ends-said ending old new left left' taken taken' s e =
-      (ends-seen (AnswersKept keeps fails failed) (AnswersKept keeps fails failed) (λ x. x) (λ (x : WithKeeper K). Said x.world)
-      (λ x y line text i r. (r, kept-said x y line text i r)) (has_failed failed) (has_failed failed) (λ x. refl) ending old new left left' taken taken' s e).1
+  pub ends-said : (limits : Limits) (ending : Result (Unit {0}) SessionFault) (old new : WithKeeper K) (left left' taken taken' : Option (List ℕ))
+      → Said limits old.world → Ends (AnswersKept keeps fails failed) (has_failed failed) ending old new left left' taken taken' → Said limits new.world
+  ends-said limits ending old new left left' taken taken' s e =
+      (ends-seen (AnswersKept keeps fails failed) (AnswersKept keeps fails failed) (λ x. x) (λ (x : WithKeeper K). Said limits x.world)
+      (λ x y line text i r. (r, kept-said limits x y line text i r)) (has_failed failed) (has_failed failed) (λ x. refl) ending old new left left' taken taken' s e).1
 
 -- an entry through pass 0 is what a line says of it
 pub no_pass : (journal : List Entry) → AllByRecursion WasSaid journal → map without_pass journal ≡ journal

@@ -11,8 +11,7 @@ use Rattle.printer_core.proofs.Plain.{IsHigh}
 use Rattle.lines_core.specs.Lines.{Cut, NoFeed}
 use Rattle.lines_core.proofs.LineLemmas.{lines-Cut}
 use Rattle.system_core.specs.declared.machine.event.Entry.{Entry}
-use Rattle.journal_core.specs.Text.{journal_lines, journal_text}
-use Rattle.load_core.specs.Loading.{WasRead}
+use Rattle.journal_core.specs.Text.{journal_lines, journal_text, WasRead}
 
 no_feed : (bytes : List ℕ) → All IsHigh bytes → NoFeed bytes
 no_feed [] h = tt

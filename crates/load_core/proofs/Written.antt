@@ -18,8 +18,8 @@ use Rattle.lines_core.specs.declared.line.TheConstants.{LONGEST_LINE}
 use Rattle.system_core.specs.Journal.{tables_with, contents, changes, changes_from, change_of, verdict_at, IsLawfulFrom}
 use Rattle.system_core.specs.declared.machine.event.Entry.{Entry}
 use Rattle.script_core.specs.Script.{addressed_up_to}
-use Rattle.journal_core.specs.Text.{journal_lines}
-use Rattle.load_core.specs.Loading.{SaysEntry, Loads, WasRead, unmarked, lines_unmarked, without_pass}
+use Rattle.journal_core.specs.Text.{journal_lines, WasRead}
+use Rattle.load_core.specs.Loading.{SaysEntry, Loads, unmarked, lines_unmarked, without_pass}
 use Rattle.load_core.proofs.Addressing.{few, addressed_is, unmarked_is}
 
 -- ---- a line
@@ -31,7 +31,7 @@ module _ (user : User) (s : Statement) (read : WasRead (record { pass = 0; user 
   said_by true = (unmarked_is user.0 (32 ∷ canonical s) read.name, λ h. addressed_is user.0 (32 ∷ canonical s) read.name LONGEST_LINE h)
   said_by false = (unmarked_is user.0 (minified s) read.name, λ h. addressed_is user.0 (minified s) read.name LONGEST_LINE h)
 
-  pub says_it : SaysEntry (journal_line user s) (record { pass = 0; user = user; statement = s })
+  pub says_it : SaysEntry LONGEST_LINE (journal_line user s) (record { pass = 0; user = user; statement = s })
   says_it =
       let long : length (minified s) ≤ 4096 = omega (arith, no_shorter read.line s read.spelled, read.spelled.says.short) in
       record {

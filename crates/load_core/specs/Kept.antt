@@ -1,5 +1,5 @@
 -- A journal that was written to a file, and how it is loaded again.
-use Rattle.std.specs.Prelude.{ℕ, List, [], Option}
+use Rattle.std.specs.Prelude.{ℕ, List, [], ◌++◌, Option}
 use Rattle.std.specs.Str.Lines.{lines}
 use Rattle.std.specs.Io.KnownBytes.{Appends}
 use Rattle.lines_core.specs.Lines.{IsWhole}
@@ -15,3 +15,12 @@ pub record CanBeLoaded (limits : Limits) (before after : Option (List ℕ)) (jou
   pub wrote : Appends before after text
   pub whole : IsWhole text
   pub loads : Loads limits [] (lines_unmarked (lines text)) journal
+
+-- What was written meanwhile behind an old text loads the journal with it: a text of whole lines, which
+-- go on with what the old lines load.
+pub record CanBeLoadedBehind (limits : Limits) (old : List ℕ) (before after : Option (List ℕ))
+    (journal : List Entry) : Type 0 where
+  pub text : List ℕ
+  pub wrote : Appends before after text
+  pub whole : IsWhole text
+  pub loads : Loads limits [] (lines_unmarked (lines (old ++ text))) journal

@@ -39,11 +39,15 @@ EntersEntry old e None new =
     × (new ≡ with_entry old e)
 EntersEntry old e (Some why) new = IsUndoneEntry old e why × (new ≡ old)
 
--- what a line comes to
+-- what a line comes to that may have so many bytes
+abbrev pub EntersUpTo : ℕ → World → List ℕ → Option Undone → World → Type 0
+EntersUpTo most old line None new =
+    (e : Entry) × SaysChange most old.limits old.journal line e × (new ≡ with_entry old e)
+EntersUpTo most old line (Some why) new = IsUndone most old line why × (new ≡ old)
+
+-- what a journal's line comes to
 abbrev pub EntersLine : World → List ℕ → Option Undone → World → Type 0
-EntersLine old line None new =
-    (e : Entry) × SaysChange old.limits old.journal line e × (new ≡ with_entry old e)
-EntersLine old line (Some why) new = IsUndone old line why × (new ≡ old)
+EntersLine old line stop new = EntersUpTo LONGEST_LINE old line stop new
 
 -- what it comes to at a loader, which passes over it once it has stopped
 abbrev pub EntersOrPasses : Option Undone → World → List ℕ → Option Undone → World → Type 0
@@ -91,38 +95,47 @@ line_at-too_long : (journal : List Entry) (line : List ℕ)
 line_at-too_long [] line h = unmarked-too_long line h
 line_at-too_long (e ∷ es) line h = refl
 
-address-too_long : (line : List ℕ)
-    → LONGEST_LINE < length line
-    → addressed_up_to LONGEST_LINE line ≡ Err (codes.TooLong, LONGEST_LINE)
-address-too_long line h = grind (arith, nat_tests)
+module _ (most : ℕ) where
+  address-too_long : (line : List ℕ)
+      → most < length line
+      → addressed_up_to most line ≡ Err (codes.TooLong, most)
+  address-too_long line h = grind (arith, nat_tests)
 
-pub says-too_long : (line : List ℕ) (e : Entry) → LONGEST_LINE < length line → SaysEntry line e → ⊥
-says-too_long line e h s = let l = address-too_long line h in let a = s.speaker in cc
+  pub says-too_long : (line : List ℕ) (e : Entry) → most < length line → SaysEntry most line e → ⊥
+  says-too_long line e h s = let l = address-too_long line h in let a = s.speaker in cc
 
-fault-too_long : (line other : List ℕ) (code : Code) (offset : ℕ)
-    → LONGEST_LINE < length line
-    → LONGEST_LINE < length other
-    → IsFaultOfLine line code offset
-    → IsFaultOfLine other code offset
-fault-too_long line other _ _ h k (address e) =
-    address (address-too_long other k ∙ sym (address-too_long line h) ∙ e)
-fault-too_long line other _ _ h k (statement user start offset e f) =
-    let l = address-too_long line h in cc
+  fault-too_long : (line other : List ℕ) (code : Code) (offset : ℕ)
+      → most < length line
+      → most < length other
+      → IsFaultOfLine most line code offset
+      → IsFaultOfLine most other code offset
+  fault-too_long line other _ _ h k (address e) =
+      address (address-too_long other k ∙ sym (address-too_long line h) ∙ e)
+  fault-too_long line other _ _ h k (statement user start offset e f) =
+      let l = address-too_long line h in cc
+
+  pub undone-too_long : (w : World) (line other : List ℕ) (why : Undone)
+      → most < length line
+      → most < length other
+      → IsUndone most w line why
+      → IsUndone most w other why
+  undone-too_long w line other (reasons.Fault code offset) h k p =
+      fault-too_long line other code offset h k p
+  undone-too_long w line other reasons.Unread h k p =
+      let l = address-too_long line h in let a = p.2 in cc
+  undone-too_long w line other reasons.NoChange h k p = absurd (says-too_long line p.0 h p.1)
+  undone-too_long w line other (reasons.Answer reply) h k p =
+      absurd (says-too_long line p.0 h p.1)
 
 EntersLine-too_long : (old : World) (line other : List ℕ) (stop : Option Undone) (new : World)
     → LONGEST_LINE < length line
     → LONGEST_LINE < length other
     → EntersLine old line stop new
     → EntersLine old other stop new
-EntersLine-too_long old line other None new h k p = absurd (says-too_long line p.0 h p.1.says)
-EntersLine-too_long old line other (Some (reasons.Fault code offset)) new h k p =
-    (fault-too_long line other code offset h k p.0, p.1)
-EntersLine-too_long old line other (Some reasons.Unread) new h k p =
-    let l = address-too_long line h in let a = p.0.2 in cc
-EntersLine-too_long old line other (Some reasons.NoChange) new h k p =
-    absurd (says-too_long line p.0.0 h p.0.1)
-EntersLine-too_long old line other (Some (reasons.Answer reply)) new h k p =
-    absurd (says-too_long line p.0.0 h p.0.1)
+EntersLine-too_long old line other None new h k p =
+    absurd (says-too_long LONGEST_LINE line p.0 h p.1.says)
+EntersLine-too_long old line other (Some why) new h k p =
+    (undone-too_long LONGEST_LINE old line other why h k p.0, p.1)
 
 EntersOrPasses-too_long : (stop : Option Undone) (old : World) (line other : List ℕ)
     (stop' : Option Undone) (new : World)

@@ -5,7 +5,6 @@ use Rattle.std.specs.List.{starts_with}
 use Rattle.std.specs.Str.Lines.{lines}
 use Rattle.std.specs.Io.KnownBytes.{Consumes, Keeps, IsAtEnd}
 use Rattle.base_core.specs.Full.{IsFull}
-use Rattle.base_core.specs.Words.{IsName}
 use Rattle.base_core.specs.declared.name.User.{User}
 use Rattle.base_core.specs.declared.limits.Limits.{Limits}
 use Rattle.lexer_core.specs.declared.fault.Code.{Code}
@@ -26,37 +25,39 @@ use Rattle.load_core.specs.declared.fault.Undone.TheVariants as reasons
 use Rattle.load_core.specs.declared.fault.LoadFault.{LoadFault}
 use Rattle.load_core.specs.declared.fault.LoadFault.TheVariants as faults
 
--- ---- a line
+-- ---- a line, which may have so many bytes
 -- the line says that the user of the entry asks its statement
-pub record SaysEntry (line : List ℕ) (e : Entry) : Type 0 where
+pub record SaysEntry (most : ℕ) (line : List ℕ) (e : Entry) : Type 0 where
   pub start : ℕ
-  pub speaker : addressed_up_to LONGEST_LINE line ≡ Ok (e.user, start)
+  pub speaker : addressed_up_to most line ≡ Ok (e.user, start)
   pub spelled : Spells (drop start line) e.statement
   pub pass : e.pass ≡ 0
 
 -- and that is a change which is allowed at the journal
-pub record SaysChange (limits : Limits) (journal : List Entry) (line : List ℕ) (e : Entry)
-    : Type 0 where
-  pub says : SaysEntry line e
+pub record SaysChange (most : ℕ) (limits : Limits) (journal : List Entry) (line : List ℕ)
+    (e : Entry) : Type 0 where
+  pub says : SaysEntry most line e
   pub change : is_change e.statement ≡ true
   pub allowed : verdict_at limits journal e.user e.statement ≡ Ok tt
 
--- one after another, the lines say the changes that lead from one journal to another
+-- one after another, the lines of a journal say the changes that lead from one journal to another
 abbrev pub Loads : Limits → List Entry → List (List ℕ) → List Entry → Type 0
 Loads limits before [] after = after ≡ before
 Loads limits before (line ∷ lines) after =
-    (e : Entry) × SaysChange limits before line e × Loads limits (before ++ e ∷ []) lines after
+    (e : Entry)
+    × SaysChange LONGEST_LINE limits before line e
+    × Loads limits (before ++ e ∷ []) lines after
 
 -- ---- a line that is no change that is done
 -- the line's one fault, at this byte of it
-pub data IsFaultOfLine (line : List ℕ) : Code → ℕ → Type 0 where
+pub data IsFaultOfLine (most : ℕ) (line : List ℕ) : Code → ℕ → Type 0 where
   address : {code : Code} {offset : ℕ}
-      → addressed_up_to LONGEST_LINE line ≡ Err (code, offset)
-      → IsFaultOfLine line code offset
+      → addressed_up_to most line ≡ Err (code, offset)
+      → IsFaultOfLine most line code offset
   statement : {code : Code} (user : User) (start offset : ℕ)
-      → addressed_up_to LONGEST_LINE line ≡ Ok (user, start)
+      → addressed_up_to most line ≡ Ok (user, start)
       → IsReadFault (drop start line) code offset
-      → IsFaultOfLine line code (start + offset)
+      → IsFaultOfLine most line code (start + offset)
 
 -- whether a change was done
 abbrev pub is_done : Reply → Bool
@@ -76,14 +77,14 @@ IsUndoneEntry w e reasons.Unread = ⊥
 
 -- why the line says no change that is done at the world: its fault; that memory ran out while it was
 -- read, where it says who speaks; or why what it says is none
-abbrev pub IsUndone : World → List ℕ → Undone → Type 0
-IsUndone w line (reasons.Fault code offset) = IsFaultOfLine line code offset
-IsUndone w line reasons.Unread =
-    (user : User) × (start : ℕ) × (addressed_up_to LONGEST_LINE line ≡ Ok (user, start))
-IsUndone w line reasons.NoChange =
-    (e : Entry) × SaysEntry line e × IsUndoneEntry w e reasons.NoChange
-IsUndone w line (reasons.Answer reply) =
-    (e : Entry) × SaysEntry line e × IsUndoneEntry w e (reasons.Answer reply)
+abbrev pub IsUndone : ℕ → World → List ℕ → Undone → Type 0
+IsUndone most w line (reasons.Fault code offset) = IsFaultOfLine most line code offset
+IsUndone most w line reasons.Unread =
+    (user : User) × (start : ℕ) × (addressed_up_to most line ≡ Ok (user, start))
+IsUndone most w line reasons.NoChange =
+    (e : Entry) × SaysEntry most line e × IsUndoneEntry w e reasons.NoChange
+IsUndone most w line (reasons.Answer reply) =
+    (e : Entry) × SaysEntry most line e × IsUndoneEntry w e (reasons.Answer reply)
 
 -- ---- a file
 -- the byte order mark: U+FEFF in UTF-8
@@ -116,7 +117,7 @@ pub record StopsAt (chunk : ℕ) (limits : Limits) (lines : List (List ℕ)) (nu
   pub lines_are : lines ≡ front ++ line ∷ rest
   pub number_is : number ≡ length front + 1
   pub loads : Loads limits [] front journal
-  pub undone : IsUndone (world_with chunk limits journal) line why
+  pub undone : IsUndone LONGEST_LINE (world_with chunk limits journal) line why
 
 -- The last line, of this number from 1, has no line feed, and the lines before it load a journal.
 pub record CutsOff (limits : Limits) (bytes : List ℕ) (number : ℕ) : Type 0 where
@@ -154,12 +155,6 @@ EndsLoad chunk (Err faults.Bound) left left' =
 EndsLoad chunk (Err faults.NoMemory) left left' = Keeps left left'
 
 -- ---- a journal that was written
--- some line spells the statement of the entry, and its user's name is a name
-pub record WasRead (e : Entry) : Type 0 where
-  pub line : List ℕ
-  pub spelled : Spells line e.statement
-  pub name : IsName e.user.0
-
 -- the entry as a line says it, which names no pass
 abbrev pub without_pass : Entry → Entry
 without_pass e = record e { pass = 0 }

@@ -30,7 +30,7 @@ fn without_last(text: &[u8]) -> &[u8]
 }
 
 /// `line n: ` and what is told of that line.
-fn of_line(alloc: Global, number: u64, said: &[u8]) -> Result<Vec<u8>, NoMemory>
+pub(crate) fn of_line(alloc: Global, number: u64, said: &[u8]) -> Result<Vec<u8>, NoMemory>
     ensures { IfOk result (λ text. text.items ≡ of_line number said.now) }
 {
     let mut digits = Buffer::new();
@@ -43,7 +43,7 @@ fn of_line(alloc: Global, number: u64, said: &[u8]) -> Result<Vec<u8>, NoMemory>
 }
 
 /// `line n: ` and why that line says no change that is done.
-fn undone_line(alloc: Global, number: u64, why: &Undone) -> Result<Vec<u8>, NoMemory>
+pub(crate) fn undone_line(alloc: Global, number: u64, why: &Undone) -> Result<Vec<u8>, NoMemory>
     ensures { IfOk result (λ text. text.items ≡ of_line number (undone_text why.now)) }
 {
     match why {
@@ -61,7 +61,7 @@ fn undone_line(alloc: Global, number: u64, why: &Undone) -> Result<Vec<u8>, NoMe
 }
 
 /// These bytes in new memory.
-fn owned(alloc: Global, bytes: &[u8]) -> Result<Vec<u8>, NoMemory>
+pub(crate) fn owned(alloc: Global, bytes: &[u8]) -> Result<Vec<u8>, NoMemory>
     ensures { IfOk result (λ text. text.items ≡ bytes.now) }
 {
     let mut text = Vec::new(alloc);

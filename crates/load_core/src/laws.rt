@@ -1,16 +1,19 @@
 //! Laws of loading, each the contract of a function that does nothing.
-ghost use Rattle.std.specs.Prelude.{◌≡◌, ℕ, List, [], map, Option, false, Ok};
+ghost use Rattle.std.specs.Prelude.{◌≡◌, ◌++◌, ℕ, List, [], length, map, drop, Option, false, Ok};
 ghost use Rattle.std.specs.List.{AllByRecursion};
 ghost use Rattle.std.specs.Str.Lines.{lines};
 ghost use Rattle.base_core.specs.declared.limits.Limits.{Limits};
-ghost use Rattle.system_core.specs.Journal.{IsLawful};
+ghost use Rattle.system_core.specs.Journal.{IsLawful, IsLawfulFrom};
 ghost use Rattle.system_core.specs.declared.machine.event.Entry.{Entry};
-ghost use Rattle.journal_core.specs.Text.{journal_lines, journal_text};
-ghost use Rattle.system_core.specs.World.{World};
-ghost use Rattle.journal_core.specs.Keeping.{KeepsLine, FailsLine};
-ghost use Rattle.script_core.specs.Keeping.{EndsKept};
-ghost use Rattle.load_core.specs.Kept.{CanBeLoaded};
-ghost use Rattle.load_core.specs.Loading.{Loads, lines_unmarked, without_pass, WasRead};
+ghost use Rattle.journal_core.specs.Text.{journal_lines, journal_text, WasRead};
+ghost use Rattle.system_core.specs.World.{World, IsLawfulWorld};
+ghost use Rattle.lines_core.specs.Lines.{IsWhole};
+ghost use Rattle.journal_core.specs.Keeping.{KeepsAll, KeepsLine, FailsLine};
+ghost use Rattle.script_core.specs.Keeping.{EndsKept, EndsKeptFrom};
+ghost use Rattle.load_core.specs.Kept.{CanBeLoaded, CanBeLoadedBehind};
+ghost use Rattle.load_core.specs.Loading.{Loads, SaysChange, IsUndone, lines_unmarked, without_pass};
+ghost use Rattle.load_core.specs.Replaying.{is_out_of_memory};
+ghost use Rattle.load_core.specs.declared.fault.Undone.{Undone};
 
 use base_core::Sink;
 
@@ -35,4 +38,55 @@ pub fn script_is_kept<W: Sink>()
         → EndsKept (KeepsLine W.taken W.handed_on) (FailsLine W.taken) W.failed chunk (Ok new)
         sink sink' left left' taken taken'
         → CanBeLoaded new.limits (W.taken sink) (W.taken sink') new.journal }
+{}
+
+/// No line that says a change which is allowed is left out: whatever a line came to that was not
+/// done, it says none, or memory ran out.
+pub fn nothing_allowed_is_left_out()
+    ensures { (most : ℕ) (w : World) (line : List ℕ) (why : Undone)
+        → IsUndone most w line why
+        → is_out_of_memory why ≡ false
+        → (e : Entry) → SaysChange most w.limits w.journal line e → ⊥ }
+{}
+
+/// A file that loads a journal, gone on with, loads what the journal came to: behind its lines, each
+/// with its line feed, stands the text of entries that could be read and were allowed, one after
+/// another.
+pub fn gone_on_is_kept()
+    ensures { (limits : Limits) (old text : List ℕ) (start entries : List Entry)
+        → IsWhole old
+        → Loads limits [] (lines_unmarked (lines old)) start
+        → AllByRecursion WasRead entries
+        → IsLawfulFrom limits start entries
+        → text ≡ journal_text entries
+        → Loads limits [] (lines_unmarked (lines (old ++ text)))
+        (start ++ map without_pass entries) }
+{}
+
+/// So a core that goes on from what a file loaded, and whose changes are kept as lines behind that
+/// file, is as good as the file with them: what the sink took is a text of whole lines, and with it
+/// the file loads the core's journal, each of its new entries but for its pass.
+pub fn kept_goes_on<W: Sink>()
+    ensures { (limits : Limits) (old : List ℕ) (start rest journal : List Entry) (begun sink : W)
+        → KeepsAll (KeepsLine W.taken W.handed_on) begun (drop (length start) journal) sink
+        → journal ≡ start ++ rest
+        → IsLawful limits journal
+        → IsWhole old
+        → Loads limits [] (lines_unmarked (lines old)) start
+        → CanBeLoadedBehind limits old (W.taken begun) (W.taken sink)
+        (start ++ map without_pass rest) }
+{}
+
+/// And so is a script that goes on from a core that was loaded, whose changes are kept as lines
+/// behind the file.
+pub fn gone_on_script_is_kept<W: Sink>()
+    ensures { (start new : World) (old : List ℕ) (sink sink' : W)
+        (left left' taken taken' : Option (List ℕ))
+        → W.failed sink ≡ false
+        → IsLawfulWorld start
+        → IsWhole old
+        → Loads start.limits [] (lines_unmarked (lines old)) start.journal
+        → EndsKeptFrom (KeepsLine W.taken W.handed_on) (FailsLine W.taken) W.failed start (Ok new)
+        sink sink' left left' taken taken'
+        → CanBeLoadedBehind start.limits old (W.taken sink) (W.taken sink') new.journal }
 {}

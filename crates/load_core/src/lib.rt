@@ -16,17 +16,32 @@
 //!                                                // Err(Line { number: 2, why: NoChange })
 //! ```
 //!
+//! [`replay`] goes on from a core by the lines of a journal or of a script, for the sake of their
+//! changes: a line that says no allowed change is left out, which is counted and told of the first
+//! ([`left_out_text`]); a journal's last line that was cut off is refused, or dropped and told
+//! ([`dropped_text`]). Its contract says which lines made a change, and which were left out and why
+//! (`specs/Replaying.antt`). It ends at a line at which memory runs out, and in a journal at one that
+//! is too long ([`replay_fault_text`]).
+//!
+//! ```text
+//! let manner = Manner { form: Form::Script, cut_line: CutLine::Refuse, most: u64::MAX };
+//! let replayed = replay(alloc, &mut reader, system, manner)?;  // bob: DELETE FROM pay
+//!                                                              // left_out: 1, of them line 1
+//! ```
+//!
 //! The lines of a journal that was written load that journal, but for the passes, which no line
 //! names and no verdict asks: the law [`journal_is_loaded`]. So what a script kept as lines is as
-//! good as the core that it left: the law [`script_is_kept`].
+//! good as the core that it left: the law [`script_is_kept`]. A file that loads a journal and is gone
+//! on with loads what that came to: the laws [`gone_on_is_kept`], [`kept_goes_on`] and
+//! [`gone_on_script_is_kept`]. No line that says an allowed change is left out: the law
+//! [`nothing_allowed_is_left_out`].
 //!
 //! # Mechanism
 //!
-//! A loader is a server of lines, to which [`lines_core`] gives one after another, and whose answers
-//! are empty. Once it has stopped, it passes over the lines left in the piece that was read. No
-//! checkpoint is active while it loads, so that no step of the checkpointer is owed. What a line
-//! says is judged once, and what is no change is refused by its statement, so that no rows and no
-//! export are made.
+//! A loader, and so a replayer, is a server of lines, to which [`lines_core`] gives one after
+//! another, and whose answers are empty. Once it has stopped, it passes over the lines left in the
+//! piece that was read. No step of the checkpointer is done. What a line says is judged once, and
+//! what is no change is refused by its statement, so that no rows and no export are made.
 //!
 //! # Cost
 //!
@@ -39,13 +54,24 @@ mod fault_text;
 mod laws;
 mod loader;
 mod loading;
+mod manner;
+mod replay_text;
+mod replayed;
+mod replayer;
 mod replaying;
 mod silence;
 
 pub use fault::{LoadFault, Undone};
 pub use fault_text::load_fault_text;
-pub use laws::{journal_is_loaded, script_is_kept};
+pub use laws::{
+    gone_on_is_kept, gone_on_script_is_kept, journal_is_loaded, kept_goes_on,
+    nothing_allowed_is_left_out, script_is_kept,
+};
 pub use loader::enter_line;
 pub use loading::{load, load_or_text};
-pub use replaying::{ReplayFault, Replayed, is_out_of_memory, replay};
+pub use manner::{CutLine, Form, Manner};
+pub use replay_text::{dropped_text, left_out_text, replay_fault_text};
+pub use replayed::{CutFront, LeftOut, ReplayFault, Replayed};
+pub use replayer::is_out_of_memory;
+pub use replaying::replay;
 pub use silence::Silence;

@@ -3,7 +3,7 @@ ghost use Rattle.std.specs.Prelude.{◌≡◌, ◌<◌, ◌+◌, ◌^◌, length
 ghost use Rattle.monitor_core.specs.Verdict.{is_change};
 ghost use Rattle.system_core.specs.Journal.{verdict_at};
 ghost use Rattle.load_core.specs.Loading.{unmarked, IsUndoneEntry};
-ghost use Rattle.load_core.specs.Loader.{line_at, EntersEntry, EntersLine, outcome_of, number_of, outcome_at};
+ghost use Rattle.load_core.specs.Loader.{line_at, EntersEntry, EntersUpTo, outcome_of, number_of, outcome_at};
 
 use crate::fault::{LoadFault, Undone};
 use base_core::{Broken, Lack, NoMemory, Sink};
@@ -162,17 +162,18 @@ fn enter(system: &mut System, entry: Entry) -> Option<Undone>
     }
 }
 
-/// Enters the change that the line says, through pass 0. Else it gives why not, and leaves the core
-/// as it was. The tokens are room for those of a line.
+/// Enters the change that the line says, which may have so many bytes, through pass 0. Else it gives
+/// why not, and leaves the core as it was. The tokens are room for those of a line.
 pub fn enter_line(
     alloc: Global,
     tokens: &mut Vec<Token>,
     system: &mut System,
+    most: usize,
     line: &[u8],
 ) -> Option<Undone>
-    ensures { EntersLine system.old line.now result system.new }
+    ensures { EntersUpTo most system.old line.now result system.new }
 {
-    let (user, start) = match addressed_up_to(LONGEST_LINE, line) {
+    let (user, start) = match addressed_up_to(most, line) {
         Ok(address) => address,
         Err((code, offset)) => return Some(Undone::Fault { code, offset }),
     };
@@ -207,7 +208,8 @@ impl LineServer for Loader {
     fn answer<W: Sink>(&mut self, _writer: &mut W, line: &[u8]) -> Result<(), Broken> {
         if self.stop.is_none() {
             let line = line_at(&self.system, line);
-            self.stop = enter_line(self.alloc, &mut self.tokens, &mut self.system, line);
+            let (tokens, system) = (&mut self.tokens, &mut self.system);
+            self.stop = enter_line(self.alloc, tokens, system, LONGEST_LINE, line);
         }
         Ok(())
     }

@@ -1,5 +1,7 @@
 //! Journals loaded.
 ghost use Rattle.std.specs.Prelude.{◌≡◌, ◌<◌, ◌≤◌, ◌↔◌, false, true, Ok, Err, All, IfOk, IfErr, IsErrOf};
+ghost use Rattle.std.specs.List.{AllByRecursion};
+ghost use Rattle.journal_core.specs.Text.{WasRead};
 ghost use Rattle.load_core.specs.Loading.{EndsLoad};
 ghost use Rattle.load_core.specs.FaultTexts.{load_fault_text};
 ghost use Rattle.load_core.specs.declared.fault.LoadFault.{LoadFault as load_fault};
@@ -44,6 +46,7 @@ pub fn load<S: Source>(alloc: Global, reader: &mut S, chunk: usize) -> Result<Sy
     ensures read { IsErrOf result LoadFault.Read ↔ (S.failed reader.new ≡ true) }
     ensures ends { EndsLoad chunk result (S.left reader.old) (S.left reader.new) }
     ensures passes { IfOk result (λ system. All (λ e. e.pass ≡ 0) system.journal) }
+    ensures entries { IfOk result (λ system. AllByRecursion WasRead system.journal) }
 {
     let Ok(system) = System::new(alloc, chunk) else {
         return Err(LoadFault::NoMemory);
@@ -75,6 +78,7 @@ pub fn load_or_text<S: Source>(
         × ((fault ≡ LoadFault.Read) ↔ (S.failed reader.new ≡ true))
         × IfOk told (λ text. text.items ≡ load_fault_text fault)) }
     ensures passes { IfOk result (λ system. All (λ e. e.pass ≡ 0) system.journal) }
+    ensures entries { IfOk result (λ system. AllByRecursion WasRead system.journal) }
 {
     match load(alloc, reader, chunk) {
         Ok(system) => Ok(system),

@@ -6,6 +6,7 @@ use Rattle.base_core.specs.declared.value.Moment.{Moment}
 use Rattle.base_core.specs.declared.lack.Lack.TheVariants as lacks
 use Rattle.lexer_core.specs.declared.fault.Code.{Code}
 use Rattle.reader_core.specs.declared.statement.Statement.{Statement}
+use Rattle.lines_core.specs.Lines.{IsWhole}
 use Rattle.reply_core.specs.Texts.{reply_text, fault_text, unread_text, cut_text}
 use Rattle.system_core.specs.World.{World}
 use Rattle.system_core.specs.Step.{Step}
@@ -50,10 +51,11 @@ pub data IsMemoryLine : List ℕ → Type 0 where
   cut : IsMemoryLine cut_text
   given_up : (number : ℕ) → IsMemoryLine (reply_text (replies.Abandoned number))
 
--- such a line stands in the text
+-- such a line stands in the text, as a line: at its beginning, or behind a line feed
 pub record TellsOfMemory (text : List ℕ) : Type 0 where
   pub front : List ℕ
   pub line : List ℕ
   pub behind : List ℕ
   pub text_is : text ≡ front ++ (line ++ behind)
+  pub begins : IsWhole front
   pub tells : IsMemoryLine line

@@ -13,7 +13,7 @@ use journal_core::Keeper;
 
 /// Where memory is never told of, the output is one. Lines that are answered in full, one after
 /// another, from one world have one text and lead to one world. What is answered in full is
-/// answered; and an answer is in full, or a line that tells of memory stands in it.
+/// answered; and an answer is in full, or a line that tells of memory stands in it, as a line.
 pub fn one_output()
     ensures one { (old new last : World) (lines : List (List ℕ)) (text other : List ℕ)
         → AnswersAll AnswersInFull old lines text new

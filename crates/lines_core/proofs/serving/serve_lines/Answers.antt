@@ -1,130 +1,57 @@
-use Rattle.std.proofs.Common.{◌≡◌, ◌-◌, ◌^◌, List, ℕ, [], take, length, arith, subst, sym, ◌∙◌, ⊎_elim, Ok}
+use Rattle.std.proofs.Common.{◌≡◌, length, arith, subst, sym, ⊎_elim, Ok}
 use Rattle.std.specs.Str.Lines.{lines}
-use Rattle.std.specs.Io.KnownBytes.{Consumes}
-use Rattle.std.proofs.KnownBytes.{Keeps-refl}
-use Rattle.std.proofs.lemmas.List.{length-take-le}
+use Rattle.std.proofs.KnownBytes.{Consumes-nil}
 use Rattle.std.proofs.lemmas.Bool.{cases_lt}
-use Rattle.lines_core.specs.Serving.{AnswersInput, WasOpen, HasServed, EndsTold}
-use Rattle.lines_core.proofs.ServeLemmas.{Serving-none, Serving-more, Run-whole, Run-last, Run-nothing, Open-last, Open-nothing, BrokenRun-last, BrokenRun-piece}
+use Rattle.lines_core.specs.Serving.{AnswersInput, WasOpen, EndsReading, EndsTold}
+use Rattle.lines_core.proofs.ServeLemmas.{Run-last, Run-nothing, Open-last, Open-nothing, BrokenRun-last}
 use Rattle.lines_core.proofs.Told.{told_at}
 use Rattle.lines_core.proofs.serving.serve_lines.Goals as goal
 
-pub returns-in_default-clause-ends : goal.returns-in_default-clause-ends
-returns-in_default-clause-ends g c =
+pub returns-in-Ok-clause-ends : goal.returns-in-Ok-clause-ends
+returns-in-Ok-clause-ends g c =
     let R = g.D.LineServer.answers in
     let law = g.met.D.LineServer.too_long in
-    let s = c.loop-unread.invariant.serving in
-    (s.bytes, Run-whole R law _ _ _ _ _ _ _ _ _ s c.in_default.ensures.err)
-
--- the end of the input, at which no byte was read
-nothing : (left0 left1 : _) (n : ℕ) (buffer : List ℕ) → n ≡ 0 → Consumes left0 left1 (take n buffer) → Consumes left0 left1 []
-nothing left0 left1 n buffer e h = subst (λ k. Consumes left0 left1 (take k buffer)) e h
-
-pub returns-in-Ok-finish-clause-ends : goal.returns-in-Ok-finish-clause-ends
-returns-in-Ok-finish-clause-ends g c =
-    let R = g.D.LineServer.answers in
-    let law = g.met.D.LineServer.too_long in
-    let s = c.loop-unread.invariant.serving in
-    let left0 = g.S.Source.left c.args.reader.now in
-    let left1 = g.S.Source.left c.loop-unread.reader in
-    let left2 = g.S.Source.left c.read_up_to.new.reader in
-    let taken0 = g.W.Sink.taken c.args.writer.now in
-    let taken1 = g.W.Sink.taken c.loop-unread.writer in
-    let taken2 = g.W.Sink.taken c.finish.new.writer in
-    let line = c.loop-unread.line in
-    let start = c.args.server.now in
-    let old = c.loop-unread.server in
-    let new = c.finish.new.server in
-    let read = nothing left1 left2 c.in-Ok.n c.read_up_to.new.buffer c.if-n-eq0.true c.in-Ok.ensures.ok in
     let over = g.D.LineServer.over in
-    let h = c.loop-unread.invariant.not_over in
+    let left0 = g.S.Source.left c.args.reader.now in
+    let left1 = g.S.Source.left c.answer_whole_lines.new.reader in
+    let taken0 = g.W.Sink.taken c.args.writer.now in
+    let taken1 = g.W.Sink.taken c.answer_whole_lines.new.writer in
+    let taken2 = g.W.Sink.taken c.finish.new.writer in
+    let line = c.answer_whole_lines.new.line in
+    let start = c.args.server.now in
+    let old = c.answer_whole_lines.new.server in
+    let new = c.finish.new.server in
+    let ends = subst (λ stop. EndsReading R over (Ok stop) line start old left0 left1 taken0 taken1) c.in-Ok-AtEnd.field-0-is c.in-Ok-AtEnd.ensures.ends in
+    let unread = ends.0 in
+    let s = ends.1 in
+    let h = ends.3 in
     let was_open : WasOpen R over start new s.bytes =
     ⊎_elim
-    (λ some. Open-last R law over line start old new c.loop-unread.unread left0 left1 taken0 taken1 taken2 s h some (c.in-Ok-finish.ensures.ok some))
+    (λ some. Open-last R law over line start old new unread left0 left1 taken0 taken1 taken2 s h some (c.in-Ok.ensures.ok some))
     (λ few. let none : length line ≡ 0 = omega arith in
-    Open-nothing R law over line start old new c.loop-unread.unread left0 left1 taken0 taken1 s h none (c.in-Ok-finish.ensures.empty none).0.0)
+    Open-nothing R law over line start old new unread left0 left1 taken0 taken1 s h none (c.in-Ok.ensures.empty none).0.0)
     (cases_lt 0 (length line)) in
-    let run : AnswersInput R lines start new left0 left2 taken0 taken2 s.bytes =
+    let run : AnswersInput R lines start new left0 left1 taken0 taken2 s.bytes =
     ⊎_elim
-    (λ some. Run-last R law line start old new c.loop-unread.unread left0 left1 left2 taken0 taken1 taken2 s read some (c.in-Ok-finish.ensures.ok some))
+    (λ some. Run-last R law line start old new unread left0 left1 left1 taken0 taken1 taken2 s (Consumes-nil left1) some (c.in-Ok.ensures.ok some))
     (λ few. let none : length line ≡ 0 = omega arith in
-    let kept = c.in-Ok-finish.ensures.empty none in
-    Run-nothing R law line start old new c.loop-unread.unread left0 left1 left2 taken0 taken1 taken2 s read none kept.0.0 kept.0.1)
+    let kept = c.in-Ok.ensures.empty none in
+    Run-nothing R law line start old new unread left0 left1 left1 taken0 taken1 taken2 s (Consumes-nil left1) none kept.0.0 kept.0.1)
     (cases_lt 0 (length line)) in
-    subst (λ ending. EndsTold R over (Ok ending) start new left0 left2 taken0 taken2) (sym c.ending_at-ending.ensures)
-    (told_at R over line start old new c.loop-unread.unread left0 left1 left2 taken0 taken1 taken2 s run (c.in-Ok.ensures.end c.if-n-eq0.true) was_open)
+    subst (λ ending. EndsTold R over (Ok ending) start new left0 left1 taken0 taken2) (sym c.ending_at.ensures)
+    (told_at R over line start old new unread left0 left1 left1 taken0 taken1 taken2 s run ends.2 was_open)
 
-pub returns-in-Err-clause-ends : goal.returns-in-Err-clause-ends
-returns-in-Err-clause-ends g c =
-    let left1 = g.S.Source.left c.loop-unread.reader in
-    let left2 = g.S.Source.left c.read_up_to.new.reader in
-    BrokenRun-last g.D.LineServer.answers g.met.D.LineServer.too_long c.loop-unread.line c.args.server.now c.loop-unread.server c.finish.new.server c.loop-unread.unread
-    (g.S.Source.left c.args.reader.now) left1 left2
-    (g.W.Sink.taken c.args.writer.now) (g.W.Sink.taken c.loop-unread.writer) (g.W.Sink.taken c.finish.new.writer)
-    c.loop-unread.invariant.serving
-    (nothing left1 left2 c.in-Ok.n c.read_up_to.new.buffer c.if-n-eq0.true c.in-Ok.ensures.ok)
-    (c.in-Ok.ensures.end c.if-n-eq0.true)
-    c.in-Err.ensures.err.0 c.in-Err.ensures.err.1
-
-pub returns-clause-ends : goal.returns-clause-ends
-returns-clause-ends g c =
+pub returns-in-Err-finish-clause-ends : goal.returns-in-Err-finish-clause-ends
+returns-in-Err-finish-clause-ends g c =
     let R = g.D.LineServer.answers in
-    let law = g.met.D.LineServer.too_long in
-    let s = c.loop-unread.invariant.serving in
-    (s.bytes, Run-whole R law _ _ _ _ _ _ _ _ _ s (Keeps-refl _), omega (arith, s.count))
-
-pub returns-in_default-feed-clause-ends : goal.returns-in_default-feed-clause-ends
-returns-in_default-feed-clause-ends g c =
-    BrokenRun-piece g.D.LineServer.answers g.met.D.LineServer.too_long c.loop-unread.line c.args.server.now c.loop-unread.server c.feed.new.server (take c.in-Ok.n c.read_up_to.new.buffer) c.loop-unread.unread
-    (g.S.Source.left c.args.reader.now) (g.S.Source.left c.loop-unread.reader) (g.S.Source.left c.read_up_to.new.reader)
-    (g.W.Sink.taken c.args.writer.now) (g.W.Sink.taken c.loop-unread.writer) (g.W.Sink.taken c.feed.new.writer)
-    c.loop-unread.invariant.serving c.in-Ok.ensures.ok c.in_default-feed.ensures.err
-
-pub loop-unread-preserved : goal.loop-unread-preserved
-loop-unread-preserved g c =
-    let piece = take c.in-Ok.n c.read_up_to.new.buffer in
     let left0 = g.S.Source.left c.args.reader.now in
-    let left2 = g.S.Source.left c.read_up_to.new.reader in
+    let left1 = g.S.Source.left c.answer_whole_lines.new.reader in
     let taken0 = g.W.Sink.taken c.args.writer.now in
-    let taken2 = g.W.Sink.taken c.feed.new.writer in
-    let size : length piece ≡ c.in-Ok.n = length-take-le c.in-Ok.n c.read_up_to.new.buffer (omega (arith, c.in-Ok.ensures.count)) in
-    record {
-      source = c.in-Ok.ensures.failed;
-      sink = c.in-Ok-feed.ensures.failed;
-      flushed = λ h. c.in-Ok-feed.ensures.flushed (c.loop-unread.invariant.flushed h);
-      room = omega arith;
-      not_over = λ _. sym c.is_over.ensures ∙ c.if-is_over.false;
-      serving = subst (λ k. HasServed g.D.LineServer.answers c.feed.new.line c.args.server.now c.feed.new.server (c.loop-unread.unread - k) left0 left2 taken0 taken2) size
-          (Serving-more g.D.LineServer.answers g.met.D.LineServer.too_long c.loop-unread.line c.feed.new.line c.args.server.now c.loop-unread.server c.feed.new.server piece c.loop-unread.unread
-          left0 (g.S.Source.left c.loop-unread.reader) left2 taken0 (g.W.Sink.taken c.loop-unread.writer) taken2
-          c.loop-unread.invariant.serving c.in-Ok.ensures.ok (omega (arith, c.in-Ok.ensures.count)) c.in-Ok-feed.ensures.ok);
-    }
-
-pub loop-unread-init : goal.loop-unread-init
-loop-unread-init g c =
-    let R = g.D.LineServer.answers in
+    let taken1 = g.W.Sink.taken c.answer_whole_lines.new.writer in
+    let line = c.answer_whole_lines.new.line in
     let start = c.args.server.now in
-    let left = g.S.Source.left c.args.reader.now in
-    let taken = g.W.Sink.taken c.args.writer.now in
-    record {
-      source = c.requires.source;
-      sink = c.requires.sink;
-      flushed = λ h. h;
-      room = c.requires.start.1;
-      not_over = λ h. h;
-      serving = subst (λ k. HasServed R k start start (2 ^ 32) left left taken taken) (sym c.requires.start.0) (Serving-none R g.met.D.LineServer.too_long start left taken);
-    }
-
-pub returns-then-is_over-clause-ends : goal.returns-then-is_over-clause-ends
-returns-then-is_over-clause-ends g c =
-    let piece = take c.in-Ok.n c.read_up_to.new.buffer in
-    let left0 = g.S.Source.left c.args.reader.now in
-    let left2 = g.S.Source.left c.read_up_to.new.reader in
-    let taken0 = g.W.Sink.taken c.args.writer.now in
-    let taken2 = g.W.Sink.taken c.feed.new.writer in
-    let size : length piece ≡ c.in-Ok.n = length-take-le c.in-Ok.n c.read_up_to.new.buffer (omega (arith, c.in-Ok.ensures.count)) in
-    let s = subst (λ k. HasServed g.D.LineServer.answers c.feed.new.line c.args.server.now c.feed.new.server (c.loop-unread.unread - k) left0 left2 taken0 taken2) size
-    (Serving-more g.D.LineServer.answers g.met.D.LineServer.too_long c.loop-unread.line c.feed.new.line c.args.server.now c.loop-unread.server c.feed.new.server piece c.loop-unread.unread
-    left0 (g.S.Source.left c.loop-unread.reader) left2 taken0 (g.W.Sink.taken c.loop-unread.writer) taken2
-    c.loop-unread.invariant.serving c.in-Ok.ensures.ok (omega (arith, c.in-Ok.ensures.count)) c.in-Ok-feed.ensures.ok) in
-    (s.bytes, Run-whole g.D.LineServer.answers g.met.D.LineServer.too_long _ _ _ _ _ _ _ _ _ s (Keeps-refl _), sym c.is_over.ensures ∙ c.if-is_over.true)
+    let old = c.answer_whole_lines.new.server in
+    let ends = subst (λ stop. EndsReading R g.D.LineServer.over (Ok stop) line start old left0 left1 taken0 taken1) c.in-Ok-AtEnd.field-0-is c.in-Ok-AtEnd.ensures.ends in
+    BrokenRun-last R g.met.D.LineServer.too_long line start old c.finish.new.server ends.0
+    left0 left1 left1 taken0 taken1 (g.W.Sink.taken c.finish.new.writer)
+    ends.1 (Consumes-nil left1) ends.2 c.in-Err-finish.ensures.err.0 c.in-Err-finish.ensures.err.1

@@ -3,7 +3,8 @@ use Rattle.std.specs.List.{AllByRecursion}
 use Rattle.base_core.specs.declared.limits.Limits.{Limits}
 use Rattle.system_core.specs.Journal.{IsLawful}
 use Rattle.system_core.specs.declared.machine.event.Entry.{Entry}
-use Rattle.load_core.specs.Loading.{Loads, WasRead, without_pass}
+use Rattle.journal_core.specs.Text.{WasRead}
+use Rattle.load_core.specs.Loading.{Loads, without_pass}
 use Rattle.load_core.proofs.Text.{lines_are}
 use Rattle.load_core.proofs.Written.{loads, lines_unmarked_is}
 use Rattle.load_core.proofs.laws.journal_is_loaded.Goals as goal

@@ -1,7 +1,6 @@
 use Rattle.std.proofs.Common.{◌≡◌, ℕ, ◌+◌, ◌≤◌, ◌∙◌, sym, drop, arith, Fits, w64, Ok, refl}
 use Rattle.std.proofs.lemmas.List.{take_rest}
 use Rattle.reader_core.specs.Language.{IsReadFault}
-use Rattle.lines_core.specs.declared.line.TheConstants.{LONGEST_LINE}
 use Rattle.system_core.specs.World.{entry}
 use Rattle.script_core.specs.Script.{addressed_up_to}
 use Rattle.script_core.proofs.Offsets.{offset-small}
@@ -22,19 +21,19 @@ overflow_add-offset c =
 
 pub returns-in-Err-At : goal.returns-in-Err-At
 returns-in-Err-At c =
-    let speaker : addressed_up_to LONGEST_LINE c.args.line.now ≡ Ok c.in-Ok.address = sym c.addressed_up_to.ensures.exact ∙ c.in-Ok.is in
+    let speaker : addressed_up_to c.args.most c.args.line.now ≡ Ok c.in-Ok.address = sym c.addressed_up_to.ensures.exact ∙ c.in-Ok.is in
     let fault : IsReadFault (drop c.in-Ok.address.1 c.args.line.now) c.in-Err-At.code c.in-Err-At.offset = rw (c.in-Err-At.field-0-is, take_rest c.args.line.now c.in-Ok.address.1) at c.in-Err-At.ensures.faulty in
-    let undone : IsFaultOfLine c.args.line.now c.in-Err-At.code (c.in-Ok.address.1 + c.in-Err-At.offset) = statement c.in-Ok.address.0 c.in-Ok.address.1 c.in-Err-At.offset speaker fault in
+    let undone : IsFaultOfLine c.args.most c.args.line.now c.in-Err-At.code (c.in-Ok.address.1 + c.in-Err-At.offset) = statement c.in-Ok.address.0 c.in-Ok.address.1 c.in-Err-At.offset speaker fault in
     rw c.in-Err-At.field-0-is (undone, refl)
 
 pub returns-in-Err-NoMemory : goal.returns-in-Err-NoMemory
 returns-in-Err-NoMemory c =
-    let speaker : addressed_up_to LONGEST_LINE c.args.line.now ≡ Ok c.in-Ok.address = sym c.addressed_up_to.ensures.exact ∙ c.in-Ok.is in
+    let speaker : addressed_up_to c.args.most c.args.line.now ≡ Ok c.in-Ok.address = sym c.addressed_up_to.ensures.exact ∙ c.in-Ok.is in
     ((c.in-Ok.address.0, c.in-Ok.address.1, speaker), refl)
 
 pub returns-in-Ok-read_with : goal.returns-in-Ok-read_with
 returns-in-Ok-read_with c =
-    let speaker : addressed_up_to LONGEST_LINE c.args.line.now ≡ Ok c.in-Ok.address = sym c.addressed_up_to.ensures.exact ∙ c.in-Ok.is in
+    let speaker : addressed_up_to c.args.most c.args.line.now ≡ Ok c.in-Ok.address = sym c.addressed_up_to.ensures.exact ∙ c.in-Ok.is in
     let e = entry 0 c.in-Ok.address.0 c.in-Ok-read_with.statement in
-    let says : SaysEntry c.args.line.now e = record { start = c.in-Ok.address.1; speaker = speaker; spelled = rw (take_rest c.args.line.now c.in-Ok.address.1) at c.in-Ok-read_with.ensures.spelled; pass = refl } in
-    line_enters c.args.system.now c.enter.new.system c.args.line.now e says c.enter.result c.enter.ensures
+    let says : SaysEntry c.args.most c.args.line.now e = record { start = c.in-Ok.address.1; speaker = speaker; spelled = rw (take_rest c.args.line.now c.in-Ok.address.1) at c.in-Ok-read_with.ensures.spelled; pass = refl } in
+    line_enters c.args.most c.args.system.now c.enter.new.system c.args.line.now e says c.enter.result c.enter.ensures

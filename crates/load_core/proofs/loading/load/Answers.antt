@@ -1,5 +1,5 @@
 use Rattle.std.proofs.Common.{◌∙◌}
-use Rattle.load_core.proofs.Again.{ends_passes}
+use Rattle.load_core.proofs.Again.{ends_passes, ends_read}
 use Rattle.load_core.proofs.Ending.{ends_so, number_is_small}
 use Rattle.load_core.proofs.loading.load.Goals as goal
 
@@ -15,3 +15,7 @@ returns-in-Ok-serve_told-clause-ends g c =
 pub returns-in-Ok-serve_told-clause-passes : goal.returns-in-Ok-serve_told-clause-passes
 returns-in-Ok-serve_told-clause-passes g c =
     ends_passes c.args.chunk c.finish.result (g.S.Source.left c.args.reader.now) (g.S.Source.left c.serve_told.new.reader) (returns-in-Ok-serve_told-clause-ends g c)
+
+pub returns-in-Ok-serve_told-clause-entries : goal.returns-in-Ok-serve_told-clause-entries
+returns-in-Ok-serve_told-clause-entries g c =
+    ends_read c.args.chunk c.finish.result (g.S.Source.left c.args.reader.now) (g.S.Source.left c.serve_told.new.reader) (returns-in-Ok-serve_told-clause-ends g c)

@@ -1,6 +1,6 @@
 use Rattle.std.proofs.Common.{◌≡◌, ◌<◌, true, false, length}
 use Rattle.lines_core.specs.Serving.{HasServed}
-use Rattle.lines_core.proofs.serving.serve_lines.Given as goal
+use Rattle.lines_core.proofs.serving.answer_whole_lines.Given as goal
 
 abbrev pub invariant-loop-unread : goal.invariant-loop-unread
 invariant-loop-unread g l = record {
