@@ -1,7 +1,7 @@
 -- From what is left of the grants of one atom to what is in force.
 use Rattle.std.proofs.Common.{◌≡◌, ⊎_elim, true, false, not, ◌&&◌, ◌||◌, cond, List, [], ◌∷◌, ◌++◌, Option, Some, None, refl, sym, ap, ◌∙◌, subst}
 use Rattle.std.specs.List.{All, AllByRecursion, Contains, list_any, filter, fold}
-use Rattle.std.proofs.lemmas.Bool.{cases_Bool, and_parts, or_right, or_from, both_ways, cond-true, cond-false}
+use Rattle.std.proofs.lemmas.Bool.{cases_Bool, and_parts, or_right, both_ways, cond-true, cond-false}
 use Rattle.std.proofs.lemmas.List.{append-nil}
 use Rattle.std.proofs.lemmas.List.Elements.{All-weaker, All-contains, All-head, Contains-push, filter-append, filter_passes, All-from_recursion}
 use Rattle.base_core.specs.Users.{same_user}
@@ -20,8 +20,8 @@ use Rattle.grants_core.specs.History.{in_force_after, owners_after}
 use Rattle.grants_core.proofs.HistoryLemmas.{owners-more, in_force-revoke}
 use Rattle.explain_core.specs.declared.cut.Cut.{Cut}
 use Rattle.explain_core.specs.Chains.{holds_after, IsLinked, IsChain}
-use Rattle.explain_core.specs.Cuts.{Takes, IsCut}
-use Rattle.explain_core.specs.Losses.{is_of, IsLoss, IsLossAlong}
+use Rattle.explain_core.specs.Cuts.{Takes, IsCut, with_revoked, CannotTake}
+use Rattle.explain_core.specs.Losses.{is_of, holds_without, others_than, HoldsAgainst, IsLossAlong}
 use Rattle.explain_core.proofs.ListLemmas.{filter_swap, list_any-filtered, Contains-any}
 
 supports-same : (h g : Grant) → supports h g ≡ true → h.atom ≡ g.atom
@@ -85,6 +85,19 @@ linked-of first (h ∷ more) linked =
     lift a same [] is = tt
     lift a same (g ∷ gs) is = (same ∙ is.0, lift a same gs is.1)
 
+-- **once this user has revoked the atom from these, who does not own the table holds it by the grants of it that are left**
+holds-revoked : (changes : List Change) (user : User) (atom : Atom) (by : User) (whom : List User) → owns (owners_after changes) user atom ≡ false → holds_after (with_revoked changes by atom whom) user atom ≡ holds_without (owners_after changes) (filter (is_of atom) (in_force_after changes)) atom user by whom
+holds-revoked changes user atom by whom unowned =
+    let o : List Ownership = owners_after changes in
+    let old : List Grant = in_force_after changes in
+    let atoms : List Atom = atom ∷ [] in
+    let c : Change = change.Revoke by atoms whom in
+    ap (λ b. b || list_any (gives user atom) (in_force_after (changes ++ c ∷ []))) (ap (λ k. owns k user atom) (owners-more changes c) ∙ unowned)
+    ∙ ap (list_any (gives user atom)) (in_force-revoke changes by atoms whom)
+    ∙ sym (list_any-filtered (gives user atom) (is_of atom) (valid o (without by atoms whom old)) (gives-of user atom))
+    ∙ ap (list_any (gives user atom)) (valid-of atom o (without by atoms whom old)
+    ∙ ap (valid o) (filter_swap (is_of atom) (λ g. not (names by atoms whom g)) old))
+
 module _ (changes : List Change) (user : User) (atom : Atom) (chain : List Grant) (last : Grant) (gives_it : gives user atom last ≡ true) (is : IsChain changes chain last) where
   -- so its first grant is by the owner of the atom's table
   pub chain-owned : All (λ g. owns (owners_after changes) g.grantor atom ≡ false) chain → ⊥
@@ -111,25 +124,23 @@ module _ (changes : List Change) (user : User) (atom : Atom) (chain : List Grant
       (All-contains (λ g. Contains (in_force_after changes) g) (front ++ last ∷ []) last (subst InForce ends is.in_force) (Contains-push front last)) gives_it)
 
   -- **what takes the grants of the atom from him takes the atom**
-  pub takes-loss : (cut : Cut) → owns (owners_after changes) user atom ≡ false → IsLoss (owners_after changes) (filter (is_of atom) (in_force_after changes)) atom user cut.by cut.whom.items → Takes changes user atom cut
-  takes-loss cut unowned loss =
+  pub takes-loss : (cut : Cut) → owns (owners_after changes) user atom ≡ false → IsLossAlong (owners_after changes) (filter (is_of atom) (in_force_after changes)) atom user chain (Some cut) → Takes changes user atom cut
+  takes-loss cut unowned along =
       let o : List Ownership = owners_after changes in
       let old : List Grant = in_force_after changes in
-      let atoms : List Atom = atom ∷ [] in
       let whom : List User = cut.whom.items in
-      let c : Change = change.Revoke cut.by atoms whom in
+      let loss = along.0 in
+      let Chained : List Grant → Type 0 = λ k. IsChain changes k last in
+      let Fewer : User → Type 0 = λ v. holds_without o (filter (is_of atom) old) atom user cut.by (others_than v whom) ≡ true in
+      let Against : Grant → Type 0 = λ h. HoldsAgainst o (filter (is_of atom) old) atom user h.grantor in
       record {
         held = chain-holds;
         made = All-weaker (λ v. has_made (filter (is_of atom) old) cut.by v atom ≡ true) (λ v. has_made old cut.by v atom ≡ true)
             (λ v made. sym (list_any-filtered (λ g. same_user g.grantor cut.by && gives v atom g) (is_of atom) old (λ g h. gives-of v atom g (and_parts (same_user g.grantor cut.by) (gives v atom g) h).1)) ∙ made)
             whom loss.made;
-        lost =
-            or_from (owns (owners_after (changes ++ c ∷ [])) user atom) _ (ap (λ k. owns k user atom) (owners-more changes c) ∙ unowned)
-            (ap (list_any (gives user atom)) (in_force-revoke changes cut.by atoms whom)
-            ∙ sym (list_any-filtered (gives user atom) (is_of atom) (valid o (without cut.by atoms whom old)) (gives-of user atom))
-            ∙ ap (list_any (gives user atom)) (valid-of atom o (without cut.by atoms whom old)
-            ∙ ap (valid o) (filter_swap (is_of atom) (λ g. not (names cut.by atoms whom g)) old))
-            ∙ loss.lost);
+        lost = holds-revoked changes user atom cut.by whom unowned ∙ loss.lost;
+        needed = All-weaker Fewer (λ v. holds_after (with_revoked changes cut.by atom (others_than v whom)) user atom ≡ true) (λ v holds. holds-revoked changes user atom cut.by (others_than v whom) unowned ∙ holds) whom along.1;
+        nearest = (along.2, along.3, along.4, last, subst Chained along.5 is, gives_it, sym along.6, All-weaker Against (λ h. CannotTake changes user atom h.grantor) (λ h holds users. holds-revoked changes user atom h.grantor users unowned ∙ holds users) along.4 along.7);
       }
 
 -- the grants of an atom are of it

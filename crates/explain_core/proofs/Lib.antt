@@ -5,6 +5,7 @@ pub mod CutLemmas
 pub mod DescentLemmas
 pub mod EndLemmas
 pub mod FallLaw
+pub mod FewerLemmas
 pub mod Falling
 pub mod LastingLemmas
 pub mod LifeLemmas
@@ -12,6 +13,7 @@ pub mod ListLemmas
 pub mod LongestLemmas
 pub mod LossLemmas
 pub mod MadeLemmas
+pub mod NeededLemmas
 pub mod NumberedLemmas
 pub mod PartsLemmas
 pub mod Standing

@@ -1,6 +1,7 @@
 -- Filters, maps and first places of lists.
-use Rattle.std.proofs.Common.{◌≡◌, ◌⊎◌, ℕ, ◌<◌, ◌≤◌, ◌+◌, Bool, true, false, ◌||◌, ◌&&◌, cond, List, [], ◌∷◌, Some, None, map, reverse, length, zero, suc, refl, sym, ap, ◌∙◌, subst, arith, ⊎_elim, inl, inr}
-use Rattle.std.proofs.lemmas.List.{reverse-append}
+use Rattle.std.proofs.Common.{◌≡◌, ◌⊎◌, ℕ, ◌<◌, ◌≤◌, ◌+◌, Bool, true, false, ◌||◌, ◌&&◌, cond, List, [], ◌∷◌, ◌++◌, Some, None, map, reverse, length, take, drop, get_or, zero, suc, refl, sym, ap, ◌∙◌, subst, arith, ⊎_elim, inl, inr}
+use Rattle.std.proofs.lemmas.List.{reverse-append, take-append-drop}
+use Rattle.std.proofs.Math.Seq.{drop-cons}
 use Rattle.std.proofs.lemmas.List.Elements.{All-nil, All-cons, All-pop}
 use Rattle.std.specs.List.{All, AllByRecursion, Contains, list_any, filter, find, slice_get, range_with_len}
 use Rattle.std.proofs.lemmas.Option.{slice_get_within, slice_get_read, get_or_from_slice_get}
@@ -170,3 +171,13 @@ All-reversed P [] h = All-nil P
 All-reversed P (x ∷ xs) h =
     let parts = All-pop P (reverse (x ∷ xs)) (reverse xs) (Some x) (reverse-append (x ∷ []) xs) h in
     All-cons P x xs parts.1 (All-reversed P xs parts.0)
+
+-- from the element at a place on
+pub drop-here : {A : Type 0} (xs : List A) (at : ℕ) (x : A) → at < length xs → x ≡ get_or xs at x → drop at xs ≡ x ∷ drop (at + 1) xs
+drop-here xs at x within is =
+    let next : suc at ≡ at + 1 = omega arith in
+    drop-cons xs at x within ∙ ap (λ n. get_or xs at x ∷ drop n xs) next ∙ ap (λ y. y ∷ drop (at + 1) xs) (sym is)
+
+-- what is before a place, what is there, and what is behind it
+pub split-here : {A : Type 0} (xs : List A) (at : ℕ) (x : A) → at < length xs → x ≡ get_or xs at x → xs ≡ take at xs ++ x ∷ drop (at + 1) xs
+split-here xs at x within is = sym (take-append-drop at xs) ∙ ap (λ k. take at xs ++ k) (drop-here xs at x within is)

@@ -1,11 +1,11 @@
 -- Revocations that take an atom from a user.
-use Rattle.std.proofs.Common.{◌≡◌, ⊎_elim, ℕ, ◌<◌, ◌+◌, Bool, true, false, not, ◌&&◌, ◌||◌, List, [], ◌∷◌, ◌++◌, Some, length, take, get_or, refl, sym, ap, ◌∙◌, subst}
+use Rattle.std.proofs.Common.{◌≡◌, ⊎_elim, ℕ, ◌<◌, ◌+◌, true, false, not, ◌&&◌, ◌||◌, List, [], ◌∷◌, ◌++◌, length, take, get_or, refl, sym, ap, ◌∙◌, subst}
 use Rattle.std.specs.List.{All, AllByRecursion, list_any, fold}
 use Rattle.std.proofs.lemmas.Bool.{cases_Bool, and_from, or_left, or_right, or_from, both_ways, false_from_ne_true, cond-true, cond-false}
 use Rattle.std.proofs.lemmas.Option.{slice_get_read}
 use Rattle.std.proofs.lemmas.List.{take_more}
 use Rattle.std.proofs.lemmas.List.Folds.{list_any-append}
-use Rattle.std.proofs.lemmas.List.Elements.{All-push, All-same, All-weaker, All-cons, All-pop, filter_agree, recursion_from_All}
+use Rattle.std.proofs.lemmas.List.Elements.{All-push, All-same, All-weaker, recursion_from_All}
 use Rattle.base_core.specs.Users.{same_user}
 use Rattle.base_core.specs.Privileges.{same_atom}
 use Rattle.base_core.specs.declared.name.User.{User}
@@ -16,7 +16,7 @@ use Rattle.grants_core.specs.declared.grant.Ownership.{Ownership}
 use Rattle.grants_core.specs.Owners.{owns}
 use Rattle.grants_core.specs.Valid.{kept_with, valid}
 use Rattle.grants_core.specs.Content.{gives, has_made, names, without}
-use Rattle.explain_core.specs.Losses.{is_of, holds_without, IsLoss, AreAllOf}
+use Rattle.explain_core.specs.Losses.{is_of, holds_without, AreAllOf}
 use Rattle.explain_core.proofs.ListLemmas.{list_any-at}
 use Rattle.explain_core.proofs.CreationLemmas.{owns-once}
 
@@ -40,39 +40,6 @@ listed-push whom u h old = list_any-append (λ v. same_user v h.grantee) whom (u
 
 pub listed-pushed : (whom : List User) (h : Grant) → list_any (λ v. same_user v h.grantee) (whom ++ h.grantee ∷ []) ≡ true
 listed-pushed whom h = list_any-append (λ v. same_user v h.grantee) whom (h.grantee ∷ []) ∙ or_right (list_any (λ v. same_user v h.grantee) whom) _ (or_left (same_user h.grantee h.grantee) false (same_user-refl h.grantee))
-
--- whom it names in another order
-or_turned : (a b : Bool) → (a || b) ≡ (b || (a || false))
-or_turned true true = refl
-or_turned true false = refl
-or_turned false true = refl
-or_turned false false = refl
-
-names-turned : (by : User) (atoms : List Atom) (rest : List User) (one : User) (g : Grant) → names by atoms (one ∷ rest) g ≡ names by atoms (rest ++ one ∷ []) g
-unfolding names
-names-turned by atoms rest one g =
-    let ours : Bool = same_user by g.grantor && list_any (λ a. same_atom a g.atom) atoms in
-    ap (λ b. ours && b) (or_turned (same_user one g.grantee) (list_any (λ u. same_user u g.grantee) rest) ∙ sym (list_any-append (λ u. same_user u g.grantee) rest (one ∷ [])))
-
--- the last of those from whom it revokes, in turn
-module _ (o : List Ownership) (grants : List Grant) (atom : Atom) (user by : User) (rest : List User) (one : User) (loss : IsLoss o grants atom user by (rest ++ one ∷ [])) where
-  Made : User → Type 0
-  Made v = has_made grants by v atom ≡ true
-
-  pub loss-turned : IsLoss o grants atom user by (one ∷ rest)
-  unfolding Made
-  loss-turned =
-      let parts = All-pop Made (rest ++ one ∷ []) rest (Some one) refl loss.made in
-      record {
-        made = All-cons Made one rest parts.1 parts.0;
-        lost = ap (λ k. list_any (gives user atom) (valid o k)) (filter_agree (λ g. not (names by (atom ∷ []) (one ∷ rest) g)) (λ g. not (names by (atom ∷ []) (rest ++ one ∷ []) g)) (λ g. ap not (names-turned by (atom ∷ []) rest one g)) grants) ∙ loss.lost;
-      }
-
-  pub loss-left_out : holds_without o grants atom user by rest ≡ false → IsLoss o grants atom user by rest
-  unfolding Made
-  loss-left_out lost =
-      let parts = All-pop Made (rest ++ one ∷ []) rest (Some one) refl loss.made in
-      record { made = parts.0; lost = lost }
 
 -- grants of which none is by the owner
 nothing_valid : (o : List Ownership) (gs : List Grant) → AllByRecursion (λ g. owns o g.grantor g.atom ≡ false) gs → valid o gs ≡ []

@@ -3,7 +3,7 @@ ghost use Rattle.std.specs.Prelude.{◌≡◌, ◌&&◌, true, is_none, IfOk, Al
 ghost use Rattle.std.specs.List.{list_any};
 ghost use Rattle.grants_core.specs.Content.{gives, has_made};
 ghost use Rattle.grants_core.specs.History.{in_force_after};
-ghost use Rattle.explain_core.specs.Losses.{is_of, holds_without, IsLoss, AreAllOf};
+ghost use Rattle.explain_core.specs.Losses.{is_of, holds_without, IsLoss, AreNeeded, AreAllOf};
 ghost use Rattle.explain_core.specs.Losses.{IsLossBy, IsLossAlong};
 ghost use Rattle.explain_core.specs.Cuts.{IsCut};
 
@@ -70,7 +70,7 @@ impl<'a> Standing<'a> {
     }
 
     /// Those of the users from whom this one has to revoke, so that the other loses the atom: each
-    /// is left out in turn, and stays out where the rest is enough.
+    /// is left out in turn, from the last to the first, and stays out where the rest is enough.
     fn needed(
         &self,
         alloc: Global,
@@ -80,22 +80,22 @@ impl<'a> Standing<'a> {
     ) -> Result<Vec<User>, NoMemory>
         requires { IsLoss self.now.owners.now self.now.grants.now self.now.atom.now user.now by.now
             whom.items }
-        ensures { IfOk result (λ needed. IsLoss self.now.owners.now self.now.grants.now
+        ensures loss { IfOk result (λ needed. IsLoss self.now.owners.now self.now.grants.now
             self.now.atom.now user.now by.now needed.items) }
+        ensures needed { IfOk result (λ needed. AreNeeded self.now.owners.now
+            self.now.grants.now self.now.atom.now user.now by.now needed.items) }
     {
         let mut needed = whom;
-        for _ in 0..needed.len() {
-            let Some(one) = needed.pop() else {
-                return Ok(needed);
-            };
+        for at in (0..needed.len()).rev() {
+            let one = needed.remove(at);
             if self.holds_without(alloc, user, by, &needed)? {
-                needed.insert(0, one)?;
+                needed.insert(at, one)?;
             }
         }
         Ok(needed)
     }
 
-    /// The revocation by this user that takes the atom from the other, if one does. One by the
+    /// A revocation by this user that takes the atom from the other, if one does. One by the
     /// owner does.
     fn cut_by(&self, alloc: Global, user: &User, by: &User) -> Result<Option<Cut>, NoMemory>
         requires { All (λ g. is_of self.now.atom.now g ≡ true) self.now.grants.now }
@@ -110,14 +110,14 @@ impl<'a> Standing<'a> {
         Ok(Some(Cut { by: *by, whom }))
     }
 
-    /// The first that takes it from him, by a grantor of the chain, from the last to the owner.
+    /// The first that takes it from him, by the grantors of the chain, from the last to the owner.
     fn cut(&self, alloc: Global, user: &User, chain: &[Grant]) -> Result<Option<Cut>, NoMemory>
         requires { All (λ g. is_of self.now.atom.now g ≡ true) self.now.grants.now }
         ensures { IfOk result (λ cut. IsLossAlong self.now.owners.now self.now.grants.now
             self.now.atom.now user.now chain.now cut) }
     {
-        for grant in chain.iter().rev() {
-            if let Some(cut) = self.cut_by(alloc, user, &grant.grantor)? {
+        for at in (0..chain.len()).rev() {
+            if let Some(cut) = self.cut_by(alloc, user, &chain[at].grantor)? {
                 return Ok(Some(cut));
             }
         }

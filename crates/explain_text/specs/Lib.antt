@@ -1,3 +1,6 @@
+pub mod FaultTexts
+pub mod Graphs
+pub mod Questions
 pub mod Supposing
 pub use Rattle.system_core.specs.Journal
 pub use Rattle.system_core.specs.World

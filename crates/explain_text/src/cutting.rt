@@ -1,8 +1,10 @@
 //! Revocations that would take a privilege from a user.
 
+use crate::answer::Answer;
 use crate::past::Past;
 use crate::privileges::{push_atom, put_privilege};
 use crate::prose::Prose;
+use crate::question::Format;
 use crate::records::Records;
 use base_core::{Atom, Name, NoMemory, User};
 use explain_core::Cut;
@@ -37,9 +39,9 @@ fn add_cut(alloc: Global, cuts: &mut Vec<Cuts>, atom: &Atom, cut: Cut) -> Result
     Ok(())
 }
 
-/// What takes the atoms from the user, who does not own the table. Those that he does not hold need
-/// nothing.
-pub fn cuts_of(
+/// What takes the atoms from the user. Those that he does not hold need nothing, and nothing takes
+/// them from an owner.
+fn cuts_of(
     alloc: Global,
     past: &Past<'_>,
     user: &User,
@@ -85,31 +87,18 @@ fn put_lines(text: &mut Prose, tables: &Tables, cuts: &Cuts, table: &Name) -> Re
     Ok(())
 }
 
-/// Appends the lines of a script that take the atoms from the user, or that there is nothing to
-/// take or nothing that takes it. Says whether there could be something.
-pub fn put_cuts(
-    text: &mut Prose,
+/// The lines of a script that take what these cuts take.
+fn lines_of(
     alloc: Global,
-    past: &Past<'_>,
-    user: &User,
+    tables: &Tables,
+    cuts: &[Cuts],
     table: &Name,
-    atoms: &[Atom],
-) -> Result<bool, NoMemory> {
-    if past.tables.owner(*table) == Some(*user) {
-        text.put_all(&[user.0.as_bytes(), b" owns ", table.as_bytes()])?;
-        text.put(b": nothing takes it from him\n")?;
-        return Ok(false);
+) -> Result<Vec<u8>, NoMemory> {
+    let mut text = Prose::new(alloc);
+    for one in cuts {
+        put_lines(&mut text, tables, one, table)?;
     }
-    let cuts = cuts_of(alloc, past, user, atoms)?;
-    if cuts.is_empty() {
-        text.put_all(&[user.0.as_bytes(), b" does not hold "])?;
-        put_privilege(text, past.tables, atoms)?;
-        text.put_all(&[b" on ", table.as_bytes(), b": there is nothing to take\n"])?;
-    }
-    for one in &cuts {
-        put_lines(text, past.tables, one, table)?;
-    }
-    Ok(true)
+    Ok(text.bytes)
 }
 
 /// The records of what a cut names: for each atom and user one.
@@ -130,18 +119,65 @@ fn put_all_records_of(records: &mut Records, cuts: &Cuts) -> Result<(), NoMemory
     Ok(())
 }
 
-/// The records of what would take the atoms from the user, and whether there could be something.
-pub fn cuts_as_records(
+/// The records of these cuts.
+fn records_of(alloc: Global, cuts: &[Cuts]) -> Result<Vec<u8>, NoMemory> {
+    let mut records = Records::under(alloc, &FIELDS)?;
+    for one in cuts {
+        put_all_records_of(&mut records, one)?;
+    }
+    records.finish()
+}
+
+/// That the user owns the table.
+fn owner_remark(alloc: Global, user: &User, table: &Name) -> Result<Vec<u8>, NoMemory> {
+    let mut text = Prose::new(alloc);
+    text.put_all(&[user.0.as_bytes(), b" owns ", table.as_bytes()])?;
+    text.put(b": nothing takes it from an owner")?;
+    Ok(text.bytes)
+}
+
+/// That the user holds none of the atoms.
+fn lack_remark(
+    alloc: Global,
+    tables: &Tables,
+    user: &User,
+    table: &Name,
+    atoms: &[Atom],
+) -> Result<Vec<u8>, NoMemory> {
+    let mut text = Prose::new(alloc);
+    text.put_all(&[user.0.as_bytes(), b" does not hold "])?;
+    put_privilege(&mut text, tables, atoms)?;
+    text.put_all(&[b" on ", table.as_bytes(), b": there is nothing to take"])?;
+    Ok(text.bytes)
+}
+
+/// What would take the atoms from the user. It is no where he owns the table. Where nothing is
+/// taken, the remark says why.
+pub fn cut_answer(
     alloc: Global,
     past: &Past<'_>,
     user: &User,
     table: &Name,
     atoms: &[Atom],
-) -> Result<(Vec<u8>, bool), NoMemory> {
-    let mut records = Records::under(alloc, &FIELDS)?;
-    for cuts in &cuts_of(alloc, past, user, atoms)? {
-        put_all_records_of(&mut records, cuts)?;
-    }
-    let owns = past.tables.owner(*table) == Some(*user);
-    Ok((records.finish()?, !owns))
+    format: Format,
+) -> Result<Answer, NoMemory> {
+    let cuts = cuts_of(alloc, past, user, atoms)?;
+    let is_owner = past.tables.owner(*table) == Some(*user);
+    let remark = if is_owner {
+        Some(owner_remark(alloc, user, table)?)
+    } else if cuts.is_empty() {
+        Some(lack_remark(alloc, past.tables, user, table, atoms)?)
+    } else {
+        None
+    };
+    let text = match format {
+        Format::Csv => records_of(alloc, &cuts)?,
+        Format::Text | Format::Dot => lines_of(alloc, past.tables, &cuts, table)?,
+    };
+    let is_yes = !is_owner;
+    Ok(Answer {
+        text,
+        is_yes,
+        remark,
+    })
 }

@@ -1,4 +1,6 @@
 //! All that was ever granted of some privileges on a table, as a graph in time.
+ghost use Rattle.std.specs.Prelude.{◌≡◌};
+ghost use Rattle.explain_text.specs.Graphs.{colour};
 
 use crate::folds::{Fold, folds_of};
 use crate::past::Past;
@@ -152,7 +154,9 @@ fn put_edge(
     text.put(b"];\n")
 }
 
-fn colour_of(mark: Mark) -> &'static [u8] {
+fn colour_of(mark: Mark) -> &'static [u8]
+    ensures { result.now ≡ colour mark }
+{
     match mark {
         Mark::Beside => b"",
         Mark::Holds => b", color=blue",

@@ -1,9 +1,11 @@
 //! Questions answered.
-ghost use Rattle.std.specs.Prelude.{◌≡◌, ◌↔◌, false, true, Err, IsErrOf};
+ghost use Rattle.std.specs.Prelude.{◌≡◌, ◌↔◌, false, true, None, Err, IfOk, IsErrOf};
 ghost use Rattle.std.specs.Io.KnownBytes.{Keeps};
+ghost use Rattle.explain_text.specs.Questions.{may_be_no, may_remark};
 ghost use Rattle.explain_text.specs.declared.fault.Unanswered.{Unanswered as reasons};
 
-use crate::cutting::{cuts_as_records, put_cuts};
+use crate::answer::Answer;
+use crate::cutting::cut_answer;
 use crate::dot::{put_grants_graph, put_why_graph};
 use crate::fault::{ExplainFault, Unanswered};
 use crate::holders::{holders_as_records, put_holders};
@@ -21,17 +23,15 @@ use load_core::Replayed;
 use monitor_core::columns_of;
 use std::alloc::Global;
 
-/// An answer, and whether it is yes.
+/// What was answered.
 #[derive(Drop)]
-struct Answer {
-    text: Vec<u8>,
-    is_yes: bool,
-}
-
-/// An answer to a question that is not one of yes or no.
-fn told(text: Vec<u8>) -> Answer {
-    let is_yes = true;
-    Answer { text, is_yes }
+pub struct Answered {
+    /// Of `why` whether he holds all that was asked; of `cut` whether he does not own the table; of
+    /// any other question always.
+    pub is_yes: bool,
+    /// Of `cut`, where nothing is taken: that there is nothing to take, or that he owns the table,
+    /// in a sentence without a line end. Of any other question none.
+    pub remark: Option<Vec<u8>>,
 }
 
 /// Why the user holds the atoms, or why he does not.
@@ -42,18 +42,19 @@ fn why_answer(
     table: &Name,
     atoms: &[Atom],
     format: Format,
-) -> Result<Answer, NoMemory> {
+) -> Result<Answer, NoMemory>
+    ensures { IfOk result (λ answer. answer.remark ≡ None) }
+{
     let mut text = Prose::new(alloc);
     let is_yes = match format {
         Format::Text => put_reasons_of(&mut text, alloc, past, user, table, atoms)?,
         Format::Dot => put_why_graph(&mut text, alloc, past, user, table, atoms)?,
         Format::Csv => {
             let (text, is_yes) = steps_of(alloc, past, user, table, atoms)?;
-            return Ok(Answer { text, is_yes });
+            return Ok(Answer::of(text, is_yes));
         }
     };
-    let text = text.bytes;
-    Ok(Answer { text, is_yes })
+    Ok(Answer::of(text.bytes, is_yes))
 }
 
 /// Who holds the atoms.
@@ -63,53 +64,43 @@ fn who_answer(
     table: &Name,
     atoms: &[Atom],
     format: Format,
-) -> Result<Answer, NoMemory> {
+) -> Result<Answer, NoMemory>
+    ensures is_yes { IfOk result (λ answer. answer.is_yes ≡ true) }
+    ensures remark { IfOk result (λ answer. answer.remark ≡ None) }
+{
     let mut text = Prose::new(alloc);
     match format {
         Format::Text => put_holders(&mut text, alloc, past, table, atoms)?,
         Format::Dot => put_grants_graph(&mut text, alloc, past, table, atoms)?,
-        Format::Csv => return Ok(told(holders_as_records(alloc, past, atoms)?)),
+        Format::Csv => return Ok(Answer::told(holders_as_records(alloc, past, atoms)?)),
     }
-    Ok(told(text.bytes))
+    Ok(Answer::told(text.bytes))
 }
 
 /// The grants that fell.
-fn fell_answer(alloc: Global, past: &Past<'_>, format: Format) -> Result<Answer, NoMemory> {
+fn fell_answer(alloc: Global, past: &Past<'_>, format: Format) -> Result<Answer, NoMemory>
+    ensures is_yes { IfOk result (λ answer. answer.is_yes ≡ true) }
+    ensures remark { IfOk result (λ answer. answer.remark ≡ None) }
+{
     if format == Format::Csv {
-        return Ok(told(fallen_records(alloc, past)?));
+        return Ok(Answer::told(fallen_records(alloc, past)?));
     }
     let mut text = Prose::new(alloc);
     put_all_fallen(&mut text, alloc, past)?;
-    Ok(told(text.bytes))
+    Ok(Answer::told(text.bytes))
 }
 
 /// What the change that was supposed takes.
-fn if_answer(alloc: Global, past: &Past<'_>, format: Format) -> Result<Answer, NoMemory> {
+fn if_answer(alloc: Global, past: &Past<'_>, format: Format) -> Result<Answer, NoMemory>
+    ensures is_yes { IfOk result (λ answer. answer.is_yes ≡ true) }
+    ensures remark { IfOk result (λ answer. answer.remark ≡ None) }
+{
     if format == Format::Csv {
-        return Ok(told(consequences_as_records(alloc, past)?));
+        return Ok(Answer::told(consequences_as_records(alloc, past)?));
     }
     let mut text = Prose::new(alloc);
     put_consequences(&mut text, alloc, past)?;
-    Ok(told(text.bytes))
-}
-
-/// What would take the atoms from the user.
-fn cut_answer(
-    alloc: Global,
-    past: &Past<'_>,
-    user: &User,
-    table: &Name,
-    atoms: &[Atom],
-    format: Format,
-) -> Result<Answer, NoMemory> {
-    if format == Format::Csv {
-        let (text, is_yes) = cuts_as_records(alloc, past, user, table, atoms)?;
-        return Ok(Answer { text, is_yes });
-    }
-    let mut text = Prose::new(alloc);
-    let is_yes = put_cuts(&mut text, alloc, past, user, table, atoms)?;
-    let text = text.bytes;
-    Ok(Answer { text, is_yes })
+    Ok(Answer::told(text.bytes))
 }
 
 /// The atoms that are asked for on the table: those that the words name, or all.
@@ -131,7 +122,12 @@ fn answer_of(
     past: &Past<'_>,
     question: &Question<'_>,
     format: Format,
-) -> Result<Answer, Unanswered> {
+) -> Result<Answer, Unanswered>
+    ensures is_yes { may_be_no question.now ≡ false
+        → IfOk result (λ answer. answer.is_yes ≡ true) }
+    ensures remark { may_remark question.now ≡ false
+        → IfOk result (λ answer. answer.remark ≡ None) }
+{
     Ok(match *question {
         Question::Why {
             user,
@@ -148,9 +144,9 @@ fn answer_of(
             let atoms = atoms_asked(alloc, past, table, privilege)?;
             who_answer(alloc, past, &table, &atoms, format)?
         }
-        Question::Rights => told(rights_in_force(alloc, past)?),
+        Question::Rights => Answer::told(rights_in_force(alloc, past)?),
         Question::Fell => fell_answer(alloc, past, format)?,
-        Question::Grants => told(grants_made(alloc, past)?),
+        Question::Grants => Answer::told(grants_made(alloc, past)?),
         Question::If { .. } => if_answer(alloc, past, format)?,
         Question::Cut {
             user,
@@ -167,8 +163,7 @@ fn answer_of(
 
 /// Writes the answer to a question about the rights that a script made, and has the writer hand it
 /// on. The history is that of what was replayed, as [`history_asked`] gives it. Says whether the
-/// answer is yes: of `why`, that he holds all of what was asked; of `cut`, that he does not own the
-/// table; of any other question always.
+/// answer is yes, and of a `cut` that takes nothing why, which is not written.
 ///
 /// - `Write` exactly if the writer has failed. A front of the answer was written.
 /// - `Unanswered` if the question has no answer, by its words or since a request for memory was
@@ -180,8 +175,12 @@ pub fn explain<W: Sink>(
     question: &Question<'_>,
     format: Format,
     writer: &mut W,
-) -> Result<bool, ExplainFault>
+) -> Result<Answered, ExplainFault>
     requires { W.failed writer.old ≡ false }
+    ensures is_yes { may_be_no question.now ≡ false
+        → IfOk result (λ answered. answered.is_yes ≡ true) }
+    ensures remark { may_remark question.now ≡ false
+        → IfOk result (λ answered. answered.remark ≡ None) }
     ensures write { IsErrOf result ExplainFault.Write ↔ (W.failed writer.new ≡ true) }
     ensures unanswered { (why : reasons) → result ≡ Err (ExplainFault.Unanswered why)
         → Keeps (W.taken writer.old) (W.taken writer.new) }
@@ -195,5 +194,6 @@ pub fn explain<W: Sink>(
     let answer = answer_of(alloc, &past, question, format)?;
     write_all(writer, &answer.text)?;
     writer.flush()?;
-    Ok(answer.is_yes)
+    let Answer { is_yes, remark, .. } = answer;
+    Ok(Answered { is_yes, remark })
 }

@@ -1,6 +1,10 @@
 //! Why a question is not answered.
+ghost use Rattle.std.specs.Prelude.{◌≡◌, ◌++◌, codes, IfOk};
+ghost use Rattle.reply_core.specs.Texts.{fault_text};
+ghost use Rattle.load_core.specs.FaultTexts.{without_last};
+ghost use Rattle.explain_text.specs.FaultTexts.{undone_text, given, unanswered_text};
+ghost use Rattle.explain_text.specs.FaultTexts.{explain_fault_text, is_final, is_of_the_question};
 
-use crate::prose::Prose;
 use crate::question::Question;
 use base_core::{Broken, Name, NoMemory};
 use lexer_core::Code;
@@ -74,84 +78,156 @@ impl From<Broken> for ExplainFault {
     }
 }
 
-/// The text of a line's fault, without its line feed.
-fn put_line_fault(
-    text: &mut Prose,
-    alloc: Global,
-    code: Code,
-    offset: usize,
-) -> Result<(), NoMemory> {
+impl Unanswered {
+    /// Whether there is no answer at all, and not only for want of memory.
+    fn is_final(&self) -> bool
+        ensures { result ≡ is_final self.now }
+    {
+        match self {
+            Unanswered::NoMemory => false,
+            Unanswered::NoUser
+            | Unanswered::NoTableName
+            | Unanswered::NoPrivilege
+            | Unanswered::NoTable(_)
+            | Unanswered::NoColumn { .. }
+            | Unanswered::NoGraph
+            | Unanswered::Undone(_) => true,
+        }
+    }
+}
+
+impl ExplainFault {
+    /// Whether it is the question that has no answer: its words name nothing that is there, its
+    /// line would not be done, or there is no graph of it. False where the writer failed, or a
+    /// request for memory was refused.
+    pub fn is_of_the_question(&self) -> bool
+        ensures { result ≡ is_of_the_question self.now }
+    {
+        match self {
+            ExplainFault::Write => false,
+            ExplainFault::Unanswered(why) => why.is_final(),
+        }
+    }
+}
+
+/// These parts in new memory, one after another.
+fn joined(alloc: Global, first: &[u8], second: &[u8]) -> Result<Vec<u8>, NoMemory>
+    ensures { IfOk result (λ text. text.items ≡ first.now ++ second.now) }
+{
+    let mut text = Vec::new(alloc);
+    text.extend_from_slice(first)?;
+    text.extend_from_slice(second)?;
+    Ok(text)
+}
+
+/// These bytes in new memory.
+fn owned(alloc: Global, bytes: &[u8]) -> Result<Vec<u8>, NoMemory>
+    ensures { IfOk result (λ text. text.items ≡ bytes.now) }
+{
+    let mut text = Vec::new(alloc);
+    text.extend_from_slice(bytes)?;
+    Ok(text)
+}
+
+/// The bytes without the last.
+fn without_last(text: &[u8]) -> &[u8]
+    ensures { result.now ≡ without_last text.now }
+{
+    &text[..text.len().saturating_sub(1)]
+}
+
+/// The text of a line's fault, with its line feed.
+fn fault_line(alloc: Global, code: Code, offset: usize) -> Result<Vec<u8>, NoMemory>
+    ensures { IfOk result (λ text. text.items ≡ fault_text code offset) }
+{
     let mut buffer = ReplyBuffer::new(alloc)?;
     let mut gathered = Gathered::new(alloc);
     match write_fault(&mut buffer, code, offset, &mut gathered) {
-        Ok(()) => put_line(text, &gathered.text),
+        Ok(()) => Ok(gathered.text),
         Err(Broken) => Err(NoMemory),
     }
 }
 
-/// A line without its line feed.
-fn put_line(text: &mut Prose, line: &[u8]) -> Result<(), NoMemory> {
-    text.put(&line[..line.len().saturating_sub(1)])
-}
-
 /// Why a line says no change that would be done: what a session would be told of it.
-fn put_undone(text: &mut Prose, alloc: Global, why: &Undone) -> Result<(), NoMemory> {
+fn undone_text(alloc: Global, why: &Undone) -> Result<Vec<u8>, NoMemory>
+    ensures { IfOk result (λ text. text.items ≡ undone_text why.now) }
+{
     match why {
-        Undone::Fault { code, offset } => put_line_fault(text, alloc, *code, *offset),
-        Undone::Unread => text.put(b"no memory"),
-        Undone::NoChange => text.put(b"no change: only a change can take a right"),
+        Undone::Fault { code, offset } => {
+            let line = fault_line(alloc, *code, *offset)?;
+            owned(alloc, without_last(line.as_slice()))
+        }
+        Undone::Unread => owned(alloc, b"no memory"),
+        Undone::NoChange => owned(alloc, b"no change: only a change can take a right"),
         Undone::Answer(reply) => {
             let line = reply_text(alloc, reply)?;
-            put_line(text, &line)
+            owned(alloc, without_last(line.as_slice()))
         }
     }
 }
 
 /// The words that were given, in quotes, and what they are not.
-fn put_given(text: &mut Prose, words: &str, told: &[u8]) -> Result<(), NoMemory> {
-    text.put(b"'")?;
-    text.put(words.as_bytes())?;
-    text.put(b"' ")?;
-    text.put(told)
+fn given(alloc: Global, words: &str, told: &[u8]) -> Result<Vec<u8>, NoMemory>
+    ensures { IfOk result (λ text. text.items ≡ given words.now told.now) }
+{
+    let mut text = Vec::new(alloc);
+    text.extend_from_slice(b"'")?;
+    text.extend_from_slice(words.as_bytes())?;
+    text.extend_from_slice(b"' ")?;
+    text.extend_from_slice(told)?;
+    Ok(text)
+}
+
+/// That the table has no such column.
+fn no_column(alloc: Global, table: &Name, column: &Name) -> Result<Vec<u8>, NoMemory>
+    ensures { IfOk result (λ text. text.items
+        ≡ codes "no column " ++ (column.now ++ (codes " in " ++ table.now))) }
+{
+    let mut text = Vec::new(alloc);
+    text.extend_from_slice(b"no column ")?;
+    text.extend_from_slice(column.as_bytes())?;
+    text.extend_from_slice(b" in ")?;
+    text.extend_from_slice(table.as_bytes())?;
+    Ok(text)
 }
 
 /// Why the question has no answer.
-fn put_unanswered(
-    text: &mut Prose,
+fn unanswered_text(
     alloc: Global,
     question: &Question<'_>,
     why: &Unanswered,
-) -> Result<(), NoMemory> {
+) -> Result<Vec<u8>, NoMemory>
+    ensures { IfOk result (λ text. text.items ≡ unanswered_text question.now why.now) }
+{
     match why {
-        Unanswered::NoMemory => text.put(b"no memory"),
-        Unanswered::NoUser => put_given(text, question.user(), NO_NAME),
-        Unanswered::NoTableName => put_given(text, question.table(), NO_NAME),
-        Unanswered::NoPrivilege => put_given(text, question.privilege(), NO_PRIVILEGE),
-        Unanswered::NoTable(table) => text.put_all(&[b"no table ", table.as_bytes()]),
-        Unanswered::NoColumn { table, column } => {
-            text.put_all(&[b"no column ", column.as_bytes(), b" in ", table.as_bytes()])
-        }
-        Unanswered::NoGraph => {
-            text.put_all(&[
-                question.word(),
-                b" has no dot: its formats are text and csv",
-            ])
-        }
-        Unanswered::Undone(why) => put_undone(text, alloc, why),
+        Unanswered::NoMemory => owned(alloc, b"no memory"),
+        Unanswered::NoUser => given(alloc, question.user(), NO_NAME),
+        Unanswered::NoTableName => given(alloc, question.table(), NO_NAME),
+        Unanswered::NoPrivilege => given(alloc, question.privilege(), NO_PRIVILEGE),
+        Unanswered::NoTable(table) => joined(alloc, b"no table ", table.as_bytes()),
+        Unanswered::NoColumn { table, column } => no_column(alloc, table, column),
+        Unanswered::NoGraph => joined(
+            alloc,
+            question.word(),
+            b" has no dot: its formats are text and csv",
+        ),
+        Unanswered::Undone(why) => undone_text(alloc, why),
     }
 }
 
-/// What is told of a fault of this question, in new memory and without a line end. `NoMemory` where
-/// a request for memory was refused.
+/// What is told of a fault of this question, in new memory and without a line end: `write fault`,
+/// `no memory`, the words that are none in quotes and what they are not, the table or the column
+/// that is not there, that the question has no graph, or what a session would be told of the line
+/// that was to be supposed. `NoMemory` where a request for memory was refused.
 pub fn explain_fault_text(
     alloc: Global,
     question: &Question<'_>,
     fault: &ExplainFault,
-) -> Result<Vec<u8>, NoMemory> {
-    let mut text = Prose::new(alloc);
+) -> Result<Vec<u8>, NoMemory>
+    ensures { IfOk result (λ text. text.items ≡ explain_fault_text question.now fault.now) }
+{
     match fault {
-        ExplainFault::Write => text.put(b"write fault")?,
-        ExplainFault::Unanswered(why) => put_unanswered(&mut text, alloc, question, why)?,
+        ExplainFault::Write => owned(alloc, b"write fault"),
+        ExplainFault::Unanswered(why) => unanswered_text(alloc, question, why),
     }
-    Ok(text.bytes)
 }

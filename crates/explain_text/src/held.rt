@@ -7,6 +7,19 @@ use crate::teller::Teller;
 use base_core::{Name, NoMemory};
 use explain_core::Life;
 use grants_core::Grant;
+use std::alloc::Global;
+
+/// Those of the grants that are in force, but for the one of this number.
+fn further_of(alloc: Global, given: &[Life], number: u64) -> Result<Vec<Life>, NoMemory> {
+    let mut further = Vec::new(alloc);
+    for life in given {
+        if life.fell.is_none() && life.grant.number != number {
+            further.reserve(1)?;
+            further.push_reserved(*life);
+        }
+    }
+    Ok(further)
+}
 
 impl<'a> Teller<'a> {
     /// `ann owns pay since @1`, behind so many blanks.
@@ -54,16 +67,18 @@ impl<'a> Teller<'a> {
 
     /// The other grants in force of the same to him, than the one of this number.
     pub fn push_further(&mut self, given: &[Life], number: u64) -> Result<(), NoMemory> {
-        let mut begun = false;
-        for life in given {
-            if life.fell.is_none() && life.grant.number != number {
-                if !begun {
-                    let mut left = self.indented(2)?;
-                    left.put(b"and besides by")?;
-                    self.rows.push_alone(left)?;
-                    begun = true;
-                }
-                self.push_life(2, life)?;
+        let further = further_of(self.alloc, given, number)?;
+        if further.is_empty() {
+            return Ok(());
+        }
+        let mut left = self.indented(2)?;
+        left.put(b"and besides by")?;
+        self.rows.push_alone(left)?;
+        for at in 0..further.len() {
+            match shown_at(at, further.len()) {
+                Shown::Item => self.push_life(2, &further[at])?,
+                Shown::More(count) => self.rows.push_more(2, count)?,
+                Shown::Nothing => {}
             }
         }
         Ok(())

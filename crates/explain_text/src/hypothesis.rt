@@ -247,10 +247,10 @@ pub fn put_consequences(text: &mut Prose, alloc: Global, past: &Past<'_>) -> Res
     teller.rows.write(text)
 }
 
-/// How a grant is taken, in a word.
+/// How a grant is taken, in a word or two. The option of one that stays ends by a revocation alone.
 fn taking_word(past: &Past<'_>, life: &Life, at: Moment) -> &'static [u8] {
     if life.fell != Some(at) {
-        b"option"
+        b"option revoked"
     } else if past.is_struck(life) {
         b"revoked"
     } else {

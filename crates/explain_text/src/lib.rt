@@ -1,12 +1,12 @@
 //! Questions about rights, and their answers as text.
 //!
 //! [`history_asked`] gives the [`History`](explain_core::History) that a [`Question`] is about: that
-//! of the changes which a script made, and of the one that the question supposes. By it [`explain`]
+//! of the changes that were read, and of the one that the question supposes. By it [`explain`]
 //! writes the answer in a [`Format`], with each moment's line quoted.
 //!
 //! **The contract**: the history is that of the core's journal, and a supposed line is entered as a
 //! session's would be. `explain` fails exactly where its writer does, and writes nothing where there
-//! is no answer.
+//! is no answer. Why there is none is told in the words of `specs/FaultTexts.antt`.
 //!
 //! ```text
 //! eve lacks SELECT on pay @23
@@ -20,10 +20,12 @@
 //! ```
 //!
 //! A privilege is read as the language reads it in GRANT, and stands for as many atoms: SELECT for
-//! that of each column of the table. Columns of which the same is told are told together. A list of
-//! more than 24 lines shows its first ten and its last ten. Records have no such folds.
+//! that of each column of the table. Columns of which the same is told are told together. Where
+//! `why` lists more than 24 grants, it shows the first ten and the last ten. Records have no such
+//! folds.
 //!
-//! [`explain_fault_text`] says why a question has no answer.
+//! [`explain_fault_text`] says why a question has no answer. It may be the question that has none
+//! ([`is_of_the_question`](ExplainFault::is_of_the_question)), or the writer or memory failed.
 //!
 //! # Cost
 //!
@@ -33,6 +35,7 @@
 //! its privilege for each step of a descent. The text is gathered in memory before it is written.
 #![tactic(auto)]
 
+mod answer;
 mod cutting;
 mod dot;
 mod explaining;
@@ -57,7 +60,7 @@ mod rows;
 mod steps;
 mod teller;
 
-pub use explaining::explain;
+pub use explaining::{Answered, explain};
 pub use fault::{ExplainFault, Unanswered, explain_fault_text};
 pub use question::{Format, Question};
 pub use reading::history_asked;

@@ -1,5 +1,7 @@
 //! What is asked, and how it is answered.
 ghost use Rattle.std.specs.Prelude.{◌≡◌, option_map};
+ghost use Rattle.explain_text.specs.Questions.{word, user_word, table_word, privilege_words};
+ghost use Rattle.explain_text.specs.Questions.{has_graph, has_format};
 ghost use Rattle.explain_text.specs.Supposing.{supposed_line};
 
 /// A question about the rights that a script makes, in the words of the command line.
@@ -47,7 +49,9 @@ pub enum Format {
 
 impl<'a> Question<'a> {
     /// The word of the command line.
-    pub fn word(&self) -> &'static [u8] {
+    pub fn word(&self) -> &'static [u8]
+        ensures { result.now ≡ word self.now }
+    {
         match self {
             Question::Why { .. } => b"why",
             Question::Who { .. } => b"who",
@@ -59,30 +63,50 @@ impl<'a> Question<'a> {
         }
     }
 
-    /// The word for the user, if it has one.
-    pub fn user(&self) -> &'a str {
+    /// The word for the user. Nothing, if it has none.
+    pub fn user(&self) -> &'a str
+        ensures { result.now ≡ user_word self.now }
+    {
         match self {
             Question::Why { user, .. } | Question::Cut { user, .. } => *user,
-            _ => "",
+            Question::Who { .. }
+            | Question::Rights
+            | Question::Fell
+            | Question::Grants
+            | Question::If { .. } => "",
         }
     }
 
-    /// The word for the table, if it has one.
-    pub fn table(&self) -> &'a str {
+    /// The word for the table. Nothing, if it has none.
+    pub fn table(&self) -> &'a str
+        ensures { result.now ≡ table_word self.now }
+    {
         match self {
             Question::Why { table, .. }
             | Question::Who { table, .. }
             | Question::Cut { table, .. } => *table,
-            _ => "",
+            Question::Rights | Question::Fell | Question::Grants | Question::If { .. } => "",
         }
     }
 
-    /// The words for the privilege, if it has some.
-    pub fn privilege(&self) -> &'a str {
+    /// The words for the privilege. Nothing, if it has none.
+    pub fn privilege(&self) -> &'a str
+        ensures { result.now ≡ privilege_words self.now }
+    {
         match self {
             Question::Why { privilege, .. } | Question::Cut { privilege, .. } => *privilege,
-            Question::Who { privilege, .. } => privilege.unwrap_or(""),
-            _ => "",
+            Question::Who {
+                privilege: Some(privilege),
+                ..
+            } => *privilege,
+            Question::Who {
+                privilege: None,
+                ..
+            }
+            | Question::Rights
+            | Question::Fell
+            | Question::Grants
+            | Question::If { .. } => "",
         }
     }
 
@@ -101,15 +125,28 @@ impl<'a> Question<'a> {
         }
     }
 
-    /// Whether it can be answered in this form: as a graph only what is of one table.
-    pub fn has_format(&self, format: Format) -> bool {
+    /// Whether there is a graph of what it asks.
+    fn has_graph(&self) -> bool
+        ensures { result ≡ has_graph self.now }
+    {
         match self {
             Question::Why { .. } | Question::Who { .. } => true,
             Question::Rights
             | Question::Fell
             | Question::Grants
             | Question::If { .. }
-            | Question::Cut { .. } => format != Format::Dot,
+            | Question::Cut { .. } => false,
+        }
+    }
+
+    /// Whether it can be answered in this form: as a graph only why a user holds a privilege, and
+    /// who does.
+    pub fn has_format(&self, format: Format) -> bool
+        ensures { result ≡ has_format self.now format }
+    {
+        match format {
+            Format::Text | Format::Csv => true,
+            Format::Dot => self.has_graph(),
         }
     }
 }

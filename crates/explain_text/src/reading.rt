@@ -1,12 +1,14 @@
 //! The history that a question is about.
-ghost use Rattle.std.specs.Prelude.{◌≡◌, None, IfOk, OnOk};
+ghost use Rattle.std.specs.Prelude.{◌≡◌, ◌↔◌, false, Err, None, IfOk, OnOk};
 ghost use Rattle.system_core.specs.Journal.{changes};
 ghost use Rattle.load_core.specs.Loader.{EntersLine};
+ghost use Rattle.explain_text.specs.Questions.{has_format};
 ghost use Rattle.explain_text.specs.Supposing.{supposed_line, Supposes};
 
 use crate::fault::Unanswered;
 use crate::question::{Format, Question};
 use explain_core::History;
+use lines_core::LONGEST_LINE;
 use load_core::{Replayed, enter_line, is_out_of_memory};
 use std::alloc::Global;
 use system_core::System;
@@ -15,9 +17,16 @@ use system_core::System;
 /// The error is `NoMemory` where a request for memory was refused, and else names why the change
 /// would not be done.
 fn suppose(alloc: Global, system: &mut System, line: &str) -> Result<(), Unanswered>
-    ensures { OnOk result (EntersLine system.old line.now None system.new) }
+    ensures done { OnOk result (EntersLine system.old line.now None system.new) }
+    ensures undone { result ≡ Err Unanswered.NoGraph → ⊥ }
 {
-    match enter_line(alloc, &mut Vec::new(alloc), system, line.as_bytes()) {
+    match enter_line(
+        alloc,
+        &mut Vec::new(alloc),
+        system,
+        LONGEST_LINE,
+        line.as_bytes(),
+    ) {
         None => Ok(()),
         Some(why) => Err(if is_out_of_memory(&why) {
             Unanswered::NoMemory
@@ -40,6 +49,7 @@ pub fn history_asked(
 ) -> Result<History, Unanswered>
     ensures supposed { OnOk result
         (Supposes (supposed_line question.now) replayed.old.world replayed.new.world) }
+    ensures graph { (result ≡ Err Unanswered.NoGraph) ↔ (has_format question.now format ≡ false) }
     ensures history { IfOk result (λ history. history ≡ changes replayed.new.world.journal) }
 {
     if !question.has_format(format) {

@@ -112,18 +112,14 @@ pub fn fallen_records(alloc: Global, past: &Past<'_>) -> Result<Vec<u8>, NoMemor
     records.finish()
 }
 
-/// A record for each single grant that was ever made: also when its option ended, if it was made
-/// with one, and the line that made it.
+/// A record for each single grant that was ever made: also from when on it had no option, and the
+/// line that made it.
 pub fn grants_made(alloc: Global, past: &Past<'_>) -> Result<Vec<u8>, NoMemory> {
     let mut records = Records::under(alloc, &GRANT_FIELDS)?;
     for life in past.history.lives() {
         put_right(&mut records, &life.grant)?;
         put_end(&mut records, past, life)?;
-        records.put_moment(if life.grant.option {
-            life.option_end
-        } else {
-            None
-        })?;
+        records.put_moment(life.option_end)?;
         records.put_any(past.line_of(life.grant.moment))?;
         records.end()?;
     }

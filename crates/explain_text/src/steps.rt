@@ -87,7 +87,8 @@ impl<'a> Asked<'a> {
         Ok(())
     }
 
-    /// A step of the way down from a REVOKE, of this moment, to a grant that fell by it.
+    /// A step of the way down from a REVOKE, of this moment, to a grant that fell by it. Of the
+    /// first the option alone may have ended then.
     fn put_step(
         &self,
         records: &mut Records,
@@ -101,7 +102,7 @@ impl<'a> Asked<'a> {
         };
         self.put_front(records, b"lacks")?;
         self.put_grant(records, given, at + 1, &life.grant)?;
-        records.put_moment(life.fell)?;
+        records.put_moment(Some(fell))?;
         records.put(if at > 0 {
             b"fell".as_slice()
         } else if self.past.takes_options(fell) {

@@ -1,26 +1,24 @@
-use Rattle.std.proofs.Common.{◌≡◌, false, List, subst, map, [], ◌∷◌, sym}
+use Rattle.std.proofs.Common.{◌≡◌, ◌<◌, ◌+◌, ◌-◌, ◌∙◌, arith, ℕ, length, take, drop, ap, sym, subst}
 use Rattle.std.specs.List.{All}
-use Rattle.std.proofs.lemmas.Iterator.Adapters.{YieldsList-from_rev_slice}
-use Rattle.std.proofs.lemmas.Iterator.Consumers.{YieldsList-end}
-use Rattle.std.specs.Borrow.{Bor}
-use Rattle.std.proofs.lemmas.List.{map-append}
-use Rattle.std.proofs.lemmas.List.Elements.{All-push}
+use Rattle.base_core.specs.declared.name.User.{User}
 use Rattle.grants_core.specs.declared.grant.Grant.{Grant}
-use Rattle.grants_core.specs.Owners.{owns}
-use Rattle.explain_core.proofs.ListLemmas.{All-reversed}
+use Rattle.explain_core.specs.Losses.{IsLoss, AreNeeded, HoldsAgainst}
+use Rattle.explain_core.proofs.ListLemmas.{split-here}
 use Rattle.explain_core.proofs.cut.Standing.cut.Goals as goal
 
-pub returns : goal.returns
-returns c =
-    let Unowned : Grant → Type 0 = λ g. owns c.args.self.now.owners.now g.grantor c.args.self.now.atom.now ≡ false in
-    let AllUnowned : List Grant → Type 0 = λ k. All Unowned k in
-    let end = YieldsList-end (YieldsList-from_rev_slice c.args.chain.now cc) c.loop-grant.yielded _ c.loop-grant.yielded_by _ _ c.in-None.is c.next.ensures.steps in
-    All-reversed Unowned c.args.chain.now (subst AllUnowned end.0 c.loop-grant.invariant)
-
-pub loop-grant-preserved : goal.loop-grant-preserved
-loop-grant-preserved c =
-    let Unowned : Grant → Type 0 = λ g. owns c.args.self.now.owners.now g.grantor c.args.self.now.atom.now ≡ false in
-    let AllUnowned : List Grant → Type 0 = λ k. All Unowned k in
-    let here : Unowned c.in-Some.grant.now = rw c.in_default.is at c.in_ok-cut.ensures in
-    subst AllUnowned (sym (map-append (λ (y : Bor Grant). y.now) c.loop-grant.yielded (c.in-Some.grant ∷ [])))
-    (All-push Unowned (map (λ (y : Bor Grant). y.now) c.loop-grant.yielded) c.in-Some.grant.now c.loop-grant.invariant here)
+pub returns-in-Some : goal.returns-in-Some
+returns-in-Some c =
+    let o = c.args.self.now.owners.now in
+    let grants = c.args.self.now.grants.now in
+    let atom = c.args.self.now.atom.now in
+    let chain = c.args.chain.now in
+    let at : ℕ = c.loop-at.at - 1 in
+    let g : Grant = c.index-chain-at.result in
+    let cut = c.in-Some.cut in
+    let found = rw c.in-Some.is at c.in_ok-cut.ensures in
+    let within : at < length chain = omega (arith, c.loop-at-test.true, c.loop-at.invariant.within) in
+    let next : c.loop-at.at ≡ at + 1 = omega (arith, c.loop-at-test.true) in
+    let Loss : User → Type 0 = λ by. IsLoss o grants atom c.args.user.now by cut.whom.items in
+    let Needed : User → Type 0 = λ by. AreNeeded o grants atom c.args.user.now by cut.whom.items in
+    let Held : ℕ → Type 0 = λ n. All (λ h. HoldsAgainst o grants atom c.args.user.now h.grantor) (drop n chain) in
+    (subst Loss (sym found.0) found.1, subst Needed (sym found.0) found.2, take at chain, g, drop (at + 1) chain, split-here chain at g within c.index-chain-at.is, found.0 ∙ ap (λ (h : Grant). h.grantor) (sym c.index-chain-at.is), subst Held next c.loop-at.invariant.held)

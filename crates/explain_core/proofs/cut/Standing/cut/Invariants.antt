@@ -1,10 +1,13 @@
-use Rattle.std.proofs.Common.{◌≡◌, false, map}
+use Rattle.std.proofs.Common.{◌≡◌, ◌≤◌, false, length, drop}
 use Rattle.std.specs.List.{All}
-use Rattle.std.specs.Borrow.{Bor}
-use Rattle.grants_core.specs.declared.grant.Grant.{Grant}
 use Rattle.grants_core.specs.Owners.{owns}
+use Rattle.explain_core.specs.Losses.{HoldsAgainst}
 use Rattle.explain_core.proofs.cut.Standing.cut.Given as goal
 
-abbrev pub invariant-loop-grant : goal.invariant-loop-grant
-invariant-loop-grant l =
-    All (λ g. owns l.self.owners.now g.grantor l.self.atom.now ≡ false) (map (λ (y : Bor Grant). y.now) l.yielded)
+-- no grantor from here on takes it
+abbrev pub invariant-loop-at : goal.invariant-loop-at
+invariant-loop-at l = record {
+  within : l.at ≤ length l.chain;
+  unowned : All (λ g. owns l.self.owners.now g.grantor l.self.atom.now ≡ false) (drop l.at l.chain);
+  held : All (λ g. HoldsAgainst l.self.owners.now l.self.grants.now l.self.atom.now l.user g.grantor) (drop l.at l.chain);
+}
