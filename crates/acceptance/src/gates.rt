@@ -89,6 +89,7 @@ fn say<R: Wait + Abort, G: Gate>(
         &mut buffer,
         &mut writer,
         gate,
+        &mut None,
     );
     writer.bytes
 }

@@ -97,8 +97,8 @@ fn session<R: Wait + Abort>(
     let served = serve_session(rt, alloc, &desk, &mut pass, reader, writer, &NoGate);
     // A test that let the desk go would prove its destructor.
     forget(desk);
-    match served {
-        Ok(_) => Ok(()),
+    match served.ended {
+        Ok(()) => Ok(()),
         Err(SessionEnd::Session(fault)) => Err(fault),
         Err(SessionEnd::Journal) => panic!(rt; "nothing is kept"),
     }

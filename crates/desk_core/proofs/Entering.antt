@@ -18,6 +18,7 @@ use Rattle.system_core.specs.World.{World, ActiveCheckpoint, entry}
 use Rattle.system_core.proofs.Entered.{step_enters}
 use Rattle.journal_core.specs.Keeping.{KeepsAll}
 use Rattle.desk_core.specs.Saying.{IsSpelled, is_done}
+use Rattle.desk_core.specs.Guarded.{Origin}
 use Rattle.desk_core.specs.Kept.{KeepsEntered, kept, lost, past, HasKept}
 
 -- a test has one outcome
@@ -92,12 +93,13 @@ module _ {K : Type 0} (keeps : K → Entry → K → Type 0) where
 
 module _ {K : Type 0} (keeps fails : K → Entry → K → Type 0) (failed : K → Bool) where
   -- who has kept all keeps on, or has failed
-  pub keeps_on : (front : ℕ) (journal entries more : List Entry) (old new : K) (told : Bool) → front ≤ length journal → more ≡ journal ++ entries
-      → HasKept keeps failed front journal old → KeepsEntered keeps fails failed old entries told new → HasKept keeps failed front more new
-  keeps_on front journal entries more old new _ low is had (kept works still all) = λ _. let h = had works in
-      (h.0, subst (λ es. KeepsAll keeps h.0 es new) (sym (ap (drop front) is ∙ drop-append-le front journal entries low)) (KeepsAll-append keeps h.0 old new (drop front journal) entries h.1 all))
-  keeps_on front journal entries more old new _ low is had (lost works broken e one unkept) = λ n. never-both (failed new) broken n
-  keeps_on front journal entries more old _ _ low is had (past broken) = λ n. never-both (failed old) broken n
+  pub keeps_on : (origin : Origin K) (journal entries more : List Entry) (old new : K) (told : Bool) → origin.front ≤ length journal → more ≡ journal ++ entries
+      → HasKept keeps failed origin journal old → KeepsEntered keeps fails failed old entries told new → HasKept keeps failed origin more new
+  keeps_on origin journal entries more old new _ low is had (kept works still all) = λ _.
+      subst (λ es. KeepsAll keeps origin.keeper es new) (sym (ap (drop origin.front) is ∙ drop-append-le origin.front journal entries low))
+      (KeepsAll-append keeps origin.keeper old new (drop origin.front journal) entries (had works) all)
+  keeps_on origin journal entries more old new _ low is had (lost works broken e one unkept) = λ n. never-both (failed new) broken n
+  keeps_on origin journal entries more old _ _ low is had (past broken) = λ n. never-both (failed old) broken n
 
   -- a reply may be told only by a keeper that has not failed
   pub told_works : (old new : K) (entries : List Entry) (told : Bool) → KeepsEntered keeps fails failed old entries told new → told ≡ true → failed new ≡ false

@@ -6,11 +6,11 @@ use Rattle.std.proofs.lemmas.List.Elements.{All-weaker}
 use Rattle.base_core.specs.Full.{IsFull}
 use Rattle.base_core.specs.declared.limits.Limits.{Limits}
 use Rattle.turnstile.specs.Logs.{gained}
-use Rattle.turnstile.specs.Passes.{Lock, Held, mine}
+use Rattle.turnstile.specs.Passes.{mine}
 use Rattle.turnstile.specs.Turned.{Turned}
 use Rattle.turnstile.specs.Closed.{Closed, Kept}
 use Rattle.desk_core.specs.declared.object.Ask.{Ask}
-use Rattle.desk_core.specs.declared.object.Basis.{Basis}
+use Rattle.std.specs.declared.snapshot.Snapshot.{Snapshot}
 use Rattle.desk_core.specs.declared.object.Unkept.{Unkept}
 use Rattle.system_core.specs.declared.machine.event.Entry.{Entry}
 use Rattle.system_core.specs.declared.machine.event.Event.{Event}
@@ -20,7 +20,7 @@ use Rattle.system_core.specs.Step.{Step}
 use Rattle.system_core.specs.World.{World, IsLawfulWorld}
 use Rattle.system_core.proofs.Entered.{step_enters}
 use Rattle.journal_core.specs.Keeping.{KeepsAll}
-use Rattle.desk_core.specs.Guarded.{Guarded, Spoken}
+use Rattle.desk_core.specs.Guarded.{Origin, Guarded, Spoken, DeskLock, DeskPass, origin_of, snapshot}
 use Rattle.desk_core.specs.Kept.{KeepsEntered, HasKept, IsKept}
 use Rattle.desk_core.specs.Acting.{event_of, basis, Acts}
 use Rattle.desk_core.specs.Turns.{asked_by, journal_of, begun_of, basis_of, Took, Answered, took, Ended}
@@ -35,18 +35,18 @@ step_at old old' new new' event event' reply was is last step = subst (λ (t : W
 
 module _ {K : Type 0} (keeps fails : K → Entry → K → Type 0) (failed : K → Bool) where
   -- what the core stands for stays in order
-  pub act_stands : (old new : World) (event : Event) (reply : Reply) (told : Bool) (chunk front : ℕ) (k k' : K)
-      → (old.chunk ≡ chunk) × IsFull old.limits × (front ≤ length old.journal) × HasKept keeps failed front old.journal k
+  pub act_stands : (old new : World) (event : Event) (reply : Reply) (told : Bool) (origin : Origin K) (k k' : K)
+      → (old.chunk ≡ origin.chunk) × IsFull old.limits × (origin.front ≤ length old.journal) × HasKept keeps failed origin old.journal k
       → Step old event reply new → KeepsEntered keeps fails failed k (entered event reply) told k'
-      → (new.chunk ≡ chunk) × IsFull new.limits × (front ≤ length new.journal) × HasKept keeps failed front new.journal k'
-  act_stands old new event reply told chunk front k k' (is, full, low, had) step keeping = let m = step_enters old new event reply step in (
+      → (new.chunk ≡ origin.chunk) × IsFull new.limits × (origin.front ≤ length new.journal) × HasKept keeps failed origin new.journal k'
+  act_stands old new event reply told origin k k' (is, full, low, had) step keeping = let m = step_enters old new event reply step in (
     m.chunk ∙ is,
     subst (λ (l : Limits). IsFull l) (sym m.limits) full,
     (let long = ap length m.journal ∙ length-append old.journal (entered event reply) in omega arith),
-    keeps_on keeps fails failed front old.journal (entered event reply) new.journal k k' told low m.journal had keeping,
+    keeps_on keeps fails failed origin old.journal (entered event reply) new.journal k k' told low m.journal had keeping,
   )
 
-  module _ (desk : Lock Basis) (ask : Ask) (answer : Spoken) (old new : Held Entry Basis)
+  module _ (desk : DeskLock K) (ask : Ask) (answer : Spoken) (old new : DeskPass K)
       (t : Turned {O = Guarded K} (λ c. c.world.journal) asked_by (λ c. c.world.begun) basis (Acts keeps fails failed) desk ask answer old new) where
     pub turn_taken : (old.drawn < new.drawn) × (new.drawn ≤ 2 ^ 62) → new.turns ≡ old.turns + 1 → Took desk ask answer.reply old new
     turn_taken drawn counted =
@@ -56,7 +56,7 @@ module _ {K : Type 0} (keeps fails : K → Entry → K → Type 0) (failed : K �
           after = t.after.world;
           lawful = t.acted.lawful;
           full = t.acted.full;
-          chunk = ap (λ (b : Basis). b.chunk) t.fixed_is;
+          chunk = ap (λ (s : Snapshot (Origin K)). s.value.chunk) t.fixed_is;
           seen_before = t.seen_before;
           mark_before = t.mark_before;
           step = t.acted.step;
@@ -68,25 +68,25 @@ module _ {K : Type 0} (keeps fails : K → Entry → K → Type 0) (failed : K �
         }
 
     -- what may be told is kept
-    pub turn_kept : answer.told ≡ true → IsKept keeps failed desk.fixed.front new.seen
+    pub turn_kept : answer.told ≡ true → IsKept keeps failed (origin_of desk) new.seen
     turn_kept told =
         let works = told_works keeps fails failed t.before.keeper t.after.keeper (entered (event_of old.number ask) answer.reply) answer.told t.acted.keeping told in
-        let h = t.acted.has_kept works in
+        let keeper = ap (λ (o : Origin K). o.keeper) t.acted.origin ∙ ap (λ (s : Snapshot (Origin K)). s.value.keeper) t.fixed_is in
+        let front = ap (λ (o : Origin K). o.front) t.acted.origin ∙ ap (λ (s : Snapshot (Origin K)). s.value.front) t.fixed_is in
         record {
-          start = h.0;
           keeper = t.after.keeper;
           works = works;
-          kept = subst (λ (z : ℕ × List Entry). KeepsAll keeps h.0 (drop z.0 z.1) t.after.keeper) (λ i. ((t.acted.front ∙ ap (λ (b : Basis). b.front) t.fixed_is) i, sym t.seen_after i)) h.1;
+          kept = subst (λ (z : K × ℕ × List Entry). KeepsAll keeps z.0 (drop z.1 z.2) t.after.keeper) (λ i. (keeper i, front i, sym t.seen_after i)) (t.acted.has_kept works);
         }
 
   -- the core that comes out of the turn lock
-  pub closed_ended : (desk : Lock Basis) (passes : List (Held Entry Basis)) (core : Guarded K) (w : World) → core.world ≡ w → IsLawfulWorld w → IsFull w.limits
+  pub closed_ended : (desk : DeskLock K) (passes : List (DeskPass K)) (core : Guarded K) (w : World) → core.world ≡ w → IsLawfulWorld w → IsFull w.limits
       → Closed {O = Guarded K} (λ c. c.world.journal) asked_by (λ c. c.world.begun) basis desk passes core → Ended desk passes w
   closed_ended desk passes core w is lawful full c = record {
     lawful = lawful;
     full = full;
-    closed = subst (Closed journal_of asked_by begun_of (basis_of desk.fixed.front) desk passes) is record {
-      fixed_is = (λ i. record { chunk = ap (λ (b : Basis). b.chunk) c.fixed_is i; front = desk.fixed.front });
+    closed = subst (Closed journal_of asked_by begun_of (basis_of (origin_of desk)) desk passes) is record {
+      fixed_is = ap (λ (s : Snapshot (Origin K)). snapshot (record (origin_of desk) { chunk = s.value.chunk })) c.fixed_is;
       bears = c.bears;
       kept = All-weaker (Kept {O = Guarded K} (λ c. c.world.journal) asked_by (λ c. c.world.begun) core) (Kept journal_of asked_by begun_of core.world)
           (λ p k. record { seen = k.seen; made = k.made; marked = k.marked }) passes c.kept;
@@ -95,7 +95,7 @@ module _ {K : Type 0} (keeps fails : K → Entry → K → Type 0) (failed : K �
     };
   }
 
-module _ (desk : Lock Basis) (ask : Ask) (said : Reply) (told : Bool) (old new : Held Entry Basis) where
+module _ {K : Type 0} (desk : DeskLock K) (ask : Ask) (said : Reply) (told : Bool) (old new : DeskPass K) where
   pub answered_if : (r : Result Reply Unkept) → MatchResult r (λ reply. (told ≡ true) × (reply ≡ said)) (λ _. told ≡ false) → Took desk ask said old new → IfOk r (λ reply. Answered desk ask reply old new)
   answered_if (Ok reply) h t = took (subst (λ z. Took desk ask z old new) (sym h.1) t)
   answered_if (Err e) h t = tt

@@ -1,11 +1,11 @@
 -- The core as what threads take turns at: what is asked through a pass, and what comes of it.
 use Rattle.std.specs.Prelude.{ℕ, ◌≡◌, Bool}
 use Rattle.std.proofs.Common.{inl, ◌∙◌, append-nil}
+use Rattle.std.specs.declared.snapshot.Snapshot.{Snapshot}
 use Rattle.base_core.specs.Full.{IsFull}
 use Rattle.turnstile.specs.Logs.{Grown}
 use Rattle.desk_core.specs.declared.object.Ask.{Ask}
 use Rattle.desk_core.specs.declared.object.Ask.TheVariants as asks
-use Rattle.desk_core.specs.declared.object.Basis.{Basis}
 use Rattle.system_core.specs.declared.machine.event.Entry.{Entry}
 use Rattle.system_core.specs.declared.machine.event.Event.{Event}
 use Rattle.system_core.specs.declared.machine.event.Event.TheVariants as events
@@ -13,7 +13,7 @@ use Rattle.system_core.specs.Entering.{entered}
 use Rattle.system_core.specs.World.{IsLawfulWorld}
 use Rattle.system_core.specs.Step.{Step}
 use Rattle.system_core.proofs.Entered.{step_enters, one_at_most}
-use Rattle.desk_core.specs.Guarded.{Guarded, Spoken}
+use Rattle.desk_core.specs.Guarded.{Origin, snapshot, Guarded, Spoken}
 use Rattle.desk_core.specs.Kept.{KeepsEntered, HasKept}
 
 -- what is asked through a pass, as an event
@@ -22,9 +22,9 @@ event_of pass (asks.Say said) = events.Say pass said.user said.statement
 event_of pass asks.Step = events.Step
 event_of pass asks.Abandon = events.Abandon
 
--- what no act changes of the core: its chunk, and how many entries it had
-abbrev pub basis : {K : Type 0} → Guarded K → Basis
-basis c = record { chunk = c.world.chunk; front = c.front }
+-- what no act changes: what the desk was built on, whose chunk the core still has
+abbrev pub basis : {K : Type 0} → Guarded K → Snapshot (Origin K)
+basis c = snapshot (record c.origin { chunk = c.world.chunk })
 
 module _ {K : Type 0} (keeps fails : K → Entry → K → Type 0) (failed : K → Bool) where
   -- A step of the machine from a lawful world with full limits, asked through a pass. What it entered
@@ -38,8 +38,8 @@ module _ {K : Type 0} (keeps fails : K → Entry → K → Type 0) (failed : K �
         (entered (event_of pass ask) answer.reply)
         answer.told
         new.keeper
-    pub front : new.front ≡ old.front
-    pub has_kept : HasKept keeps failed new.front new.world.journal new.keeper
+    pub origin : new.origin ≡ old.origin
+    pub has_kept : HasKept keeps failed new.origin new.world.journal new.keeper
 
   -- it enters one entry of the pass at most, no checkpoint is unbegun, and the basis stays
   pub acts_grow : (old : Guarded K) (pass : ℕ) (ask : Ask) (answer : Spoken) (new : Guarded K)
@@ -56,19 +56,19 @@ module _ {K : Type 0} (keeps fails : K → Entry → K → Type 0) (failed : K �
             one_at_most pass said.user said.statement answer.reply old.world.journal
             new.world.journal m.journal;
         rises = m.begun;
-        stays = (λ i. record { chunk = m.chunk i; front = h.front i });
+        stays = (λ i. snapshot (record (h.origin i) { chunk = m.chunk i }));
       }
   acts_grow old pass asks.Step answer new h =
       let m = step_enters old.world new.world events.Step answer.reply h.step in
       record {
         adds = inl (m.journal ∙ append-nil old.world.journal);
         rises = m.begun;
-        stays = (λ i. record { chunk = m.chunk i; front = h.front i });
+        stays = (λ i. snapshot (record (h.origin i) { chunk = m.chunk i }));
       }
   acts_grow old pass asks.Abandon answer new h =
       let m = step_enters old.world new.world events.Abandon answer.reply h.step in
       record {
         adds = inl (m.journal ∙ append-nil old.world.journal);
         rises = m.begun;
-        stays = (λ i. record { chunk = m.chunk i; front = h.front i });
+        stays = (λ i. snapshot (record (h.origin i) { chunk = m.chunk i }));
       }

@@ -1,16 +1,43 @@
--- What contracts see of the core as threads share it, and of its answer.
+-- What contracts see of the core as threads share it, of its answer, and of a desk with its passes.
 use Rattle.std.specs.Prelude.{ℕ, Bool}
+use Rattle.std.specs.declared.snapshot.Snapshot.{Snapshot}
+use Rattle.turnstile.specs.Passes.{Lock, Held, Told}
 use Rattle.system_core.specs.World.{World}
+use Rattle.system_core.specs.declared.machine.event.Entry.{Entry}
 use Rattle.system_core.specs.declared.machine.event.Reply.{Reply}
 
--- A world, and the keeper of its changes. The keeper was told of each entry but the first ones: front
--- says how many the journal had when the desk was built.
+-- What a desk was built on: the chunk of its core, how many entries the journal had, and the keeper of
+-- the changes from then on, as it was handed in.
+pub record Origin (K : Type 0) : Type 0 where
+  pub chunk : ℕ
+  pub front : ℕ
+  pub keeper : K
+
+-- A world, what its desk was built on, and the keeper of its changes as it is now.
 pub record Guarded (K : Type 0) : Type 0 where
   pub world : World
+  pub origin : Origin K
   pub keeper : K
-  pub front : ℕ
 
 -- a reply, and whether it may be told
 pub record Spoken : Type 0 where
   pub reply : Reply
   pub told : Bool
+
+abbrev pub snapshot : {T : Type 0} → T → Snapshot T
+snapshot x = record { marker = record {}; value = x }
+
+-- a turn lock round a core, whose fixed part is what it was built on
+abbrev pub DeskLock : Type 0 → Type 0
+DeskLock K = Lock (Snapshot (Origin K))
+
+-- a pass of a desk, and a note
+abbrev pub DeskPass : Type 0 → Type 0
+DeskPass K = Held Entry (Snapshot (Origin K))
+
+abbrev pub DeskNote : Type 0 → Type 0
+DeskNote K = Told Entry (Snapshot (Origin K))
+
+-- what the desk was built on
+abbrev pub origin_of : {K : Type 0} → DeskLock K → Origin K
+origin_of desk = desk.fixed.value

@@ -2,23 +2,23 @@
 -- Of a keeper, `keeps old e new`: from the state old the entry e may be kept, and new is the next;
 -- `fails old e new`: from old it could not be kept whole, and new is the next; `failed k`: an entry
 -- could not be kept.
-use Rattle.std.specs.Prelude.{◌≡◌, ℕ, Bool, true, false, List, [], ◌∷◌, drop}
+use Rattle.std.specs.Prelude.{◌≡◌, Bool, true, false, List, [], ◌∷◌, drop}
 use Rattle.system_core.specs.declared.machine.event.Entry.{Entry}
 use Rattle.journal_core.specs.Keeping.{KeepsAll}
+use Rattle.desk_core.specs.Guarded.{Origin}
 
 module _ {K : Type 0} (keeps : K → Entry → K → Type 0) (failed : K → Bool) where
-  -- if the keeper has not failed, it has kept all entries of the journal but the first ones, one after
-  -- another, from some state on
-  abbrev pub HasKept : ℕ → List Entry → K → Type 0
-  HasKept front journal keeper =
-      failed keeper ≡ false → (start : K) × KeepsAll keeps start (drop front journal) keeper
+  -- if the keeper has not failed, it has kept all entries of the journal but the first ones, in order and
+  -- each once, from the state on in which it was handed in
+  abbrev pub HasKept : Origin K → List Entry → K → Type 0
+  HasKept origin journal keeper =
+      failed keeper ≡ false → KeepsAll keeps origin.keeper (drop origin.front journal) keeper
 
-  -- the keeper has not failed, and has kept all entries of the journal but the first ones
-  pub record IsKept (front : ℕ) (journal : List Entry) : Type 0 where
-    pub start : K
+  -- the keeper, as it is then, has not failed, and has kept these entries so
+  pub record IsKept (origin : Origin K) (journal : List Entry) : Type 0 where
     pub keeper : K
     pub works : failed keeper ≡ false
-    pub kept : KeepsAll keeps start (drop front journal) keeper
+    pub kept : KeepsAll keeps origin.keeper (drop origin.front journal) keeper
 
 module _ {K : Type 0} (keeps fails : K → Entry → K → Type 0) (failed : K → Bool) where
   -- What becomes of a keeper as these entries, one at most, are entered, and whether the reply may be

@@ -6,6 +6,7 @@ ghost use Rattle.turnstile.specs.Closed.{AreAll};
 ghost use Rattle.desk_core.specs.declared.object.Ask.TheVariants as asks;
 ghost use Rattle.base_core.specs.Full.{IsFull};
 ghost use Rattle.reader_core.specs.Language.{Spells};
+ghost use Rattle.desk_core.specs.Guarded.{origin_of};
 ghost use Rattle.desk_core.specs.Kept.{HasKept, IsKept};
 ghost use Rattle.desk_core.specs.Turns.{asked_by, Took, Answered, Ended};
 
@@ -26,17 +27,17 @@ pub type Pass<K> = turnstile::Pass<Core<K>>;
 pub type Note<K> = turnstile::Note<Core<K>>;
 
 /// A core that threads share by turns, with what keeps its changes. Contracts see the turn lock: how
-/// many passes it has, the chunk of its core, and how many entries the journal had at first.
+/// many passes it has, and what it was built on (`origin_of`): the chunk of its core, how many entries
+/// the journal had, and the keeper as it was handed in.
 #[derive(Drop)]
 pub struct Desk<K: Keeper + Drop> {
     turnstile: Turnstile<Core<K>>,
 }
 
 impl<K: Keeper + Drop> Model for Desk<K> {
-    ghost use Rattle.desk_core.specs.declared.object.Basis.{Basis};
-    ghost use Rattle.turnstile.specs.Passes.{Lock};
+    ghost use Rattle.desk_core.specs.Guarded.{DeskLock};
 
-    ghost Value = { Lock Basis };
+    ghost Value = { DeskLock K };
 
     ghost view = { λ d. d.turnstile };
 }
@@ -60,9 +61,9 @@ impl<K: Keeper + Drop> Desk<K> {
         requires unbegun { system.begun ≡ 0 }
         requires bears { All (λ e. e.pass < count) system.journal }
         requires works { K.failed keeper ≡ false }
-        ensures desk { IfOk result (λ b. (b.0.count ≡ count)
-            × (b.0.start ≡ 0)
-            × (b.0.fixed ≡ record { chunk = chunk; front = length system.journal })) }
+        ensures desk { IfOk result (λ b. (b.0.count ≡ count) × (b.0.start ≡ 0)) }
+        ensures origin { IfOk result (λ b. origin_of b.0
+            ≡ record { chunk = chunk; front = length system.journal; keeper = keeper }) }
         ensures passes { IfOk result (λ b. b.1.items ≡ new_passes system.journal b.0) }
     {
         Desk::build_at(alloc, system, chunk, keeper, count, 0)
@@ -84,9 +85,9 @@ impl<K: Keeper + Drop> Desk<K> {
         requires bears { All (λ e. e.pass < count) system.journal }
         requires works { K.failed keeper ≡ false }
         requires start { start ≤ 2 ^ 62 }
-        ensures desk { IfOk result (λ b. (b.0.count ≡ count)
-            × (b.0.start ≡ start)
-            × (b.0.fixed ≡ record { chunk = chunk; front = length system.journal })) }
+        ensures desk { IfOk result (λ b. (b.0.count ≡ count) × (b.0.start ≡ start)) }
+        ensures origin { IfOk result (λ b. origin_of b.0
+            ≡ record { chunk = chunk; front = length system.journal; keeper = keeper }) }
         ensures passes { IfOk result (λ b. b.1.items ≡ new_passes system.journal b.0) }
     {
         let core = Core::new(alloc, system, chunk, keeper)?;
@@ -100,7 +101,7 @@ impl<K: Keeper + Drop> Desk<K> {
         ensures same { IsSamePass pass.old pass.new }
         ensures answered { IfOk result (λ reply. Answered self.now ask reply pass.old pass.new) }
         ensures kept { OnOk result (pass.old.turns < pass.new.turns
-            → IsKept K.keeps K.failed self.now.fixed.front pass.new.seen) }
+            → IsKept K.keeps K.failed (origin_of self.now) pass.new.seen) }
         ensures withheld { OnErr result ((reply : Reply)
             × Took self.now ask reply pass.old pass.new) }
     {
@@ -130,7 +131,7 @@ impl<K: Keeper + Drop> Desk<K> {
         ensures answered { IfOk result (λ reply. Answered self.now
             (asks.Say (record { user = user; statement = statement })) reply pass.old pass.new) }
         ensures kept { OnOk result (pass.old.turns < pass.new.turns
-            → IsKept K.keeps K.failed self.now.fixed.front pass.new.seen) }
+            → IsKept K.keeps K.failed (origin_of self.now) pass.new.seen) }
         ensures withheld { OnErr result ((reply : Reply)
             × Took self.now
             (asks.Say (record { user = user; statement = statement })) reply pass.old pass.new) }
@@ -144,7 +145,7 @@ impl<K: Keeper + Drop> Desk<K> {
         ensures same { IsSamePass pass.old pass.new }
         ensures answered { IfOk result (λ reply. Answered self.now asks.Step reply pass.old pass.new) }
         ensures kept { OnOk result (pass.old.turns < pass.new.turns
-            → IsKept K.keeps K.failed self.now.fixed.front pass.new.seen) }
+            → IsKept K.keeps K.failed (origin_of self.now) pass.new.seen) }
         ensures withheld { OnErr result ((reply : Reply)
             × Took self.now asks.Step reply pass.old pass.new) }
     {
@@ -158,7 +159,7 @@ impl<K: Keeper + Drop> Desk<K> {
         ensures answered { IfOk result
             (λ reply. Answered self.now asks.Abandon reply pass.old pass.new) }
         ensures kept { OnOk result (pass.old.turns < pass.new.turns
-            → IsKept K.keeps K.failed self.now.fixed.front pass.new.seen) }
+            → IsKept K.keeps K.failed (origin_of self.now) pass.new.seen) }
         ensures withheld { OnErr result ((reply : Reply)
             × Took self.now asks.Abandon reply pass.old pass.new) }
     {
@@ -190,14 +191,14 @@ impl<K: Keeper + Drop> Desk<K> {
     }
 
     /// The core and its keeper, where these are all passes of the desk. Unless it has failed, the
-    /// keeper has kept all that was entered since the desk was built, in order. Where a pass is
-    /// missing, the desk and the passes are given back.
+    /// keeper has kept all that was entered since it was handed in, in order and each once, and
+    /// nothing else. Where a pass is missing, the desk and the passes are given back.
     pub fn close(self, passes: Vec<Pass<K>>) -> Result<(System, K), (Desk<K>, Vec<Pass<K>>)>
         requires { All (λ p. p.lock ≡ Some self) passes.items }
         ensures all { OnOk result (AreAll self passes.items) }
         ensures ok { IfOk result (λ b. Ended self passes.items b.0) }
         ensures kept { IfOk result
-            (λ b. HasKept K.keeps K.failed self.fixed.front b.0.journal b.1) }
+            (λ b. HasKept K.keeps K.failed (origin_of self) b.0.journal b.1) }
         ensures missing { OnErr result (¬ AreAll self passes.items) }
         ensures err { IfErr result (λ e. (e.0 ≡ self) × (e.1 ≡ passes)) }
     {

@@ -16,6 +16,7 @@ use journal_core::{Keeper, keep_last};
 use reader_core::Statement;
 use std::alloc::Global;
 use std::marker::Model;
+use std::snapshot::Snapshot;
 use system_core::{Entry, Event, Parting, Reply, System};
 use turnstile::Object;
 
@@ -115,19 +116,28 @@ impl Answer {
     }
 }
 
-/// What no turn changes: the number of records in a step of the checkpointer, and the number of
-/// entries that the journal had when the desk was built.
-#[derive(Clone, Copy)]
-pub struct Basis {
-    pub chunk: usize,
-    pub front: usize,
+/// What a desk was built on, which no turn changes: the number of records in a step of the
+/// checkpointer, the number of entries that the journal had, and the keeper as it was handed in.
+#[derive(Drop)]
+pub struct Basis<K> {
+    chunk: usize,
+    front: usize,
+    begun: Snapshot<K>,
 }
 
-/// A core with full limits, and what keeps its changes. Contracts see its world, the keeper, and
-/// how many entries the journal had before this keeper.
+impl<K> Model for Basis<K> {
+    ghost use Rattle.desk_core.specs.Guarded.{Origin};
+
+    ghost Value = { Origin K };
+
+    ghost view = { λ b. record { chunk = b.chunk; front = b.front; keeper = b.begun.value } };
+}
+
+/// A core with full limits, and what keeps its changes. Contracts see its world, what its desk was
+/// built on, and the keeper.
 #[derive(Drop)]
 pub struct Core<K: Keeper> {
-    pub basis: Basis,
+    pub basis: Basis<K>,
     pub system: Box<System>,
     pub keeper: K,
 }
@@ -142,14 +152,14 @@ impl<K: Keeper> Model for Core<K> {
 
     ghost view = { λ c. record {
       world = c.system.value;
+      origin = c.basis;
       keeper = c.keeper;
-      front = c.basis.front;
     } };
 
     ghost invariant = { λ c. (c.system.value.chunk ≡ c.basis.chunk)
         × IsFull c.system.value.limits
         × (c.basis.front ≤ length c.system.value.journal)
-        × HasKept K.keeps K.failed c.basis.front c.system.value.journal c.keeper };
+        × HasKept K.keeps K.failed c.basis c.system.value.journal c.keeper };
 }
 
 impl<K: Keeper + Drop> Core<K> {
@@ -158,13 +168,20 @@ impl<K: Keeper + Drop> Core<K> {
     pub fn new(alloc: Global, system: System, chunk: usize, keeper: K) -> Result<Core<K>, NoMemory>
         requires chunk { system.chunk ≡ chunk }
         requires full { IsFull system.limits }
-        ensures { IfOk result (λ c. c
-            ≡ record { world = system; keeper = keeper; front = length system.journal }) }
+        ensures { IfOk result (λ c. c ≡ record {
+          world = system;
+          origin = record { chunk = chunk; front = length system.journal; keeper = keeper };
+          keeper = keeper;
+        }) }
     {
-        let front = system.journal().len();
+        let basis = Basis {
+            chunk,
+            front: system.journal().len(),
+            begun: Snapshot::of(&keeper),
+        };
         let system = Box::new(alloc, system)?;
         Ok(Core {
-            basis: Basis { chunk, front },
+            basis,
             system,
             keeper,
         })
@@ -205,7 +222,7 @@ impl<K: Keeper + Drop> Object for Core<K> {
 
     type Entry = Entry;
 
-    type Fixed = Basis;
+    type Fixed = Snapshot<Basis<K>>;
 
     ghost log = { λ c. c.world.journal };
 
@@ -229,8 +246,8 @@ impl<K: Keeper + Drop> Object for Core<K> {
         }
     }
 
-    fn fixed_part(&self) -> Basis {
-        self.basis
+    fn fixed_part(&self) -> Snapshot<Basis<K>> {
+        Snapshot::of(&self.basis)
     }
 
     ghost grows = { acts_grow K.keeps K.fails K.failed };

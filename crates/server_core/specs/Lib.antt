@@ -1,4 +1,6 @@
+pub mod Door
 pub mod Sessions
+pub mod Telling
 pub use Rattle.turnstile.specs.Passes
 pub use Rattle.turnstile.specs.Closed
 pub use Rattle.system_core.specs.World

@@ -1,40 +1,44 @@
 -- What becomes of the passes of a server: a worker's goes through sessions, the checkpointer's
 -- through looks at the active checkpoint, and nothing else is done through them.
-use Rattle.std.specs.Prelude.{◌≡◌, ℕ, ◌+◌, List, [], ◌∷◌, ◌++◌, length, All, Option, Some, Result}
-use Rattle.desk_core.specs.declared.object.Basis.{Basis}
-use Rattle.session_core.specs.declared.session_end.SessionEnd.{SessionEnd}
+use Rattle.std.specs.Prelude.{◌≡◌, ℕ, ◌+◌, List, [], ◌∷◌, ◌++◌, length, map, sum_by, All, Option, Some}
 use Rattle.turnstile.specs.Logs.{StartsWith}
-use Rattle.turnstile.specs.Passes.{Lock, Held}
 use Rattle.turnstile.specs.Closed.{AreAll}
 use Rattle.system_core.specs.declared.machine.event.Entry.{Entry}
 use Rattle.system_core.specs.World.{World}
+use Rattle.desk_core.specs.Guarded.{DeskLock, DeskPass, origin_of}
 use Rattle.desk_core.specs.Turns.{Ended}
+use Rattle.session_core.specs.declared.summary.Summary.{Summary}
 use Rattle.session_core.specs.Checking.{HasChecked}
 use Rattle.session_core.specs.Session.{EndsSession}
 
 -- the pass is one of this desk
-abbrev pub IsOf : Lock Basis → Held Entry Basis → Type 0
+abbrev pub IsOf : {K : Type 0} → DeskLock K → DeskPass K → Type 0
 IsOf desk pass = pass.lock ≡ Some desk
 
 -- one session, from what its pass knew to what it knows, over the bytes of some client
-pub record Attends (desk : Lock Basis) (ending : Result ℕ SessionEnd) (old new : Held Entry Basis)
+pub record Attends {K : Type 0} (desk : DeskLock K) (summary : Summary) (old new : DeskPass K)
     : Type 0 where
   pub left : Option (List ℕ)
   pub left_behind : Option (List ℕ)
   pub taken : Option (List ℕ)
   pub taken_then : Option (List ℕ)
-  pub ends : EndsSession desk ending old new left left_behind taken taken_then
+  pub ends : EndsSession desk summary old new left left_behind taken taken_then
 
--- sessions, one after another, from what the pass knew to what it knows
-pub data Attended (desk : Lock Basis) (old : Held Entry Basis) : Held Entry Basis → Type 0 where
+-- a worker: what his pass knows, and how many sessions he was admitted
+pub record Working (K : Type 0) : Type 0 where
+  pub pass : DeskPass K
+  pub sessions : ℕ
+
+-- sessions, one after another, each of which is counted
+pub data Attended {K : Type 0} (desk : DeskLock K) (old : Working K) : Working K → Type 0 where
   nobody : Attended desk old old
-  another : (ending : Result ℕ SessionEnd) (between new : Held Entry Basis)
+  another : (summary : Summary) (between : Working K) (pass : DeskPass K)
       → Attended desk old between
-      → Attends desk ending between new
-      → Attended desk old new
+      → Attends desk summary between.pass pass
+      → Attended desk old (record { pass = pass; sessions = between.sessions + 1 })
 
 -- the pass of this number, as the desk was built on this journal
-abbrev pub new_pass : List Entry → Lock Basis → ℕ → Held Entry Basis
+abbrev pub new_pass : {K : Type 0} → List Entry → DeskLock K → ℕ → DeskPass K
 new_pass journal desk number =
     record {
       lock = Some desk;
@@ -46,36 +50,50 @@ new_pass journal desk number =
     }
 
 -- nothing was done through the pass yet
-abbrev pub IsNew : List Entry → Lock Basis → Held Entry Basis → Type 0
+abbrev pub IsNew : {K : Type 0} → List Entry → DeskLock K → DeskPass K → Type 0
 IsNew journal desk pass = pass ≡ new_pass journal desk pass.number
 
--- since the desk was built, sessions were served through the pass, and nothing else was done
-abbrev pub IsWorkers : List Entry → Lock Basis → Held Entry Basis → Type 0
-IsWorkers journal desk pass = Attended desk (new_pass journal desk pass.number) pass
+-- a worker who has served nobody, with the pass of this number
+abbrev pub new_worker : {K : Type 0} → List Entry → DeskLock K → ℕ → Working K
+new_worker journal desk number = record { pass = new_pass journal desk number; sessions = 0 }
+
+-- he has served nobody yet
+abbrev pub IsIdle : {K : Type 0} → List Entry → DeskLock K → Working K → Type 0
+IsIdle journal desk worker = worker ≡ new_worker journal desk worker.pass.number
+
+-- since the desk was built, sessions were served through the worker's pass, as many as he counts, and
+-- nothing else was done
+abbrev pub IsWorkers : {K : Type 0} → List Entry → DeskLock K → Working K → Type 0
+IsWorkers journal desk worker =
+    Attended desk (new_worker journal desk worker.pass.number) worker
 
 -- since the desk was built, the pass looked after checkpoints, and nothing else was done
-abbrev pub IsCheckpointers : List Entry → Lock Basis → Held Entry Basis → Type 0
+abbrev pub IsCheckpointers : {K : Type 0} → List Entry → DeskLock K → DeskPass K → Type 0
 IsCheckpointers journal desk pass = HasChecked desk (new_pass journal desk pass.number) pass
 
--- passes of workers, and behind them the checkpointer's
-pub record AreServers (journal : List Entry) (desk : Lock Basis) (passes : List (Held Entry Basis))
-    : Type 0 where
-  pub workers : List (Held Entry Basis)
-  pub checkpointer : Held Entry Basis
-  pub passes_are : passes ≡ workers ++ checkpointer ∷ []
+-- passes of workers, who served so many sessions in all, and behind them the checkpointer's
+pub record AreServers {K : Type 0} (journal : List Entry) (desk : DeskLock K) (sessions : ℕ)
+    (passes : List (DeskPass K)) : Type 0 where
+  pub workers : List (Working K)
+  pub checkpointer : DeskPass K
+  pub passes_are : passes ≡ map (λ (w : Working K). w.pass) workers ++ checkpointer ∷ []
+  pub sessions_are : sum_by (λ (w : Working K). w.sessions) workers ≡ sessions
   pub served : All (IsWorkers journal desk) workers
   pub checked : IsCheckpointers journal desk checkpointer
 
--- The world that a server leaves which was built on the world start: that of a desk with a pass for
--- each of so many workers and one for the checkpointer, which was closed with all its passes. So its
--- journal begins with that of start, and each other entry was made in a session of a worker.
-pub record Leaves (workers : ℕ) (start world : World) : Type 0 where
-  pub desk : Lock Basis
-  pub passes : List (Held Entry Basis)
+-- The world that a server leaves which was built on the world start, and served so many sessions: that
+-- of a desk with a pass for each of so many workers and one for the checkpointer, which was closed with
+-- all its passes. So its journal begins with that of start, and each other entry was made in one of
+-- these sessions.
+pub record Leaves {K : Type 0} (workers sessions : ℕ) (keeper : K) (start world : World)
+    : Type 0 where
+  pub desk : DeskLock K
+  pub passes : List (DeskPass K)
   pub count_is : desk.count ≡ workers + 1
   pub start_is : desk.start ≡ 0
-  pub basis_is : desk.fixed ≡ record { chunk = start.chunk; front = length start.journal }
+  pub origin_is : origin_of desk
+      ≡ record { chunk = start.chunk; front = length start.journal; keeper = keeper }
   pub all : AreAll desk passes
-  pub servers : AreServers start.journal desk passes
+  pub servers : AreServers start.journal desk sessions passes
   pub ended : Ended desk passes world
   pub begins : StartsWith world.journal start.journal

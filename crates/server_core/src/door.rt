@@ -1,43 +1,15 @@
 //! Where sessions come in.
-ghost use Rattle.std.specs.Prelude.{◌≡◌, IfOk};
+ghost use Rattle.std.specs.Prelude.{◌≡◌, ◌+◌, ◌<◌, Some, None, IsSome, IfOk, IfSome, IfNone};
+ghost use Rattle.server_core.specs.Door.{IsOpen};
 
-use base_core::NoMemory;
-use std::io::Error;
+use crate::accepting::{accept, close};
+use crate::fault::ServeFault;
+use crate::sign::Sign;
+use std::marker::Model;
 use std::net::{SocketAddr, TcpListener, TcpStream};
 use std::sync::Wait;
-use std::thread;
-use std::time::{Clock, Duration};
-
-// How many milliseconds it waits behind an accept that failed.
-const PAUSE_MILLIS: u64 = 50;
-
-// The system's errors that say that a descriptor is no socket that listens.
-const EBADF: i32 = 9;
-
-const EFAULT: i32 = 14;
-
-const EINVAL: i32 = 22;
-
-const ENOTSOCK: i32 = 88;
-
-const EOPNOTSUPP: i32 = 95;
-
-/// Why not all sessions were served.
-#[derive(Clone, Copy, Debug, PartialEq, Eq)]
-pub enum ServeFault {
-    /// The listener is gone, so that no session can be accepted.
-    Accept,
-    /// A change could not be kept.
-    Journal,
-    /// A request for memory was refused, or a thread could not be started.
-    NoMemory,
-}
-
-impl From<NoMemory> for ServeFault {
-    fn from(_refused: NoMemory) -> ServeFault {
-        ServeFault::NoMemory
-    }
-}
+use std::sync::ledger::{Book, Ledger, Share};
+use std::time::Clock;
 
 /// A session that came in, by whom, and its number: sessions are counted from 1 as they come in.
 #[derive(Drop)]
@@ -47,82 +19,124 @@ pub struct Guest {
     pub number: u64,
 }
 
-/// How many sessions were taken, how many are wanted, and why no more is taken.
+/// How many sessions were taken, how many are wanted, and the fault for which no more is taken, if
+/// there is one. For each session that is taken it adds one to the token of the worker who serves it:
+/// so the tokens of all workers have as many as were taken. Contracts see the two numbers and the
+/// fault.
 #[derive(Drop)]
-pub struct Door {
+pub struct Door<L: Ledger> {
     taken: u64,
     wanted: u64,
     fault: Option<ServeFault>,
+    tokens: Book<L>,
 }
 
-/// Whether no later call can accept a session.
-fn is_gone(error: &Error) -> bool {
-    match error.raw_os_error() {
-        Some(EBADF | EFAULT | EINVAL | ENOTSOCK | EOPNOTSUPP) => true,
-        _ => false,
-    }
+impl<L: Ledger> Model for Door<L> {
+    ghost use Rattle.std.specs.Prelude.{◌≡◌};
+    ghost use Rattle.server_core.specs.Door.{Intake};
+
+    ghost Value = { Intake };
+
+    ghost view = { λ d. record { taken = d.taken; wanted = d.wanted; fault = d.fault } };
+
+    ghost invariant = { λ d. d.taken ≡ d.tokens.total };
 }
 
-/// The next session, or none where the listener is gone. For any other fault it waits and tries
-/// again: a client has left before its turn, or descriptors or memory are wanting, which sessions
-/// that end give back.
-fn accept<R: Wait + Clock>(rt: &R, listener: &TcpListener) -> Option<(TcpStream, SocketAddr)> {
-    for _ in rt.forever() {
-        match listener.accept() {
-            Ok(accepted) => return Some(accepted),
-            Err(error) => {
-                if is_gone(&error) {
-                    return None;
-                }
-            }
-        }
-        thread::sleep(rt, Duration::from_millis(PAUSE_MILLIS));
-    }
-    unreachable!()
-}
-
-impl Door {
-    /// So many sessions are wanted, and none was taken.
-    pub fn new(wanted: u64) -> Door {
+impl<L: Ledger> Door<L> {
+    /// So many sessions are wanted, and none was taken: all tokens together have nothing.
+    pub fn new(wanted: u64, tokens: Book<L>) -> Door<L>
+        requires { tokens.total ≡ 0 }
+        ensures { result ≡ record { taken = 0; wanted = wanted; fault = None } }
+    {
         Door {
             taken: 0,
             wanted,
             fault: None,
+            tokens,
         }
     }
 
-    /// No further session is taken.
-    pub fn shut(&mut self, fault: ServeFault) {
+    /// No further session is taken, for this fault.
+    pub fn shut(&mut self, fault: ServeFault)
+        ensures { self.new ≡ record self.old { fault = Some fault } }
+    {
         self.fault = Some(fault);
     }
 
-    /// The number of sessions, where so many were taken as were asked for. Else why not: the fault
-    /// for which it was shut, or `Accept`.
-    pub fn served(self, asked: u64) -> Result<u64, ServeFault>
-        ensures { IfOk result (λ served. served ≡ asked) }
+    /// The number of sessions, where so many were taken as were asked for: just as many as all tokens
+    /// have. Else why not: the fault for which it was shut, or `Accept`.
+    pub fn served(self, asked: u64, all: Share<L>) -> Result<u64, ServeFault>
+        requires { all.parts ≡ L.parts }
+        ensures asked { IfOk result (λ served. served ≡ asked) }
+        ensures tokens { IfOk result (λ served. served ≡ all.amount) }
     {
-        match self.fault {
+        let Door {
+            taken,
+            wanted: _,
+            fault,
+            mut tokens,
+        } = self;
+        let mut all = all;
+        tokens.audit(&mut all);
+        match fault {
             Some(fault) => Err(fault),
-            None if self.taken == asked => Ok(self.taken),
+            None if taken == asked => Ok(taken),
             None => Err(ServeFault::Accept),
         }
     }
 
-    /// Takes the next session, if one is wanted, and waits for it. It is shut with `Accept` where
-    /// the listener is gone.
-    pub fn admit<R: Wait + Clock>(&mut self, rt: &R, listener: &TcpListener) -> Option<Guest> {
-        if self.fault.is_some() || self.taken >= self.wanted {
+    /// Counts one more session, which the token's holder serves.
+    fn count(&mut self, token: &mut Share<L>)
+        requires token { 0 < token.old.parts }
+        requires wanted { self.old.taken < self.old.wanted }
+        ensures counted { self.new ≡ record self.old { taken = self.old.taken + 1 } }
+        ensures amount { token.new.amount ≡ token.old.amount + 1 }
+        ensures parts { token.new.parts ≡ token.old.parts }
+    {
+        let Door { taken, tokens, .. } = self;
+        tokens.add(token, 1);
+        *taken += 1;
+    }
+
+    /// Takes the next session, if one is wanted, and waits for it. None is taken once the door was
+    /// shut, as many were taken as are wanted, or the sign says so; it is shut with `Accept` where the
+    /// listener is gone or was closed. Behind the last that is wanted it closes the listener, so that
+    /// further clients are refused.
+    pub fn admit<R: Wait + Clock>(
+        &mut self,
+        rt: &R,
+        listener: &TcpListener,
+        sign: &Sign,
+        token: &mut Share<L>,
+    ) -> Option<Guest>
+        requires { 0 < token.old.parts }
+        ensures open { IsSome result → IsOpen self.old }
+        ensures taken { IfSome result (λ guest. (guest.number ≡ self.old.taken + 1)
+            × (self.new ≡ record self.old { taken = self.old.taken + 1 })) }
+        ensures refused { IfNone result (self.new.taken ≡ self.old.taken) }
+        ensures one { IsSome result → token.new.amount ≡ token.old.amount + 1 }
+        ensures nobody { IfNone result (token.new.amount ≡ token.old.amount) }
+        ensures parts { token.new.parts ≡ token.old.parts }
+    {
+        if self.fault.is_some() || self.taken >= self.wanted || sign.is_closed() {
             return None;
         }
         let Some((stream, peer)) = accept(rt, listener) else {
-            self.fault = Some(ServeFault::Accept);
+            self.shut(ServeFault::Accept);
             return None;
         };
-        self.taken += 1;
+        if sign.is_closed() {
+            return None;
+        }
+        self.count(token);
+        let number = self.taken;
+        if number >= self.wanted {
+            close(listener);
+        }
         Some(Guest {
             stream,
             peer,
-            number: self.taken,
+            number,
         })
     }
 }

@@ -3,17 +3,20 @@
 //!
 //! A server shares one desk among threads, each with a pass of its own. [`work`] is what a worker's
 //! thread does: it takes sessions from the [`Door`] one after another, and serves each through its
-//! pass. Its contract says that sessions went through the pass, and that nothing else was done
-//! through it (`specs/Sessions.antt`); what a session writes, and what it does to the desk, is the
-//! contract of [`serve_session`](session_core::serve_session). There too stands what a whole server
-//! leaves, of which the program's threads make use. How many sessions run at once is a matter of
-//! [`Permits`].
+//! pass. Its contract says that as many sessions went through the pass as the worker's token counts,
+//! and that nothing else was done through it (`specs/Sessions.antt`); what a session writes, and what
+//! it does to the desk, is the contract of [`serve_session`](session_core::serve_session). There too
+//! stands what a whole server leaves, of which the program's threads make use. What the log says is
+//! pinned by `specs/Telling.antt`. How many sessions run at once is a matter of [`Permits`].
 //!
 //! ```text
-//! let door = Mutex::new(Door::new(100));
-//! let permits = Permits::new(4);
-//! let pass = work(&rt, alloc, &desk, pass, &listener, &door, &permits, None, &log);
-//! door.into_inner().served(100)?;                                // 100
+//! let (book, mut rest) = blank.open::<L>();                      // one part for each worker
+//! let door = Mutex::new(Door::new(100, book));
+//! let worker = Worker::new(pass, rest.split_off(1, 0));
+//! let worker = work(&rt, alloc, &desk, worker, &listener, &door, &sign, &permits, None, &log);
+//! let (pass, token) = worker.into_parts();
+//! rest.merge(token);
+//! door.into_inner().served(100, rest)?;                          // 100
 //! ```
 //!
 //! # Mechanism
@@ -24,11 +27,16 @@
 //! be started, no session is taken. An accept that fails is made again after 50 milliseconds; only
 //! where the listener itself is gone no further session is taken.
 //!
+//! The door adds one to the token of the worker whom it admits a session, and has counted as many in
+//! its book; once all parts of the token are back, both are compared, by proof.
+//!
 //! A session that has ended is shut for writing and then read for a while, since to close a socket
 //! with unread bytes would take the last replies from the client. A fault of a session ends that
-//! session, and is told on the error stream. One of which a reply was withheld, since a change could
-//! not be kept, shuts the door besides. [`Notes`] are taken of each session, for a log of
-//! where sessions begin and end.
+//! session, and is told on the error stream, which takes no memory. One of which a reply was withheld,
+//! since a change could not be kept, ends the server: the [`Sign`] says so, and the listener is shut
+//! down, before the client can see that its session ended. That wakes who waits in an accept; who
+//! waits for the door's lock sees the sign; and who connects is refused. The listener is shut down,
+//! too, behind the last session that is wanted.
 //!
 //! With more threads than processors at the desk most would sleep there, and be woken for each turn.
 //! So a session answers lines while it holds one of the [`Permits`], which are fewer, and reads and
@@ -47,17 +55,23 @@
 //! costs some five atomic steps for each piece of input.
 #![tactic(auto)]
 
+mod accepting;
+mod attending;
 mod door;
+mod fault;
 mod log;
 mod manners;
-mod notes;
 mod permit;
 mod permits;
+mod sign;
+mod telling;
+mod timed;
 mod worker;
 
-pub use door::{Door, Guest, ServeFault};
+pub use door::{Door, Guest};
+pub use fault::ServeFault;
 pub use log::{Log, SharedLog};
 pub use manners::Manners;
-pub use notes::Notes;
 pub use permits::Permits;
-pub use worker::work;
+pub use sign::Sign;
+pub use worker::{Worker, work};

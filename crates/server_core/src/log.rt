@@ -1,9 +1,10 @@
 //! What is told of sessions, by any thread.
 use crate::door::Guest;
-use crate::notes::Notes;
-use base_core::Moment;
-use session_core::{SessionEnd, end_name};
-use std::io::{Result, Write};
+use crate::telling::{begun_line, ended_line, numbered_fault, plain_fault};
+use base_core::NoMemory;
+use session_core::{SessionEnd, Summary};
+use std::alloc::Global;
+use std::io::Write;
 use std::sync::{Mutex, Wait};
 
 /// Where sessions are told of. It is a trait so that no closure of a thread holds a `&mut`: of one
@@ -12,56 +13,72 @@ pub trait Log {
     /// Tells that a session begins.
     fn begun<R: Wait>(&self, rt: &R, guest: &Guest);
 
-    /// Tells why a session ended before its input did.
-    fn tell<R: Wait>(&self, rt: &R, end: SessionEnd);
+    /// Tells why a session ended before its input did, and whether its client took too long.
+    fn fault<R: Wait>(&self, rt: &R, guest: &Guest, ended: SessionEnd, is_late: bool);
 
-    /// Tells that a session ended, and what was noted of it.
-    fn ended<R: Wait>(&self, rt: &R, guest: &Guest, notes: &Notes);
+    /// Tells that a session ended, and what is told of it.
+    fn ended<R: Wait>(&self, rt: &R, guest: &Guest, summary: &Summary);
 }
 
-/// A writer that threads share. Faults are told always, where sessions begin and end only if it is
-/// so said.
+/// A writer that threads share. Faults are told always. Where sessions begin and end is told only if
+/// it is so said; then faults are told with the session's number and, of an idle client, as such,
+/// unless there was no memory for that.
 #[derive(Drop)]
 pub struct SharedLog<'a, W> {
+    pub alloc: Global,
     pub writer: Mutex<&'a mut W>,
     pub sessions: bool,
+}
+
+impl<'a, W: Write> SharedLog<'a, W> {
+    /// Writes a line by one call.
+    fn write<R: Wait>(&self, rt: &R, line: &[u8]) {
+        let _ = self.writer.lock(rt).write_all(line);
+    }
+
+    /// Writes a line by one call, if there was memory for it.
+    fn write_made<R: Wait>(&self, rt: &R, line: Result<Vec<u8>, NoMemory>) {
+        if let Ok(line) = line {
+            self.write(rt, line.as_slice());
+        }
+    }
+}
+
+/// The client's address as text.
+fn peer_text(alloc: Global, guest: &Guest) -> Result<String, NoMemory> {
+    let peer = guest.peer;
+    Ok(format!(in alloc; "{peer}")?)
+}
+
+fn begun(alloc: Global, guest: &Guest) -> Result<Vec<u8>, NoMemory> {
+    let peer = peer_text(alloc, guest)?;
+    begun_line(alloc, guest.number, peer.as_str())
+}
+
+fn ended(alloc: Global, guest: &Guest, summary: &Summary) -> Result<Vec<u8>, NoMemory> {
+    let peer = peer_text(alloc, guest)?;
+    ended_line(alloc, guest.number, peer.as_str(), summary)
 }
 
 impl<'a, W: Write> Log for SharedLog<'a, W> {
     fn begun<R: Wait>(&self, rt: &R, guest: &Guest) {
         if self.sessions {
-            let (number, peer) = (guest.number, guest.peer);
-            let _ = writeln!(self.writer.lock(rt), "session {number} begun: peer {peer}");
+            self.write_made(rt, begun(self.alloc, guest));
         }
     }
 
-    fn tell<R: Wait>(&self, rt: &R, end: SessionEnd) {
-        let _ = writeln!(self.writer.lock(rt), "session fault: {}", end_name(end));
+    fn fault<R: Wait>(&self, rt: &R, guest: &Guest, ended: SessionEnd, is_late: bool) {
+        if self.sessions
+            && let Ok(line) = numbered_fault(self.alloc, guest.number, ended, is_late)
+        {
+            return self.write(rt, line.as_slice());
+        }
+        self.write(rt, plain_fault(ended).as_bytes());
     }
 
-    fn ended<R: Wait>(&self, rt: &R, guest: &Guest, notes: &Notes) {
+    fn ended<R: Wait>(&self, rt: &R, guest: &Guest, summary: &Summary) {
         if self.sessions {
-            let mut writer = self.writer.lock(rt);
-            let _ = tell_ended(&mut *writer, guest, notes);
+            self.write_made(rt, ended(self.alloc, guest, summary));
         }
-    }
-}
-
-/// One line; `-` stands for a user whom nobody named, and for a moment where no reply bore one.
-fn tell_ended<W: Write>(writer: &mut W, guest: &Guest, notes: &Notes) -> Result<()> {
-    write!(writer, "session {} ended: user ", guest.number)?;
-    match notes.user() {
-        Some(user) => writer.write_all(user.0.as_bytes())?,
-        None => writer.write_all(b"-")?,
-    }
-    write!(
-        writer,
-        ", peer {}, lines {}, moment ",
-        guest.peer,
-        notes.lines()
-    )?;
-    match notes.moment() {
-        Some(Moment(at)) => writeln!(writer, "{at}"),
-        None => writeln!(writer, "-"),
     }
 }

@@ -2,7 +2,7 @@
 ghost use Rattle.std.specs.Prelude.{◌≡◌};
 
 use crate::permits::Permits;
-use base_core::{Moment, User};
+use base_core::Moment;
 use export_core::Gate;
 use std::cell::Cell;
 use std::io::{Read, Result, Write};
@@ -108,36 +108,26 @@ impl<'a, R: Wait, T: Write> Write for Yielding<'a, R, T> {
     }
 }
 
-/// A gate that counts the lines of a session, which does not run while it writes records, and tells
-/// another gate.
+/// A gate that counts the lines of a session, which does not run while it writes records.
 #[derive(Drop)]
-pub(crate) struct Counting<'a, R: Wait, G: Gate> {
+pub(crate) struct Counting<'a, R: Wait> {
     permit: &'a Permit<'a, R>,
-    gate: &'a G,
 }
 
-impl<'a, R: Wait, G: Gate> Counting<'a, R, G> {
-    pub(crate) fn new(permit: &'a Permit<'a, R>, gate: &'a G) -> Counting<'a, R, G> {
-        Counting { permit, gate }
+impl<'a, R: Wait> Counting<'a, R> {
+    pub(crate) fn new(permit: &'a Permit<'a, R>) -> Counting<'a, R> {
+        Counting { permit }
     }
 }
 
-impl<'a, R: Wait, G: Gate> Gate for Counting<'a, R, G> {
-    fn before_record(&self, given: u64) {
+impl<'a, R: Wait> Gate for Counting<'a, R> {
+    fn before_record(&self, _given: u64) {
         self.permit.rest();
-        self.gate.before_record(given);
     }
 
-    fn before_step(&self, left: u64) {
-        self.gate.before_step(left);
-    }
+    fn before_step(&self, _left: u64) {}
 
-    fn named(&self, user: &User) {
-        self.gate.named(user);
-    }
-
-    fn answered(&self, at: Option<Moment>) {
-        self.gate.answered(at);
+    fn answered(&self, _at: Option<Moment>) {
         self.permit.count_line();
     }
 }

@@ -1,114 +1,106 @@
 //! A thread that serves sessions.
 ghost use Rattle.std.specs.Prelude.{◌≡◌, Some};
-ghost use Rattle.server_core.specs.Sessions.{IsOf, Attends, Attended};
+ghost use Rattle.server_core.specs.Sessions.{IsOf, Attended};
 
-use crate::door::{Door, ServeFault};
+use crate::attending::attend;
+use crate::door::Door;
+use crate::fault::ServeFault;
 use crate::log::Log;
-use crate::notes::Notes;
-use crate::permit::{Counting, Permit, Yielding};
 use crate::permits::Permits;
-use base_core::{StdSink, StdSource};
+use crate::sign::Sign;
 use desk_core::{Desk, Pass};
 use journal_core::Keeper;
-use lines_core::{SessionFault, Steady};
-use session_core::{SessionEnd, serve_session};
+use session_core::SessionEnd;
 use std::alloc::Global;
-use std::io::{BufWriter, Read};
-use std::net::{Shutdown, TcpListener, TcpStream};
+use std::cell::Cell;
+use std::marker::Model;
+use std::net::TcpListener;
+use std::sync::ledger::{Ledger, Share};
 use std::sync::{Mutex, Wait};
 use std::time::{Clock, Duration};
 
-// What is gathered of a session's replies before it is written.
-const OUTPUT_BYTES: usize = 65536;
-
-// How often, and how many milliseconds each time, it waits for a client that still writes.
-const LAST_READS: u32 = 64;
-
-const LAST_MILLIS: u64 = 100;
-
-/// Ends the stream so that the client can read what was written. To close it while bytes of the
-/// client are unread would reset it, and the client would lose the last replies.
-fn let_go(stream: &TcpStream) {
-    if stream.shutdown(Shutdown::Write).is_err() {
-        return;
-    }
-    let _ = stream.set_read_timeout(Some(Duration::from_millis(LAST_MILLIS)));
-    let mut rest = Steady::new(stream);
-    let mut bytes = [0; 1024];
-    for _ in 0..LAST_READS {
-        match rest.read(&mut bytes) {
-            Ok(0) | Err(_) => return,
-            Ok(_) => {}
-        }
-    }
-}
-
-/// Serves one session to its end, through the pass and through nothing else. A read or a write that
-/// waits for longer than `idle` is its fault. No permit is held before and behind the call.
-fn attend<K: Keeper + Drop, R: Wait>(
-    rt: &R,
-    alloc: Global,
-    desk: &Desk<K>,
-    pass: &mut Pass<K>,
-    stream: &TcpStream,
-    permits: &Permits,
-    idle: Option<Duration>,
-    notes: &Notes,
-) -> Result<u64, SessionEnd>
-    requires { IsOf desk.now pass.old }
-    ensures { Attends desk.now result pass.old pass.new }
-{
-    let _ = stream.set_nodelay(true);
-    let _ = stream.set_read_timeout(idle);
-    let _ = stream.set_write_timeout(idle);
-    let permit = Permit::new(rt, permits);
-    let output = Yielding::new(&permit, Steady::new(stream));
-    let Ok(buffered) = BufWriter::with_capacity(alloc, OUTPUT_BYTES, output) else {
-        return Err(SessionEnd::Session(SessionFault::NoMemory));
-    };
-    let mut reader = StdSource::new(Yielding::new(&permit, Steady::new(stream)));
-    let mut writer = StdSink::new(buffered);
-    let gate = Counting::new(&permit, notes);
-    let served = serve_session(rt, alloc, desk, pass, &mut reader, &mut writer, &gate);
-    permit.rest();
-    let_go(stream);
-    served
-}
-
-/// Takes sessions one by one and serves each through the pass, until all are taken or the door is
-/// shut. Nothing else is done through it. The permits say how many sessions run at once. A session
-/// ends with a fault whose client sends nothing for as long as `idle` says, or takes nothing;
-/// without it a session waits. One of which a reply was withheld, since a change could not be kept,
-/// shuts the door, so that no further session is taken; those that run end at their next statement.
-pub fn work<K: Keeper + Drop, R: Wait + Clock, L: Log>(
-    rt: &R,
-    alloc: Global,
-    desk: &Desk<K>,
+/// Who serves sessions: his pass of the desk, and the token that counts the sessions which he was
+/// admitted. Contracts see the pass, and how many sessions it counts.
+#[derive(Drop)]
+pub struct Worker<K: Keeper + Drop, L: Ledger> {
     pass: Pass<K>,
+    token: Share<L>,
+}
+
+impl<K: Keeper + Drop, L: Ledger> Model for Worker<K, L> {
+    ghost use Rattle.std.specs.Prelude.{◌≡◌};
+    ghost use Rattle.server_core.specs.Sessions.{Working};
+
+    ghost Value = { Working K };
+
+    ghost view = { λ w. record { pass = w.pass; sessions = w.token.amount } };
+
+    ghost invariant = { λ w. w.token.parts ≡ 1 };
+}
+
+impl<K: Keeper + Drop, L: Ledger> Worker<K, L> {
+    /// One who has served nobody.
+    pub fn new(pass: Pass<K>, token: Share<L>) -> Worker<K, L>
+        requires part { token.parts ≡ 1 }
+        requires nobody { token.amount ≡ 0 }
+        ensures { result ≡ record { pass = pass; sessions = 0 } }
+    {
+        Worker { pass, token }
+    }
+
+    /// His pass and his token, which has one part.
+    pub fn into_parts(self) -> (Pass<K>, Share<L>)
+        ensures pass { result.0 ≡ self.pass }
+        ensures amount { result.1.amount ≡ self.sessions }
+        ensures parts { result.1.parts ≡ 1 }
+    {
+        let Worker { pass, token } = self;
+        (pass, token)
+    }
+}
+
+/// Takes sessions one by one and serves each through the worker's pass, until all are taken or no
+/// further one is. Nothing else is done through it, and it counts just these sessions. The permits say
+/// how many sessions run at once. A session ends with a fault whose client sends nothing for as long
+/// as `idle` says, or takes nothing; without it a session waits. One of which a reply was withheld,
+/// since a change could not be kept, closes the listener and shuts the door: no further session is
+/// taken by anyone, and those that run end at their next statement.
+pub fn work<K: Keeper + Drop, L: Ledger, R: Wait + Clock, G: Log>(
+    rt: &R,
+    alloc: Global,
+    desk: &Desk<K>,
+    worker: Worker<K, L>,
     listener: &TcpListener,
-    door: &Mutex<Door>,
+    door: &Mutex<Door<L>>,
+    sign: &Sign,
     permits: &Permits,
     idle: Option<Duration>,
-    log: &L,
-) -> Pass<K>
-    requires { IsOf desk.now pass }
-    ensures { Attended desk.now pass result }
+    log: &G,
+) -> Worker<K, L>
+    requires { IsOf desk.now worker.pass }
+    ensures { Attended desk.now worker result }
 {
-    let mut pass = pass;
+    let Worker {
+        mut pass,
+        mut token,
+    } = worker;
     for _ in rt.forever() {
-        let Some(guest) = door.lock(rt).admit(rt, listener) else {
+        let Some(guest) = door.lock(rt).admit(rt, listener, sign, &mut token) else {
             break;
         };
         log.begun(rt, &guest);
-        let notes = Notes::new();
+        let is_late = Cell::new(false);
         let stream = &guest.stream;
-        if let Err(end) = attend(rt, alloc, desk, &mut pass, stream, permits, idle, &notes) {
-            log.tell(rt, end);
+        let summary = attend(
+            rt, alloc, desk, &mut pass, stream, listener, sign, permits, idle, &is_late,
+        );
+        if let Err(end) = summary.ended {
+            log.fault(rt, &guest, end, is_late.get());
             if let SessionEnd::Journal = end {
                 door.lock(rt).shut(ServeFault::Journal);
             }
         }
-        log.ended(rt, &guest, &notes);
+        log.ended(rt, &guest, &summary);
     }
-    pass
+    Worker { pass, token }
 }

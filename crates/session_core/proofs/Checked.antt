@@ -1,10 +1,8 @@
 -- What is known of the pass that looked after checkpoints.
 use Rattle.std.proofs.Common.{◌≡◌, ◌^◌, ap}
-use Rattle.desk_core.specs.declared.object.Basis.{Basis}
 use Rattle.base_core.specs.declared.value.Moment.{Moment}
 use Rattle.base_core.specs.declared.lack.Lack.TheVariants as lacks
-use Rattle.turnstile.specs.Passes.{Lock, Held}
-use Rattle.system_core.specs.declared.machine.event.Entry.{Entry}
+use Rattle.desk_core.specs.Guarded.{DeskLock, DeskPass}
 use Rattle.system_core.specs.declared.machine.event.Reply.{Reply}
 use Rattle.system_core.specs.declared.machine.event.Reply.TheVariants as replies
 use Rattle.system_core.proofs.Unworn.{never-worn}
@@ -16,22 +14,22 @@ use Rattle.session_core.specs.Checking.{Looks, stepped, gave_up, CutOff, unstepp
 use Rattle.session_core.specs.Gains.{Watches}
 use Rattle.session_core.proofs.Growing.{step_watches, abandon_watches, Watches-trans}
 
-pub looks_watches : (desk : Lock Basis) (reply : Reply) (old new : Held Entry Basis) → Looks desk reply old new → Watches old new
+pub looks_watches : {K : Type 0} (desk : DeskLock K) (reply : Reply) (old new : DeskPass K) → Looks desk reply old new → Watches old new
 looks_watches desk reply old new (stepped fine same a) = step_watches desk reply old new same a
 looks_watches desk reply old new (gave_up at between same a same' b) =
     Watches-trans old between new (step_watches desk (replies.Refused at lacks.NoMemory) old between same a) (abandon_watches desk reply between new same' b)
 
-answered_worn : (desk : Lock Basis) (ask : Ask) (reply : Reply) (old new : Held Entry Basis) (at : Moment) → reply ≡ replies.Refused at lacks.Worn → Answered desk ask reply old new → new.drawn ≡ 2 ^ 62
+answered_worn : {K : Type 0} (desk : DeskLock K) (ask : Ask) (reply : Reply) (old new : DeskPass K) (at : Moment) → reply ≡ replies.Refused at lacks.Worn → Answered desk ask reply old new → new.drawn ≡ 2 ^ 62
 answered_worn desk ask reply old new at e (took t) = absurd (never-worn t.before t.after (event_of old.number ask) reply at t.step e)
-answered_worn desk ask reply old new at e (spent r n) = ap (λ (p : Held Entry Basis). p.drawn) n
+answered_worn {K = K} desk ask reply old new at e (spent r n) = ap (λ (p : DeskPass K). p.drawn) n
 
 -- where a look was answered Worn, all turns are drawn
-pub looks_worn : (desk : Lock Basis) (reply : Reply) (old new : Held Entry Basis) (at : Moment) → reply ≡ replies.Refused at lacks.Worn → Looks desk reply old new → new.drawn ≡ 2 ^ 62
+pub looks_worn : {K : Type 0} (desk : DeskLock K) (reply : Reply) (old new : DeskPass K) (at : Moment) → reply ≡ replies.Refused at lacks.Worn → Looks desk reply old new → new.drawn ≡ 2 ^ 62
 looks_worn desk reply old new at e (stepped fine same a) = answered_worn desk asks.Step reply old new at e a
 looks_worn desk reply old new at e (gave_up _ between same a same' b) = answered_worn desk asks.Abandon reply between new at e b
 
 -- and so it is of one that was cut off
-pub cut_watches : (desk : Lock Basis) (reply : Reply) (old new : Held Entry Basis) → CutOff desk reply old new → Watches old new
+pub cut_watches : {K : Type 0} (desk : DeskLock K) (reply : Reply) (old new : DeskPass K) → CutOff desk reply old new → Watches old new
 cut_watches desk reply old new (unstepped same t) = step_watches desk reply old new same (took t)
 cut_watches desk reply old new (unabandoned at between same a same' t) =
     Watches-trans old between new (step_watches desk (replies.Refused at lacks.NoMemory) old between same a) (abandon_watches desk reply between new same' (took t))

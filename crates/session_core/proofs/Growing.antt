@@ -1,11 +1,11 @@
 -- What a turn adds to what a pass has seen and made.
 use Rattle.std.proofs.Common.{◌≡◌, ℕ, List, [], ◌++◌, All, sym, refl, ap, ◌∙◌, subst, append_assoc, append-nil}
-use Rattle.desk_core.specs.declared.object.Basis.{Basis}
 use Rattle.std.proofs.lemmas.List.Elements.{All-nil, All-cons, All-append}
 use Rattle.base_core.specs.declared.name.User.{User}
 use Rattle.reader_core.specs.declared.statement.Statement.{Statement}
 use Rattle.turnstile.specs.Logs.{StartsWith}
-use Rattle.turnstile.specs.Passes.{Lock, Held, IsSamePass, mine}
+use Rattle.turnstile.specs.Passes.{IsSamePass, mine}
+use Rattle.desk_core.specs.Guarded.{DeskLock, DeskPass}
 use Rattle.system_core.specs.declared.machine.event.Entry.{Entry}
 use Rattle.system_core.specs.declared.machine.event.Event.TheVariants as events
 use Rattle.system_core.specs.declared.machine.event.Reply.{Reply}
@@ -21,7 +21,7 @@ use Rattle.session_core.specs.Gains.{Gains, Watches}
 starts : (old a b es : List Entry) → StartsWith a old → b ≡ a ++ es → StartsWith b old
 starts old a b es s e = (s.0 ++ es, e ∙ (ap (λ z. z ++ es) s.1 ∙ append_assoc old s.0 es))
 
-pub Gains-refl : (user : User) (pass : Held Entry Basis) → Gains user pass pass
+pub Gains-refl : {K : Type 0} (user : User) (pass : DeskPass K) → Gains user pass pass
 Gains-refl user pass = record {
   same = (refl, refl);
   seen = ([], sym (append-nil pass.seen));
@@ -30,10 +30,10 @@ Gains-refl user pass = record {
   bear = All-nil (λ (e : Entry). e.user ≡ user);
 }
 
-pub Watches-refl : (pass : Held Entry Basis) → Watches pass pass
+pub Watches-refl : {K : Type 0} (pass : DeskPass K) → Watches pass pass
 Watches-refl pass = record { same = (refl, refl); seen = ([], sym (append-nil pass.seen)); mine_is = refl }
 
-seen_grows : (desk : Lock Basis) (ask : Ask) (reply : Reply) (old new : Held Entry Basis) → (t : Took desk ask reply old new) → StartsWith new.seen old.seen
+seen_grows : {K : Type 0} (desk : DeskLock K) (ask : Ask) (reply : Reply) (old new : DeskPass K) → (t : Took desk ask reply old new) → StartsWith new.seen old.seen
 seen_grows desk ask reply old new t =
     let m = step_enters t.before t.after (event_of old.number ask) reply t.step in
     subst (λ z. StartsWith z old.seen) (sym t.seen_after) (starts old.seen t.before.journal t.after.journal (entered (event_of old.number ask) reply) t.seen_before m.journal)
@@ -52,7 +52,7 @@ entered_bears pass user asked (replies.Stepped number left) = All-nil (λ (e : E
 entered_bears pass user asked (replies.Finished number) = All-nil (λ (e : Entry). e.user ≡ user)
 entered_bears pass user asked (replies.Abandoned number) = All-nil (λ (e : Entry). e.user ≡ user)
 
-pub said_gains : (desk : Lock Basis) (user : User) (asked : Statement) (reply : Reply) (old new : Held Entry Basis) → IsSamePass old new → Answered desk (asks.Say (record { user = user; statement = asked })) reply old new → Gains user old new
+pub said_gains : {K : Type 0} (desk : DeskLock K) (user : User) (asked : Statement) (reply : Reply) (old new : DeskPass K) → IsSamePass old new → Answered desk (asks.Say (record { user = user; statement = asked })) reply old new → Gains user old new
 said_gains desk user asked reply old new same (took t) = record {
   same = same;
   seen = seen_grows desk (asks.Say (record { user = user; statement = asked })) reply old new t;
@@ -68,7 +68,7 @@ said_gains desk user asked reply old new same (spent r e) = subst (λ z. Gains u
   bear = All-nil (λ (e : Entry). e.user ≡ user);
 })
 
-watched : (desk : Lock Basis) (ask : Ask) (reply : Reply) (old new : Held Entry Basis) → entered (event_of old.number ask) reply ≡ [] → IsSamePass old new → Answered desk ask reply old new → Watches old new
+watched : {K : Type 0} (desk : DeskLock K) (ask : Ask) (reply : Reply) (old new : DeskPass K) → entered (event_of old.number ask) reply ≡ [] → IsSamePass old new → Answered desk ask reply old new → Watches old new
 watched desk ask reply old new none same (took t) = record {
   same = same;
   seen = seen_grows desk ask reply old new t;
@@ -77,23 +77,23 @@ watched desk ask reply old new none same (took t) = record {
 watched desk ask reply old new none same (spent r e) =
     subst (λ z. Watches old z) (sym e) (record { same = (refl, refl); seen = ([], sym (append-nil old.seen)); mine_is = refl })
 
-pub step_watches : (desk : Lock Basis) (reply : Reply) (old new : Held Entry Basis) → IsSamePass old new → Answered desk asks.Step reply old new → Watches old new
+pub step_watches : {K : Type 0} (desk : DeskLock K) (reply : Reply) (old new : DeskPass K) → IsSamePass old new → Answered desk asks.Step reply old new → Watches old new
 step_watches desk reply old new = watched desk asks.Step reply old new refl
 
-pub abandon_watches : (desk : Lock Basis) (reply : Reply) (old new : Held Entry Basis) → IsSamePass old new → Answered desk asks.Abandon reply old new → Watches old new
+pub abandon_watches : {K : Type 0} (desk : DeskLock K) (reply : Reply) (old new : DeskPass K) → IsSamePass old new → Answered desk asks.Abandon reply old new → Watches old new
 abandon_watches desk reply old new = watched desk asks.Abandon reply old new refl
 
 starts_through : (a b c : List Entry) → StartsWith b a → StartsWith c b → StartsWith c a
 starts_through a b c p q = starts a b c q.0 p q.1
 
-pub Watches-trans : (a b c : Held Entry Basis) → Watches a b → Watches b c → Watches a c
+pub Watches-trans : {K : Type 0} (a b c : DeskPass K) → Watches a b → Watches b c → Watches a c
 Watches-trans a b c p q = record {
   same = (q.same.0 ∙ p.same.0, q.same.1 ∙ p.same.1);
   seen = starts_through a.seen b.seen c.seen p.seen q.seen;
   mine_is = q.mine_is ∙ p.mine_is;
 }
 
-pub Gains-trans : (user : User) (a b c : Held Entry Basis) → Gains user a b → Gains user b c → Gains user a c
+pub Gains-trans : {K : Type 0} (user : User) (a b c : DeskPass K) → Gains user a b → Gains user b c → Gains user a c
 Gains-trans user a b c p q = record {
   same = (q.same.0 ∙ p.same.0, q.same.1 ∙ p.same.1);
   seen = starts_through a.seen b.seen c.seen p.seen q.seen;

@@ -1,60 +1,60 @@
 -- Sessions, line by line.
 use Rattle.std.proofs.Common.{◌≡◌, ℕ, Bool, true, false, List, Option, Some, None, sym, ap, ◌∙◌, subst, refl}
-use Rattle.desk_core.specs.declared.object.Basis.{Basis}
 use Rattle.std.specs.Prelude.{Result}
 use Rattle.std.proofs.lemmas.Bool.{false≢true}
 use Rattle.desk_core.specs.Turns.{took}
 use Rattle.base_core.specs.declared.name.User.{User}
+use Rattle.base_core.specs.declared.value.Moment.{Moment}
 use Rattle.lines_core.specs.Serving.{Ends}
 use Rattle.lines_core.specs.declared.serving.SessionFault.{SessionFault}
 use Rattle.lines_core.proofs.Seen.{ends-seen}
-use Rattle.turnstile.specs.Passes.{Lock, Held, IsSamePass}
-use Rattle.system_core.specs.declared.machine.event.Entry.{Entry}
+use Rattle.turnstile.specs.Passes.{IsSamePass}
+use Rattle.desk_core.specs.Guarded.{DeskLock, DeskPass}
 use Rattle.session_core.specs.Gains.{Gains}
 use Rattle.session_core.specs.Session.{Progress, progress, opened, AnswersUser, faulty, said, unread, Withholds, AnswersSession, ended, greeted, dismissed, served, withheld, is_over, GainsOf}
 use Rattle.session_core.proofs.Growing.{said_gains, Gains-refl, Gains-trans}
 
-answered_gains : (desk : Lock Basis) (user : User) (line text : List ℕ) (old new : Held Entry Basis) → AnswersUser desk user line old text new → Gains user old new
-answered_gains desk user line _ old _ (faulty f) = Gains-refl user old
-answered_gains desk user line text old new (said asked reply spelled same a tells) = said_gains desk user asked reply old new same a
-answered_gains desk user line _ old _ (unread s) = Gains-refl user old
+answered_gains : {K : Type 0} (desk : DeskLock K) (user : User) (line text : List ℕ) (at : Option Moment) (old new : DeskPass K) → AnswersUser desk user line old text at new → Gains user old new
+answered_gains desk user line _ _ old _ (faulty f) = Gains-refl user old
+answered_gains desk user line text _ old new (said asked reply spelled same a tells) = said_gains desk user asked reply old new same a
+answered_gains desk user line _ _ old _ (unread s) = Gains-refl user old
 
-gained_served : (desk : Lock Basis) (start : Held Entry Basis) (user : User) (found : Option User) (line text : List ℕ) (old new : Held Entry Basis) → found ≡ Some user → GainsOf found start old → AnswersUser desk user line old text new → GainsOf found start new
-gained_served desk start user found line text old new e m s =
-    subst (λ z. GainsOf z start new) (sym e) (Gains-trans user start old new (subst (λ z. GainsOf z start old) e m) (answered_gains desk user line text old new s))
+gained_served : {K : Type 0} (desk : DeskLock K) (start : DeskPass K) (user : User) (found : Option User) (line text : List ℕ) (at : Option Moment) (old new : DeskPass K) → found ≡ Some user → GainsOf found start old → AnswersUser desk user line old text at new → GainsOf found start new
+gained_served desk start user found line text at old new e m s =
+    subst (λ z. GainsOf z start new) (sym e) (Gains-trans user start old new (subst (λ z. GainsOf z start old) e m) (answered_gains desk user line text at old new s))
 
-gained_withheld : (desk : Lock Basis) (start : Held Entry Basis) (user : User) (found : Option User) (line : List ℕ) (old new : Held Entry Basis) → found ≡ Some user → GainsOf found start old → Withholds desk user line old new → GainsOf found start new
+gained_withheld : {K : Type 0} (desk : DeskLock K) (start : DeskPass K) (user : User) (found : Option User) (line : List ℕ) (old new : DeskPass K) → found ≡ Some user → GainsOf found start old → Withholds desk user line old new → GainsOf found start new
 gained_withheld desk start user found line old new e m w =
     subst (λ z. GainsOf z start new) (sym e) (Gains-trans user start old new (subst (λ z. GainsOf z start old) e m) (said_gains desk user w.asked w.reply old new w.same (took w.took)))
 
-gained_greeted : (start : Held Entry Basis) (user : User) (found : Option User) (old : Held Entry Basis) → found ≡ None → GainsOf found start old → Gains user start old
+gained_greeted : {K : Type 0} (start : DeskPass K) (user : User) (found : Option User) (old : DeskPass K) → found ≡ None → GainsOf found start old → Gains user start old
 gained_greeted start user found old e m =
     let same : old ≡ start = subst (λ z. GainsOf z start old) e m in
     subst (λ z. Gains user start z) (sym same) (Gains-refl user start)
 
-gained_step : (desk : Lock Basis) (start : Held Entry Basis) (old new : Progress) (line text : List ℕ) → GainsOf old.user start old.pass → AnswersSession desk old line text new → GainsOf new.user start new.pass
+gained_step : {K : Type 0} (desk : DeskLock K) (start : DeskPass K) (old new : Progress K) (line text : List ℕ) → GainsOf old.user start old.pass → AnswersSession desk old line text new → GainsOf new.user start new.pass
 gained_step desk start old _ line _ m (ended o) = m
 gained_step desk start old _ line _ m (greeted {user} o n e) = gained_greeted start user old.user old.pass n m
 gained_step desk start old _ line _ m (dismissed o n e) = m
-gained_step desk start old _ line text m (served {pass = pass} user o n s) = gained_served desk start user old.user line text old.pass pass n m s
+gained_step desk start old _ line text m (served {at = at} {pass = pass} user o n s) = gained_served desk start user old.user line text at old.pass pass n m s
 gained_step desk start old _ line _ m (withheld {pass = pass} user o n w) = gained_withheld desk start user old.user line old.pass pass n m w
 
 -- a session of which a reply was withheld is over
-over_step : (desk : Lock Basis) (old new : Progress) (line text : List ℕ) → (old.unkept ≡ true → old.over ≡ true) → AnswersSession desk old line text new → new.unkept ≡ true → new.over ≡ true
+over_step : {K : Type 0} (desk : DeskLock K) (old new : Progress K) (line text : List ℕ) → (old.unkept ≡ true → old.over ≡ true) → AnswersSession desk old line text new → new.unkept ≡ true → new.over ≡ true
 over_step desk old _ line _ m (ended o) = m
 over_step desk old _ line _ m (greeted {user} o n e) = m
 over_step desk old _ line _ m (dismissed o n e) = λ _. refl
 over_step desk old _ line text m (served {pass = pass} user o n s) = m
 over_step desk old _ line _ m (withheld {pass = pass} user o n w) = λ _. refl
 
-pub same_pass : (found : Option User) (old new : Held Entry Basis) → GainsOf found old new → IsSamePass old new
+pub same_pass : {K : Type 0} (found : Option User) (old new : DeskPass K) → GainsOf found old new → IsSamePass old new
 same_pass (Some user) old new m = m.same
 same_pass None old new m = (ap (λ z. z.lock) m, ap (λ z. z.number) m)
 
 -- what a session's server told of its fields, told of its progress
-module _ {X N D : Type 0} (user : X → Option User) (over unkept : X → Bool) (answered : X → ℕ) (pass : X → Held Entry Basis) (name : X → N) (desk : X → D) (lock : D → Lock Basis) where
-  abbrev pub progress_of : X → Progress
-  progress_of x = progress (user x) (over x) (unkept x) (answered x) (pass x)
+module _ {K X N D : Type 0} (user : X → Option User) (over unkept : X → Bool) (answered : X → ℕ) (moment : X → Option Moment) (pass : X → DeskPass K) (name : X → N) (desk : X → D) (lock : D → DeskLock K) where
+  abbrev pub progress_of : X → Progress K
+  progress_of x = progress (user x) (over x) (unkept x) (answered x) (moment x) (pass x)
 
   abbrev pub Served : X → List ℕ → List ℕ → X → Type 0
   Served old line text new = AnswersSession (lock (desk old)) (progress_of old) line text (progress_of new) × (name new ≡ name old) × (desk new ≡ desk old)
@@ -68,10 +68,10 @@ module _ {X N D : Type 0} (user : X → Option User) (over unkept : X → Bool) 
       (t, (s.1 ∙ k.0, s.2 ∙ k.1, gained_step (lock (desk start)) (pass start) (progress_of x) (progress_of y) line text k.2 t, over_step (lock (desk start)) (progress_of x) (progress_of y) line text k.3 t))
 
   pub session_ends : (r : Result (Unit {0}) SessionFault) (x y : X) (left left' taken taken' : Option (List ℕ))
-      → user x ≡ None → over x ≡ false → unkept x ≡ false → answered x ≡ 0
+      → user x ≡ None → over x ≡ false → unkept x ≡ false → answered x ≡ 0 → moment x ≡ None
       → Ends Served over r x y left left' taken taken'
       → Ends (AnswersSession (lock (desk x))) is_over r (opened (pass x)) (progress_of y) left left' taken taken' × (name y ≡ name x) × GainsOf (user y) (pass x) (pass y) × (unkept y ≡ true → over y ≡ true)
-  session_ends r x y left left' taken taken' u o k n e =
-      let start : progress_of x ≡ opened (pass x) = (λ i. progress (u i) (o i) (k i) (n i) (pass x)) in
+  session_ends r x y left left' taken taken' u o k n m e =
+      let start : progress_of x ≡ opened (pass x) = (λ i. progress (u i) (o i) (k i) (n i) (m i) (pass x)) in
       let all = ends-seen Served (AnswersSession (lock (desk x))) progress_of (Kept x) (served_step x) over is_over (λ z. refl) r x y left left' taken taken' (refl, refl, subst (λ z. GainsOf z (pass x) (pass x)) (sym u) refl, λ broken. absurd (false≢true (sym k ∙ broken))) e in
       (subst (λ z. Ends (AnswersSession (lock (desk x))) is_over r z (progress_of y) left left' taken taken') start all.0, all.1.0, all.1.2, all.1.3)

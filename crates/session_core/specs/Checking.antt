@@ -1,10 +1,9 @@
 -- What the checkpointer does through its pass.
 use Rattle.std.specs.Prelude.{◌≡◌, Bool, true, false}
-use Rattle.desk_core.specs.declared.object.Basis.{Basis}
 use Rattle.base_core.specs.declared.value.Moment.{Moment}
 use Rattle.base_core.specs.declared.lack.Lack.TheVariants as lacks
-use Rattle.turnstile.specs.Passes.{Lock, Held, IsSamePass}
-use Rattle.system_core.specs.declared.machine.event.Entry.{Entry}
+use Rattle.turnstile.specs.Passes.{IsSamePass}
+use Rattle.desk_core.specs.Guarded.{DeskLock, DeskPass}
 use Rattle.system_core.specs.declared.machine.event.Reply.{Reply}
 use Rattle.system_core.specs.declared.machine.event.Reply.TheVariants as replies
 use Rattle.desk_core.specs.declared.object.Ask.TheVariants as asks
@@ -17,12 +16,12 @@ is_memory_refused _ = false
 
 -- One look of the checkpointer: a step of the active checkpoint. Where the step was refused memory,
 -- and only there, the checkpoint is given up in the next turn.
-pub data Looks (desk : Lock Basis) (reply : Reply) (old new : Held Entry Basis) : Type 0 where
+pub data Looks {K : Type 0} (desk : DeskLock K) (reply : Reply) (old new : DeskPass K) : Type 0 where
   stepped : is_memory_refused reply ≡ false
       → IsSamePass old new
       → Answered desk asks.Step reply old new
       → Looks desk reply old new
-  gave_up : (at : Moment) (between : Held Entry Basis)
+  gave_up : (at : Moment) (between : DeskPass K)
       → IsSamePass old between
       → Answered desk asks.Step (replies.Refused at lacks.NoMemory) old between
       → IsSamePass between new
@@ -30,18 +29,18 @@ pub data Looks (desk : Lock Basis) (reply : Reply) (old new : Held Entry Basis) 
       → Looks desk reply old new
 
 -- looks, one after another, from what the pass knew to what it knows
-pub data Checks (desk : Lock Basis) (old : Held Entry Basis) : Held Entry Basis → Type 0 where
+pub data Checks {K : Type 0} (desk : DeskLock K) (old : DeskPass K) : DeskPass K → Type 0 where
   unchecked : Checks desk old old
-  checked : (reply : Reply) (between new : Held Entry Basis)
+  checked : (reply : Reply) (between new : DeskPass K)
       → Checks desk old between
       → Looks desk reply between new
       → Checks desk old new
 
 -- A look of which a reply was withheld: that of the step; or that of the turn in which the checkpoint
 -- was to be given up.
-pub data CutOff (desk : Lock Basis) (reply : Reply) (old new : Held Entry Basis) : Type 0 where
+pub data CutOff {K : Type 0} (desk : DeskLock K) (reply : Reply) (old new : DeskPass K) : Type 0 where
   unstepped : IsSamePass old new → Took desk asks.Step reply old new → CutOff desk reply old new
-  unabandoned : (at : Moment) (between : Held Entry Basis)
+  unabandoned : (at : Moment) (between : DeskPass K)
       → IsSamePass old between
       → Answered desk asks.Step (replies.Refused at lacks.NoMemory) old between
       → IsSamePass between new
@@ -49,9 +48,9 @@ pub data CutOff (desk : Lock Basis) (reply : Reply) (old new : Held Entry Basis)
       → CutOff desk reply old new
 
 -- looks, and behind them perhaps one of which a reply was withheld
-pub data HasChecked (desk : Lock Basis) (old new : Held Entry Basis) : Type 0 where
+pub data HasChecked {K : Type 0} (desk : DeskLock K) (old new : DeskPass K) : Type 0 where
   told : Checks desk old new → HasChecked desk old new
-  cut_off : (reply : Reply) (between : Held Entry Basis)
+  cut_off : (reply : Reply) (between : DeskPass K)
       → Checks desk old between
       → CutOff desk reply between new
       → HasChecked desk old new

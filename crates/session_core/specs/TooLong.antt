@@ -1,17 +1,16 @@
 -- Lines that are too long are answered alike.
-use Rattle.std.specs.Prelude.{◌≡◌, ℕ, ◌<◌, List, length, Err}
-use Rattle.desk_core.specs.declared.object.Basis.{Basis}
+use Rattle.std.specs.Prelude.{◌≡◌, ℕ, ◌<◌, List, length, Option, Err}
 use Rattle.std.proofs.Common.{arith, sym, ◌∙◌}
 use Rattle.std.proofs.lemmas.Bool.Decides.{nat_tests}
 use Rattle.base_core.specs.declared.name.User.{User}
+use Rattle.base_core.specs.declared.value.Moment.{Moment}
 use Rattle.lexer_core.specs.declared.fault.Code.{Code}
 use Rattle.lexer_core.specs.declared.fault.Code.TheVariants as faults
 use Rattle.lexer_core.specs.declared.lexer.TheConstants.{MAX_LINE}
 use Rattle.lines_core.specs.declared.line.TheConstants.{LONGEST_LINE}
 use Rattle.lexer_core.specs.Lexing.{long_line, behind}
 use Rattle.reader_core.specs.Language.{IsReadFault, lexical, nothing, ungrammatical}
-use Rattle.turnstile.specs.Passes.{Lock, Held}
-use Rattle.system_core.specs.declared.machine.event.Entry.{Entry}
+use Rattle.desk_core.specs.Guarded.{DeskLock, DeskPass}
 use Rattle.session_core.specs.Greeting.{greeting}
 use Rattle.session_core.specs.Session.{Progress, AnswersUser, faulty, said, unread, AnswersSession, ended, greeted, dismissed, served, withheld}
 
@@ -28,17 +27,17 @@ fault-too_long line other _ _ h k (lexical (behind short lexed fails)) = absurd 
 fault-too_long line other _ _ h k (nothing are) = let s = are.short in absurd (omega (arith, h, s))
 fault-too_long line other _ _ h k (ungrammatical are fault) = let s = are.short in absurd (omega (arith, h, s))
 
-AnswersUser-too_long : (desk : Lock Basis) (user : User) (old new : Held Entry Basis) (line other text : List ℕ)
+AnswersUser-too_long : {K : Type 0} (desk : DeskLock K) (user : User) (old new : DeskPass K) (line other text : List ℕ) (at : Option Moment)
     → MAX_LINE < length line
     → MAX_LINE < length other
-    → AnswersUser desk user line old text new
-    → AnswersUser desk user other old text new
-AnswersUser-too_long desk user old _ line other _ h k (faulty {code} {offset} f) = faulty (fault-too_long line other code offset h k f)
-AnswersUser-too_long desk user old new line other text h k (said asked reply spelled same a tells) =
+    → AnswersUser desk user line old text at new
+    → AnswersUser desk user other old text at new
+AnswersUser-too_long desk user old _ line other _ _ h k (faulty {code} {offset} f) = faulty (fault-too_long line other code offset h k f)
+AnswersUser-too_long desk user old new line other text _ h k (said asked reply spelled same a tells) =
     let s = spelled.says.short in absurd (omega (arith, h, s))
-AnswersUser-too_long desk user old _ line other _ h k (unread s) = absurd (omega (arith, h, s))
+AnswersUser-too_long desk user old _ line other _ _ h k (unread s) = absurd (omega (arith, h, s))
 
-pub AnswersSession-too_long : (desk : Lock Basis) (old new : Progress) (line other text : List ℕ)
+pub AnswersSession-too_long : {K : Type 0} (desk : DeskLock K) (old new : Progress K) (line other text : List ℕ)
     → LONGEST_LINE < length line
     → LONGEST_LINE < length other
     → AnswersSession desk old line text new
@@ -47,7 +46,7 @@ AnswersSession-too_long desk old _ line other _ h k (ended o) = ended o
 AnswersSession-too_long desk old _ line other _ h k (greeted o n e) = let l = greeting-too_long line (omega (arith, h)) in cc
 AnswersSession-too_long desk old _ line other _ h k (dismissed o n e) =
     dismissed o n (greeting-too_long other (omega (arith, k)) ∙ sym (greeting-too_long line (omega (arith, h))) ∙ e)
-AnswersSession-too_long desk old _ line other _ h k (served {text} {pass} user o u a) =
-    served user o u (AnswersUser-too_long desk user old.pass pass line other text (omega (arith, h)) (omega (arith, k)) a)
+AnswersSession-too_long desk old _ line other _ h k (served {text} {at} {pass} user o u a) =
+    served user o u (AnswersUser-too_long desk user old.pass pass line other text at (omega (arith, h)) (omega (arith, k)) a)
 AnswersSession-too_long desk old _ line other _ h k (withheld {pass} user o u w) =
     let s = w.spelled.says.short in absurd (omega (arith, h, s))

@@ -5,7 +5,8 @@
 //! the text of the reply and, of an export, its records; or the text of the line's one fault. What
 //! was written is such answers, one after another; each turn begins where the one before left what
 //! the pass has seen; and the entries that the pass gains bear that user (`specs/Session.antt`).
-//! [`serve_line`] is one such line.
+//! [`serve_line`] is one such line. The [`Summary`] that comes of it says whose session it was, how
+//! many lines came after the first, and the moment of the last reply that bore one.
 //!
 //! A reply that the desk withholds, since a change could not be kept, is not written, and the
 //! session is over: it ends with [`SessionEnd::Journal`].
@@ -15,7 +16,7 @@
 //!
 //! ```text
 //! let (desk, mut passes) = Desk::build(alloc, System::new(alloc, 16)?, 16, NoKeeper, 2)?;
-//! serve_session(&rt, alloc, &desk, &mut pass, &mut reader, &mut writer, &NoGate)?;
+//! serve_session(&rt, alloc, &desk, &mut pass, &mut reader, &mut writer, &NoGate);
 //! // USER ann                           welcome ann
 //! // CREATE TABLE pay (wage INTEGER)    done @1
 //! ```
@@ -27,7 +28,7 @@
 //! from the image that its ticket shares, outside every turn, so that a client that reads slowly
 //! holds nobody up but itself. A [`Gate`](export_core::Gate) is called before each of them, and
 //! between the steps of a checkpoint, so that a test can hold them there. It is told too of the
-//! user whom a session names, and of each line that was answered, for a log.
+//! user whom a session names, and of each line that was answered, so that it can let others run.
 //!
 //! # Cost
 //!
@@ -41,9 +42,11 @@ mod greeting;
 mod line;
 mod session;
 mod session_end;
+mod summary;
 
 pub use checkpointing::{CheckFault, checkpointer};
 pub use line::serve_line;
 pub use lines_core::SessionFault;
 pub use session::serve_session;
 pub use session_end::{SessionEnd, end_name};
+pub use summary::Summary;

@@ -3,7 +3,7 @@ ghost use Rattle.std.specs.Prelude.{◌≡◌, ◌≤◌, Some, Ok, Err, true, f
 ghost use Rattle.lexer_core.specs.declared.lexer.TheConstants.{MAX_LINE};
 ghost use Rattle.base_core.specs.Streams.{Writes, WritesFrontOf};
 ghost use Rattle.turnstile.specs.Passes.{IsSamePass};
-ghost use Rattle.session_core.specs.Session.{AnswersUser, Withholds};
+ghost use Rattle.session_core.specs.Session.{moment_of, last_moment, AnswersNoted, Withholds};
 
 use base_core::{Broken, Moment, Sink, User};
 use desk_core::{Desk, Pass, Unkept};
@@ -17,7 +17,9 @@ use std::sync::Wait;
 use system_core::Reply;
 
 /// The moment that a reply bears.
-fn moment_of(reply: &Reply) -> Option<Moment> {
+fn moment_of(reply: &Reply) -> Option<Moment>
+    ensures { result ≡ moment_of reply.now }
+{
     match reply {
         Reply::Done { at }
         | Reply::Rows { at, .. }
@@ -26,7 +28,18 @@ fn moment_of(reply: &Reply) -> Option<Moment> {
         | Reply::Denied { at, .. }
         | Reply::Refused { at, .. } => Some(*at),
         Reply::Export(ticket) => Some(ticket.at()),
-        _ => None,
+        Reply::Idle | Reply::Stepped { .. } | Reply::Finished { .. } | Reply::Abandoned { .. } =>
+            None,
+    }
+}
+
+/// The last moment that was told, behind a reply that bears this one, if it bears one.
+fn last_moment(at: Option<Moment>, before: Option<Moment>) -> Option<Moment>
+    ensures { result ≡ last_moment at before }
+{
+    match at {
+        Some(at) => Some(at),
+        None => before,
     }
 }
 
@@ -44,10 +57,11 @@ fn tell<G: Gate>(
 }
 
 /// One line of a user, answered through a pass of the desk: what it says is asked in a turn, and
-/// the reply is written after it, with the records of an export. Then the gate is told. `Unkept`
-/// where the desk withholds the reply: then nothing is written. `Broken` exactly where the writer
-/// failed: then a front of an answer was written. What the vector of tokens and the buffer have
-/// before and behind the call means nothing.
+/// the reply is written after it, with the records of an export. Then the gate is told. The moment is
+/// that of the last reply that bore one, before this line and then with it. `Unkept` where the desk
+/// withholds the reply: then nothing is written. `Broken` exactly where the writer failed: then a
+/// front of an answer was written. What the vector of tokens and the buffer have before and behind
+/// the call means nothing.
 pub fn serve_line<K: Keeper + Drop, R: Wait, W: Sink, G: Gate>(
     rt: &R,
     alloc: Global,
@@ -59,6 +73,7 @@ pub fn serve_line<K: Keeper + Drop, R: Wait, W: Sink, G: Gate>(
     buffer: &mut ReplyBuffer,
     writer: &mut W,
     gate: &G,
+    moment: &mut Option<Moment>,
 ) -> Result<Result<(), Unkept>, Broken>
     requires pass { pass.old.lock ≡ Some desk.now }
     requires sink { W.failed writer.old ≡ false }
@@ -66,12 +81,13 @@ pub fn serve_line<K: Keeper + Drop, R: Wait, W: Sink, G: Gate>(
     ensures failed { MatchResult result (λ _. W.failed writer.new ≡ false)
         (λ _. W.failed writer.new ≡ true) }
     ensures ok { IfOk result (λ told. OnOk told
-        (Writes (λ text. AnswersUser desk.now user line.now pass.old text pass.new)
+        (Writes (AnswersNoted desk.now user line.now pass.old moment.old pass.new moment.new)
         (W.taken writer.old) (W.taken writer.new))) }
     ensures withheld { IfOk result (λ told. OnErr told
         ((writer.new ≡ writer.old) × Withholds desk.now user line.now pass.old pass.new)) }
+    ensures unnoted { IfOk result (λ told. OnErr told (moment.new ≡ moment.old)) }
     ensures err { OnErr result
-        (WritesFrontOf (λ text. AnswersUser desk.now user line.now pass.old text pass.new)
+        (WritesFrontOf (AnswersNoted desk.now user line.now pass.old moment.old pass.new moment.new)
         (W.taken writer.old) (W.taken writer.new)) }
 {
     if line.len() > MAX_LINE {
@@ -85,6 +101,7 @@ pub fn serve_line<K: Keeper + Drop, R: Wait, W: Sink, G: Gate>(
                 Err(Unkept) => return Ok(Err(Unkept)),
             };
             let at = moment_of(&reply);
+            *moment = last_moment(at, *moment);
             let written = write_reply(buffer, reply, writer, gate);
             tell(gate, at, written)
         }

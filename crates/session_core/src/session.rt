@@ -3,12 +3,13 @@ ghost use Rattle.std.specs.Prelude.{◌≡◌, ◌↔◌, Some, None, true, fals
 ghost use Rattle.std.specs.Io.KnownBytes.{Appends};
 ghost use Rattle.base_core.specs.Streams.{Writes, WritesFront, WritesFrontOf};
 ghost use Rattle.turnstile.specs.Passes.{IsSamePass};
-ghost use Rattle.session_core.specs.Session.{AnswersSession, progress, welcome_text, EndsSession};
+ghost use Rattle.session_core.specs.Session.{AnswersSession, progress, welcome_text, end_of, EndsSession};
 
 use crate::greeting::greeting;
 use crate::line::serve_line;
 use crate::session_end::SessionEnd;
-use base_core::{Broken, Sink, Source, User, write_all};
+use crate::summary::Summary;
+use base_core::{Broken, Moment, Sink, Source, User, write_all};
 use desk_core::{Desk, Pass, Unkept};
 use export_core::Gate;
 use journal_core::Keeper;
@@ -32,6 +33,7 @@ struct Session<'a, K: Keeper + Drop, R, G> {
     over: bool,
     unkept: bool,
     answered: u64,
+    moment: Option<Moment>,
     ghost own: { pass.now.lock ≡ Some desk.now },
 }
 
@@ -61,14 +63,16 @@ impl<'a, K: Keeper + Drop, R: Wait, G: Gate> Session<'a, K, R, G> {
         ensures ok { OnOk result (Writes
             (λ text. AnswersSession self.old.desk.now
             (progress self.old.user self.old.over self.old.unkept self.old.answered
-            self.old.pass.now) line.now text
-            (progress self.new.user self.new.over self.new.unkept self.new.answered self.new.pass.now))
+            self.old.moment self.old.pass.now) line.now text
+            (progress self.new.user self.new.over self.new.unkept self.new.answered
+            self.new.moment self.new.pass.now))
             (W.taken writer.old) (W.taken writer.new)) }
         ensures err { OnErr result (WritesFrontOf
             (λ text. AnswersSession self.old.desk.now
             (progress self.old.user self.old.over self.old.unkept self.old.answered
-            self.old.pass.now) line.now text
-            (progress self.new.user self.new.over self.new.unkept self.new.answered self.new.pass.now))
+            self.old.moment self.old.pass.now) line.now text
+            (progress self.new.user self.new.over self.new.unkept self.new.answered
+            self.new.moment self.new.pass.now))
             (W.taken writer.old) (W.taken writer.new)) }
     {
         match greeting(line) {
@@ -95,14 +99,16 @@ impl<'a, K: Keeper + Drop, R: Wait, G: Gate> Session<'a, K, R, G> {
         ensures ok { OnOk result (Writes
             (λ text. AnswersSession self.old.desk.now
             (progress self.old.user self.old.over self.old.unkept self.old.answered
-            self.old.pass.now) line.now text
-            (progress self.new.user self.new.over self.new.unkept self.new.answered self.new.pass.now))
+            self.old.moment self.old.pass.now) line.now text
+            (progress self.new.user self.new.over self.new.unkept self.new.answered
+            self.new.moment self.new.pass.now))
             (W.taken writer.old) (W.taken writer.new)) }
         ensures err { OnErr result (WritesFrontOf
             (λ text. AnswersSession self.old.desk.now
             (progress self.old.user self.old.over self.old.unkept self.old.answered
-            self.old.pass.now) line.now text
-            (progress self.new.user self.new.over self.new.unkept self.new.answered self.new.pass.now))
+            self.old.moment self.old.pass.now) line.now text
+            (progress self.new.user self.new.over self.new.unkept self.new.answered
+            self.new.moment self.new.pass.now))
             (W.taken writer.old) (W.taken writer.new)) }
     {
         self.answered = self.answered.saturating_add(1);
@@ -117,12 +123,32 @@ impl<'a, K: Keeper + Drop, R: Wait, G: Gate> Session<'a, K, R, G> {
             self.buffer,
             writer,
             self.gate,
+            &mut self.moment,
         )?;
         if let Err(Unkept) = told {
             self.over = true;
             self.unkept = true;
         }
         Ok(())
+    }
+}
+
+impl<'a, K: Keeper + Drop, R: Wait, G: Gate> Session<'a, K, R, G> {
+    /// What is told of the session, if the answering of its lines ended so.
+    fn summary(&self, served: Result<(), SessionFault>) -> Summary
+        ensures { result ≡ record {
+          user = self.now.user;
+          lines = self.now.answered;
+          moment = self.now.moment;
+          ended = end_of self.now.unkept served;
+        } }
+    {
+        Summary {
+            user: self.user,
+            lines: self.answered,
+            moment: self.moment,
+            ended: end_of(self.unkept, served),
+        }
     }
 }
 
@@ -133,8 +159,8 @@ impl<'a, K: Keeper + Drop, R: Wait, G: Gate> LineServer for Session<'a, K, R, G>
 
     ghost answers = { λ old line text new.
         AnswersSession old.desk.now
-        (progress old.user old.over old.unkept old.answered old.pass.now) line text
-        (progress new.user new.over new.unkept new.answered new.pass.now)
+        (progress old.user old.over old.unkept old.answered old.moment old.pass.now) line text
+        (progress new.user new.over new.unkept new.answered new.moment new.pass.now)
         × (new.pass.ghost_name ≡ old.pass.ghost_name)
         × (new.desk ≡ old.desk) };
 
@@ -158,14 +184,28 @@ impl<'a, K: Keeper + Drop, R: Wait, G: Gate> LineServer for Session<'a, K, R, G>
         (AnswersSession-too_long _ _ _ line other text h k a.0, a.1, a.2) };
 }
 
+/// How a session ended of which a reply was withheld or not, and whose lines were answered so.
+fn end_of(unkept: bool, served: Result<(), SessionFault>) -> Result<(), SessionEnd>
+    ensures { result ≡ end_of unkept served }
+{
+    if unkept {
+        return Err(SessionEnd::Journal);
+    }
+    match served {
+        Ok(()) => Ok(()),
+        Err(fault) => Err(SessionEnd::Session(fault)),
+    }
+}
+
 /// A session through a pass of the desk: its first line names the user, and each later line is
-/// answered as his. It gives the number of lines that were answered after the first.
+/// answered as his. It gives what is told of it.
 ///
 /// A first line that names no user is told its fault, and ends the session. What was answered to
-/// the lines read is handed on before more is read, and at the end. `Journal` is answered exactly
-/// where the desk withholds a reply: nothing is written for that line, and the session is over. Else
-/// `Read` and `Write` are answered exactly where the reader or the writer has failed, `Bound` where
-/// 2^32 bytes were read and the end had not come, and `NoMemory` before the first read.
+/// the lines read is handed on before more is read, and at the end. It has `ended` with `Journal`
+/// exactly where the desk withholds a reply: nothing is written for that line, and the session is
+/// over. Else it has ended with `Read` and `Write` exactly where the reader or the writer has failed,
+/// with `Bound` where 2^32 bytes were read and the end had not come, and with `NoMemory` before the
+/// first read.
 pub fn serve_session<K: Keeper + Drop, R: Wait, S: Source, W: Sink, G: Gate>(
     rt: &R,
     alloc: Global,
@@ -174,14 +214,14 @@ pub fn serve_session<K: Keeper + Drop, R: Wait, S: Source, W: Sink, G: Gate>(
     reader: &mut S,
     writer: &mut W,
     gate: &G,
-) -> Result<u64, SessionEnd>
+) -> Summary
     requires pass { pass.old.lock ≡ Some desk.now }
     requires source { S.failed reader.old ≡ false }
     requires sink { W.failed writer.old ≡ false }
-    ensures read { IsErrOf result (SessionEnd.Session SessionFault.Read)
+    ensures read { IsErrOf result.ended (SessionEnd.Session SessionFault.Read)
         ↔ (S.failed reader.new ≡ true) }
-    ensures write { IsErrOf result (SessionEnd.Session SessionFault.Write)
-        ↔ ((W.failed writer.new ≡ true) × ¬ IsErrOf result SessionEnd.Journal) }
+    ensures write { IsErrOf result.ended (SessionEnd.Session SessionFault.Write)
+        ↔ ((W.failed writer.new ≡ true) × ¬ IsErrOf result.ended SessionEnd.Journal) }
     ensures flushed { W.flushed writer.old ≡ true → W.failed writer.new ≡ false
         → W.flushed writer.new ≡ true }
     ensures same { IsSamePass pass.old pass.new }
@@ -189,7 +229,12 @@ pub fn serve_session<K: Keeper + Drop, R: Wait, S: Source, W: Sink, G: Gate>(
         (S.left reader.old) (S.left reader.new) (W.taken writer.old) (W.taken writer.new) }
 {
     let Ok(mut buffer) = ReplyBuffer::new(alloc) else {
-        return Err(SessionEnd::Session(SessionFault::NoMemory));
+        return Summary {
+            user: None,
+            lines: 0,
+            moment: None,
+            ended: Err(SessionEnd::Session(SessionFault::NoMemory)),
+        };
     };
     let mut tokens = Vec::new(alloc);
     let mut session = Session {
@@ -204,14 +249,8 @@ pub fn serve_session<K: Keeper + Drop, R: Wait, S: Source, W: Sink, G: Gate>(
         over: false,
         unkept: false,
         answered: 0,
+        moment: None,
     };
     let served = serve(alloc, &mut session, reader, writer);
-    let (answered, unkept) = (session.answered, session.unkept);
-    if unkept {
-        return Err(SessionEnd::Journal);
-    }
-    match served {
-        Ok(()) => Ok(answered),
-        Err(fault) => Err(SessionEnd::Session(fault)),
-    }
+    session.summary(served)
 }

@@ -119,7 +119,8 @@ fn spread<R: Threads + Wait + Sync>(
     user: &User,
     count: u64,
 ) -> bool
-    requires { All (λ p. p.lock ≡ Some desk.now) passes.items }
+    requires crosses { IsSync R.row }
+    requires passes { All (λ p. p.lock ≡ Some desk.now) passes.items }
 {
     let Some(mut pass) = passes.pop() else {
         return true;

@@ -3,6 +3,10 @@ use Rattle.std.specs.Prelude.{Some}
 use Rattle.server_core.specs.Sessions.{Attended}
 use Rattle.server_core.proofs.worker.work.Given as goal
 
--- the pass is one of the desk, and sessions alone went through it
+-- the pass is one of the desk, sessions alone went through it, and the token counts them
 abbrev pub invariant-loop : goal.invariant-loop
-invariant-loop g l = record { own : l.pass.lock ≡ Some l.desk; served : Attended l.desk l.initial.pass l.pass }
+invariant-loop g l = record {
+  own : l.pass.lock ≡ Some l.desk;
+  part : l.token.parts ≡ 1;
+  served : Attended l.desk (record { pass = l.initial.pass; sessions = l.initial.token.amount }) (record { pass = l.pass; sessions = l.token.amount });
+}

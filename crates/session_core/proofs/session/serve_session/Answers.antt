@@ -1,64 +1,61 @@
-use Rattle.std.proofs.Common.{false, subst, sym, refl, Ok, Err}
+use Rattle.std.proofs.Common.{◌≡◌, true, false, ap, subst, sym, refl}
+use Rattle.std.specs.Prelude.{◌↔◌, IsErrOf}
 use Rattle.turnstile.specs.Passes.{IsSamePass}
-use Rattle.session_core.specs.Session.{GainsOf, progress, EndsAt}
-use Rattle.session_core.proofs.Ending.{over-or-broken, either-end, not-read}
+use Rattle.lines_core.specs.declared.serving.SessionFault.TheVariants as session_faults
+use Rattle.session_core.specs.declared.session_end.SessionEnd.TheVariants as session_ends
+use Rattle.session_core.specs.declared.summary.Summary.{Summary}
+use Rattle.session_core.specs.Session.{GainsOf, progress, EndsBy}
+use Rattle.session_core.proofs.Ending.{over-or-broken, ends-by, ends-read, ends-write}
 use Rattle.session_core.specs.declared.session.Session.{Session}
 use Rattle.session_core.proofs.Sessions.{session_ends, same_pass}
 use Rattle.session_core.proofs.session.serve_session.Goals as goal
 
-pub returns-in-Ok-served-clause-same : goal.returns-in-Ok-served-clause-same
-returns-in-Ok-served-clause-same g c =
-    let X = Session g.row.K.Denot g.row.R.Denot g.row.G.Denot in
-    let e = session_ends {X = X} (λ s. s.user) (λ s. s.over) (λ s. s.unkept) (λ s. s.answered) (λ s. s.pass.now) (λ s. s.pass.ghost_name) (λ s. s.desk) (λ d. d.now) (Ok tt) _ c.serve-served.new.server _ _ _ _ refl refl refl refl c.in-Ok-served.ensures.ends in
-    let now = c.pass-1.given.1 (sym e.1) in
-    subst (λ z. IsSamePass c.args.pass.now z) (sym now) (same_pass _ _ _ e.2)
-
-pub returns-in-Ok-served-clause-ends : goal.returns-in-Ok-served-clause-ends
-returns-in-Ok-served-clause-ends g c =
-    let X = Session g.row.K.Denot g.row.R.Denot g.row.G.Denot in
-    let y = c.serve-served.new.server in
-    let e = session_ends {X = X} (λ s. s.user) (λ s. s.over) (λ s. s.unkept) (λ s. s.answered) (λ s. s.pass.now) (λ s. s.pass.ghost_name) (λ s. s.desk) (λ d. d.now) (Ok tt) _ y _ _ _ _ refl refl refl refl c.in-Ok-served.ensures.ends in
-    let now = c.pass-1.given.1 (sym e.1) in
-    (progress y.user y.over y.unkept y.answered y.pass.now, refl, c.if-unkept.false, record { ends = e.0; pass_is = sym now; gained = subst (λ z. GainsOf y.user c.args.pass.now z) (sym now) e.2 })
-
 pub returns-clause-same : goal.returns-clause-same
 returns-clause-same g c =
     let X = Session g.row.K.Denot g.row.R.Denot g.row.G.Denot in
-    let e = session_ends {X = X} (λ s. s.user) (λ s. s.over) (λ s. s.unkept) (λ s. s.answered) (λ s. s.pass.now) (λ s. s.pass.ghost_name) (λ s. s.desk) (λ d. d.now) (Err c.in-Err.fault) _ c.serve-served.new.server _ _ _ _ refl refl refl refl c.in-Err.ensures.ends in
+    let e = session_ends {X = X} (λ s. s.user) (λ s. s.over) (λ s. s.unkept) (λ s. s.answered) (λ s. s.moment) (λ s. s.pass.now) (λ s. s.pass.ghost_name) (λ s. s.desk) (λ d. d.now) c.serve-served.result _ c.serve-served.new.server _ _ _ _ refl refl refl refl refl c.serve-served.ensures.ends in
     let now = c.pass-1.given.1 (sym e.1) in
     subst (λ z. IsSamePass c.args.pass.now z) (sym now) (same_pass _ _ _ e.2)
+
+pub returns-clause-read : goal.returns-clause-read
+returns-clause-read g c =
+    let X = Session g.row.K.Denot g.row.R.Denot g.row.G.Denot in
+    let y = c.serve-served.new.server in
+    let served = c.serve-served.result in
+    let e = session_ends {X = X} (λ s. s.user) (λ s. s.over) (λ s. s.unkept) (λ s. s.answered) (λ s. s.moment) (λ s. s.pass.now) (λ s. s.pass.ghost_name) (λ s. s.desk) (λ d. d.now) served _ y _ _ _ _ refl refl refl refl refl c.serve-served.ensures.ends in
+    let how = λ (unkept : y.unkept ≡ true). over-or-broken served (g.W.Sink.failed c.serve-served.new.writer) false y.over c.serve-served.ensures.write.1 c.serve-served.ensures.not_over refl (e.3 unkept) in
+    let same = ends-read y.unkept served how in
+    let read = c.serve-served.ensures.read in
+    let ended = ap (λ (s : Summary). s.ended) c.summary.ensures in
+    subst (λ z. IsErrOf z (session_ends.Session session_faults.Read) ↔ (g.S.Source.failed c.serve-served.new.reader ≡ true)) (sym ended)
+    (λ is. read.0 (same.0 is), λ failed. same.1 (read.1 failed))
+
+pub returns-clause-write : goal.returns-clause-write
+returns-clause-write g c =
+    let y = c.serve-served.new.server in
+    let served = c.serve-served.result in
+    let same = ends-write y.unkept served in
+    let write = c.serve-served.ensures.write in
+    let ended = ap (λ (s : Summary). s.ended) c.summary.ensures in
+    subst (λ z. IsErrOf z (session_ends.Session session_faults.Write) ↔ ((g.W.Sink.failed c.serve-served.new.writer ≡ true) × ¬ IsErrOf z session_ends.Journal)) (sym ended)
+    (λ is. (write.0 (same.0 is).0, (same.0 is).1), λ failed. same.1 (write.1 failed.0, failed.1))
 
 pub returns-clause-ends : goal.returns-clause-ends
 returns-clause-ends g c =
     let X = Session g.row.K.Denot g.row.R.Denot g.row.G.Denot in
     let y = c.serve-served.new.server in
-    let e = session_ends {X = X} (λ s. s.user) (λ s. s.over) (λ s. s.unkept) (λ s. s.answered) (λ s. s.pass.now) (λ s. s.pass.ghost_name) (λ s. s.desk) (λ d. d.now) (Err c.in-Err.fault) _ y _ _ _ _ refl refl refl refl c.in-Err.ensures.ends in
+    let served = c.serve-served.result in
+    let e = session_ends {X = X} (λ s. s.user) (λ s. s.over) (λ s. s.unkept) (λ s. s.answered) (λ s. s.moment) (λ s. s.pass.now) (λ s. s.pass.ghost_name) (λ s. s.desk) (λ d. d.now) served _ y _ _ _ _ refl refl refl refl refl c.serve-served.ensures.ends in
     let now = c.pass-1.given.1 (sym e.1) in
-    (progress y.user y.over y.unkept y.answered y.pass.now, c.if-unkept.false, record { ends = e.0; pass_is = sym now; gained = subst (λ z. GainsOf y.user c.args.pass.now z) (sym now) e.2 })
-
-pub returns-then-unkept-clause-same : goal.returns-then-unkept-clause-same
-returns-then-unkept-clause-same g c =
-    let X = Session g.row.K.Denot g.row.R.Denot g.row.G.Denot in
-    let e = session_ends {X = X} (λ s. s.user) (λ s. s.over) (λ s. s.unkept) (λ s. s.answered) (λ s. s.pass.now) (λ s. s.pass.ghost_name) (λ s. s.desk) (λ d. d.now) c.serve-served.result _ c.serve-served.new.server _ _ _ _ refl refl refl refl c.serve-served.ensures.ends in
-    let now = c.pass-1.given.1 (sym e.1) in
-    subst (λ z. IsSamePass c.args.pass.now z) (sym now) (same_pass _ _ _ e.2)
-
-pub returns-then-unkept-clause-ends : goal.returns-then-unkept-clause-ends
-returns-then-unkept-clause-ends g c =
-    let X = Session g.row.K.Denot g.row.R.Denot g.row.G.Denot in
-    let y = c.serve-served.new.server in
-    let ending = c.serve-served.result in
-    let e = session_ends {X = X} (λ s. s.user) (λ s. s.over) (λ s. s.unkept) (λ s. s.answered) (λ s. s.pass.now) (λ s. s.pass.ghost_name) (λ s. s.desk) (λ d. d.now) ending _ y _ _ _ _ refl refl refl refl c.serve-served.ensures.ends in
-    let now = c.pass-1.given.1 (sym e.1) in
-    let how = over-or-broken ending (g.W.Sink.failed c.serve-served.new.writer) false y.over c.serve-served.ensures.write.1 c.serve-served.ensures.not_over refl (e.3 c.if-unkept.true) in
-    let last = progress y.user y.over y.unkept y.answered y.pass.now in
-    (last, c.if-unkept.true, either-end (λ r. EndsAt c.args.desk.now r last c.args.pass.now c.pass-1.given.0 (g.S.Source.left c.args.reader.now) (g.S.Source.left c.serve-served.new.reader) (g.W.Sink.taken c.args.writer.now) (g.W.Sink.taken c.serve-served.new.writer)) ending how (record { ends = e.0; pass_is = sym now; gained = subst (λ z. GainsOf y.user c.args.pass.now z) (sym now) e.2 }))
-
-pub returns-then-unkept-clause-read : goal.returns-then-unkept-clause-read
-returns-then-unkept-clause-read g c =
-    let X = Session g.row.K.Denot g.row.R.Denot g.row.G.Denot in
-    let y = c.serve-served.new.server in
-    let ending = c.serve-served.result in
-    let e = session_ends {X = X} (λ s. s.user) (λ s. s.over) (λ s. s.unkept) (λ s. s.answered) (λ s. s.pass.now) (λ s. s.pass.ghost_name) (λ s. s.desk) (λ d. d.now) ending _ y _ _ _ _ refl refl refl refl c.serve-served.ensures.ends in
-    let how = over-or-broken ending (g.W.Sink.failed c.serve-served.new.writer) false y.over c.serve-served.ensures.write.1 c.serve-served.ensures.not_over refl (e.3 c.if-unkept.true) in
-    (λ is. absurd cc, λ failed. absurd (not-read ending how (c.serve-served.ensures.read.1 failed)))
+    let last = progress y.user y.over y.unkept y.answered y.moment y.pass.now in
+    let how = λ (unkept : y.unkept ≡ true). over-or-broken served (g.W.Sink.failed c.serve-served.new.writer) false y.over c.serve-served.ensures.write.1 c.serve-served.ensures.not_over refl (e.3 unkept) in
+    let by = ends-by c.args.desk.now last c.args.pass.now c.pass-1.given.0 (g.S.Source.left c.args.reader.now) (g.S.Source.left c.serve-served.new.reader) (g.W.Sink.taken c.args.writer.now) (g.W.Sink.taken c.serve-served.new.writer) y.unkept served refl
+    (record { ends = e.0; pass_is = sym now; gained = subst (λ z. GainsOf y.user c.args.pass.now z) (sym now) e.2 }) how in
+    let told = c.summary.ensures in
+    record {
+      last = last;
+      user_is = ap (λ (s : Summary). s.user) told;
+      lines_are = ap (λ (s : Summary). s.lines) told;
+      moment_is = ap (λ (s : Summary). s.moment) told;
+      ends = subst (λ z. EndsBy c.args.desk.now z last c.args.pass.now c.pass-1.given.0 (g.S.Source.left c.args.reader.now) (g.S.Source.left c.serve-served.new.reader) (g.W.Sink.taken c.args.writer.now) (g.W.Sink.taken c.serve-served.new.writer)) (sym (ap (λ (s : Summary). s.ended) told)) by;
+    }

@@ -10,10 +10,10 @@ pub invariant_of-result : goal.invariant_of-result
 invariant_of-result g c =
     let K = g.K.Keeper in
     let is = c.in_ok-system.ensures.ok in
-    let same = ap length (c.journal-front.ensures.journal ∙ ap (λ (w : World). w.journal) (sym is)) in
+    let same = ap length (c.journal.ensures.journal ∙ ap (λ (w : World). w.journal) (sym is)) in
     let none_left = ap (λ n. drop n c.in_ok-system.system.value.journal) same ∙ drop-length c.in_ok-system.system.value.journal in (
       ap (λ (w : World). w.chunk) is ∙ c.requires.chunk,
       subst (λ (w : World). IsFull w.limits) (sym is) c.requires.full,
       le_of_eq same,
-      λ works. (c.args.keeper, subst (λ (es : List Entry). KeepsAll K.keeps c.args.keeper es c.args.keeper) (sym none_left) refl),
+      λ works. subst (λ (z : g.row.K.Denot × List Entry). KeepsAll K.keeps z.0 z.1 c.args.keeper) (λ i. (sym c.of.ensures i, sym none_left i)) refl,
     )

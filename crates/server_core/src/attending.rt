@@ -1,0 +1,101 @@
+//! One session over a socket.
+ghost use Rattle.std.specs.Prelude.{◌≡◌, None, Some, Err};
+ghost use Rattle.server_core.specs.Sessions.{IsOf, Attends};
+
+use crate::permit::{Counting, Permit, Yielding};
+use crate::permits::Permits;
+use crate::sign::Sign;
+use crate::timed::Timed;
+use base_core::{StdSink, StdSource};
+use desk_core::{Desk, Pass};
+use journal_core::Keeper;
+use lines_core::Steady;
+use session_core::{SessionEnd, SessionFault, Summary, serve_session};
+use std::alloc::Global;
+use std::cell::Cell;
+use std::io::{BufWriter, Read};
+use std::net::{Shutdown, TcpListener, TcpStream};
+use std::sync::Wait;
+use std::time::Duration;
+
+// What is gathered of a session's replies before it is written.
+const OUTPUT_BYTES: usize = 65536;
+
+// How often, and how many milliseconds each time, it waits for a client that still writes.
+const LAST_READS: u32 = 64;
+
+const LAST_MILLIS: u64 = 100;
+
+/// Ends the stream so that the client can read what was written. To close it while bytes of the
+/// client are unread would reset it, and the client would lose the last replies.
+fn let_go(stream: &TcpStream) {
+    if stream.shutdown(Shutdown::Write).is_err() {
+        return;
+    }
+    let _ = stream.set_read_timeout(Some(Duration::from_millis(LAST_MILLIS)));
+    let mut rest = Steady::new(stream);
+    let mut bytes = [0; 1024];
+    for _ in 0..LAST_READS {
+        match rest.read(&mut bytes) {
+            Ok(0) | Err(_) => return,
+            Ok(_) => {}
+        }
+    }
+}
+
+/// What is told of a session for which there was no memory.
+fn unserved() -> Summary
+    ensures { result ≡ record {
+      user = None;
+      lines = 0;
+      moment = None;
+      ended = Err (SessionEnd.Session SessionFault.NoMemory);
+    } }
+{
+    Summary {
+        user: None,
+        lines: 0,
+        moment: None,
+        ended: Err(SessionEnd::Session(SessionFault::NoMemory)),
+    }
+}
+
+/// Serves one session to its end, through the pass and through nothing else. A read or a write that
+/// waits for longer than `idle` is its fault, and is noted as late. Where a reply was withheld, the
+/// listener is closed before the client can see that the session ended. No permit is held before and
+/// behind the call.
+pub(crate) fn attend<K: Keeper + Drop, R: Wait>(
+    rt: &R,
+    alloc: Global,
+    desk: &Desk<K>,
+    pass: &mut Pass<K>,
+    stream: &TcpStream,
+    listener: &TcpListener,
+    sign: &Sign,
+    permits: &Permits,
+    idle: Option<Duration>,
+    is_late: &Cell<bool>,
+) -> Summary
+    requires { IsOf desk.now pass.old }
+    ensures { Attends desk.now result pass.old pass.new }
+{
+    let _ = stream.set_nodelay(true);
+    let _ = stream.set_read_timeout(idle);
+    let _ = stream.set_write_timeout(idle);
+    let permit = Permit::new(rt, permits);
+    let output = Yielding::new(&permit, Timed::new(is_late, Steady::new(stream)));
+    let Ok(buffered) = BufWriter::with_capacity(alloc, OUTPUT_BYTES, output) else {
+        return unserved();
+    };
+    let input = Yielding::new(&permit, Timed::new(is_late, Steady::new(stream)));
+    let mut reader = StdSource::new(input);
+    let mut writer = StdSink::new(buffered);
+    let gate = Counting::new(&permit);
+    let summary = serve_session(rt, alloc, desk, pass, &mut reader, &mut writer, &gate);
+    permit.rest();
+    if let Err(SessionEnd::Journal) = summary.ended {
+        sign.close(listener);
+    }
+    let_go(stream);
+    summary
+}

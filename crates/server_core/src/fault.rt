@@ -1,0 +1,20 @@
+//! Why a server ends before it has served all sessions.
+
+use base_core::NoMemory;
+
+/// Why not all sessions were served.
+#[derive(Clone, Copy, Debug, PartialEq, Eq)]
+pub enum ServeFault {
+    /// The listener is gone, so that no session can be accepted.
+    Accept,
+    /// A change could not be kept.
+    Journal,
+    /// A request for memory was refused, or a thread could not be started.
+    NoMemory,
+}
+
+impl From<NoMemory> for ServeFault {
+    fn from(_refused: NoMemory) -> ServeFault {
+        ServeFault::NoMemory
+    }
+}

@@ -1,0 +1,3 @@
+mod Back
+mod PassLemmas
+mod Sends

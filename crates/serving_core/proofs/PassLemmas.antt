@@ -1,0 +1,91 @@
+-- New passes, and what threads make of them.
+use Rattle.std.proofs.Common.{◌≡◌, ℕ, zero, suc, ◌+◌, List, [], ◌∷◌, ◌++◌, length, map, Some, All, refl, subst, sym, ap, ◌∙◌, append_assoc}
+use Rattle.std.specs.Prelude.{Result, Ok, Err, OnOk, IfOk}
+use Rattle.std.proofs.lemmas.List.Elements.{All-nil, All-cons, All-push, All-pop, All-weaker, All-map}
+use Rattle.turnstile.specs.Logs.{StartsWith}
+use Rattle.turnstile.specs.Closed.{Kept, AreAll}
+use Rattle.turnstile.specs.Passes.{IsSamePass, passes_from, new_passes}
+use Rattle.desk_core.specs.Guarded.{DeskLock, DeskPass, origin_of}
+use Rattle.desk_core.specs.Turns.{asked_by, journal_of, begun_of, Ended}
+use Rattle.system_core.specs.World.{World}
+use Rattle.system_core.specs.declared.machine.event.Entry.{Entry}
+use Rattle.session_core.specs.Checking.{Checks, unchecked, checked, HasChecked, told, cut_off}
+use Rattle.session_core.specs.Gains.{Watches}
+use Rattle.session_core.proofs.Checked.{looks_watches, cut_watches}
+use Rattle.session_core.proofs.Growing.{Watches-refl, Watches-trans}
+use Rattle.server_core.specs.Sessions.{IsOf, IsNew, new_pass, Working, new_worker, IsIdle, Attended, IsWorkers, IsCheckpointers, AreServers, Leaves}
+use Rattle.server_core.proofs.SamePass.{attended_same}
+
+all_from : {K : Type 0} (journal : List Entry) (desk : DeskLock K) (first count : ℕ) → All (IsNew journal desk) (passes_from journal desk first count)
+all_from journal desk first zero = All-nil (IsNew journal desk)
+all_from journal desk first (suc n) = All-cons (IsNew journal desk) (new_pass journal desk first) (passes_from journal desk (suc first) n) refl (all_from journal desk (suc first) n)
+
+pub all_new : {K : Type 0} (journal : List Entry) (desk : DeskLock K) (passes : List (DeskPass K)) → passes ≡ new_passes journal desk → All (IsNew journal desk) passes
+all_new journal desk passes e = subst (λ z. All (IsNew journal desk) z) (sym e) (all_from journal desk 0 desk.count)
+
+-- since the pass was new, sessions were served through it
+pub worker_of : {K : Type 0} (journal : List Entry) (desk : DeskLock K) (old new : Working K) → IsIdle journal desk old → Attended desk old new → IsWorkers journal desk new
+worker_of journal desk old new idle served =
+    let same = attended_same desk old new served in
+    let start : old ≡ new_worker journal desk new.pass.number = idle ∙ ap (new_worker journal desk) (sym same.1) in
+    subst (λ z. Attended desk z new) start served
+
+checks_watch : {K : Type 0} (desk : DeskLock K) (old new : DeskPass K) → Checks desk old new → Watches old new
+checks_watch desk old _ unchecked = Watches-refl old
+checks_watch desk old _ (checked reply between new before look) = Watches-trans old between new (checks_watch desk old between before) (looks_watches desk reply between new look)
+
+checked_watch : {K : Type 0} (desk : DeskLock K) (old new : DeskPass K) → HasChecked desk old new → Watches old new
+checked_watch desk old new (told c) = checks_watch desk old new c
+checked_watch desk old new (cut_off reply between c cut) = Watches-trans old between new (checks_watch desk old between c) (cut_watches desk reply between new cut)
+
+-- since the pass was new, it looked after checkpoints
+pub checkpointer_of : {K : Type 0} (journal : List Entry) (desk : DeskLock K) (old new : DeskPass K) → IsNew journal desk old → HasChecked desk old new → IsSamePass old new → IsCheckpointers journal desk new
+checkpointer_of journal desk old new fresh looked same =
+    let start : old ≡ new_pass journal desk new.number = fresh ∙ ap (new_pass journal desk) (sym same.1) in
+    subst (λ z. HasChecked desk z new) start looked
+
+of_workers : {K : Type 0} (journal : List Entry) (desk : DeskLock K) (workers : List (Working K)) → All (IsWorkers journal desk) workers → All (IsOf desk) (map (λ (w : Working K). w.pass) workers)
+of_workers {K = K} journal desk workers served =
+    All-map (IsOf desk) (λ (w : Working K). w.pass) workers
+    (All-weaker (IsWorkers journal desk) (λ w. IsOf desk w.pass) (λ w h. (attended_same desk (new_worker journal desk w.pass.number) w h).0) workers served)
+
+-- the passes of a server are of its desk
+pub servers_of : {K : Type 0} (journal : List Entry) (desk : DeskLock K) (sessions : ℕ) (passes : List (DeskPass K)) → AreServers journal desk sessions passes → All (IsOf desk) passes
+servers_of {K = K} journal desk sessions passes s =
+    let workers = of_workers journal desk s.workers s.served in
+    let last : s.checkpointer.lock ≡ Some desk = (checked_watch desk (new_pass journal desk s.checkpointer.number) s.checkpointer s.checked).same.0 in
+    subst (λ z. All (IsOf desk) z) (sym s.passes_are) (All-push (IsOf desk) (map (λ (w : Working K). w.pass) s.workers) s.checkpointer workers last)
+
+-- and its journal begins with the one that it was built on
+pub begins_with : {K : Type 0} (journal : List Entry) (desk : DeskLock K) (sessions : ℕ) (passes : List (DeskPass K)) (w : World) → AreServers journal desk sessions passes → Ended desk passes w → StartsWith w.journal journal
+begins_with {K = K} journal desk sessions passes w s e =
+    let all = subst (All (Kept journal_of asked_by begun_of w)) s.passes_are e.closed.kept in
+    let last = (All-pop (Kept journal_of asked_by begun_of w) (map (λ (x : Working K). x.pass) s.workers ++ s.checkpointer ∷ []) (map (λ (x : Working K). x.pass) s.workers) (Some s.checkpointer) refl all).1 in
+    let seen = (checked_watch desk (new_pass journal desk s.checkpointer.number) s.checkpointer s.checked).seen in
+    (seen.0 ++ last.seen.0, last.seen.1 ∙ (ap (λ z. z ++ last.seen.0) seen.1 ∙ append_assoc journal seen.0 last.seen.0))
+
+-- what a result tells of its value, from two things that it tells
+pub if_ok_with : {X Y : Type 0} (A : Type 0) (P Q : X → Type 0) (r : Result X Y) → OnOk r A → IfOk r P → ((x : X) → A → P x → Q x) → IfOk r Q
+if_ok_with A P Q (Ok x) a p f = f x a p
+if_ok_with A P Q (Err y) a p f = tt
+
+-- so many passes of a new desk
+pub passes_count : {K : Type 0} (journal : List Entry) (desk : DeskLock K) (first count : ℕ) → length (passes_from journal desk first count) ≡ count
+passes_count journal desk first zero = refl
+passes_count journal desk first (suc n) = ap suc (passes_count journal desk (suc first) n)
+
+-- what a server leaves
+pub leaves_of : {K : Type 0} (workers sessions chunk : ℕ) (keeper : K) (start world : World) (desk : DeskLock K) (passes : List (DeskPass K)) → desk.count ≡ workers + 1 → desk.start ≡ 0
+    → origin_of desk ≡ record { chunk = chunk; front = length start.journal; keeper = keeper } → start.chunk ≡ chunk
+    → AreServers start.journal desk sessions passes → AreAll desk passes → Ended desk passes world → Leaves workers sessions keeper start world
+leaves_of workers sessions chunk keeper start world desk passes count begins origin is servers all ended = record {
+  desk = desk;
+  passes = passes;
+  count_is = count;
+  start_is = begins;
+  origin_is = origin ∙ (λ i. record { chunk = sym is i; front = length start.journal; keeper = keeper });
+  all = all;
+  servers = servers;
+  ended = ended;
+  begins = begins_with start.journal desk sessions passes world servers ended;
+}

@@ -1,0 +1,5 @@
+use Rattle.serving_core.proofs.PassLemmas.{worker_of}
+use Rattle.serving_core.proofs.threads.attend.Goals as goal
+
+pub returns : goal.returns
+returns g c = worker_of c.args.begun.now.value.journal c.args.desk.now c.args.worker c.work.result c.requires c.work.ensures

@@ -1,0 +1,68 @@
+use Rattle.std.proofs.Common.{rules, ◌≡◌, ◌+◌, subst, sym}
+use Rattle.std.specs.Prelude.{All}
+use Rattle.server_core.specs.Sessions.{IsCheckpointers}
+use denote.Param.{param}
+use denote.Param.Send.{sendable, param_send, arg_send}
+use Rattle.std.proofs.Crossing.{crosses}
+use Rattle.turnstile.proofs.pass.Pass.TheSendSync as pass
+use Rattle.serving_core.proofs.Sends.{core_send, desk_sync, worker_send, door_send, sign_sync, permits_sync}
+use Rattle.serving_core.proofs.threads.fn.serve_all.scope.Goals.{in-Ok-spawn_with-2, in-Err}
+use Rattle.serving_core.proofs.threads.fn.serve_all.scope.Goals as goal
+
+pub spawn_with-requires-send-F : goal.spawn_with-requires-send-F
+spawn_with-requires-send-F g c κs within =
+    let k = c.requires.crosses.0 in
+    let rt = c.requires.crosses.1 in
+    let core = core_send (param 0 g.row.K) g.K.Keeper k in
+    let desk = desk_sync (param 0 g.row.K) g.K.Keeper k in
+    search (param_send, arg_send, sendable, crosses, pass.the_send) depth 20 fits 4000
+
+pub spawn_with-requires-send-T : goal.spawn_with-requires-send-T
+spawn_with-requires-send-T g c κs within =
+    let core = core_send (param 0 g.row.K) g.K.Keeper c.requires.crosses.0 in
+    search (param_send, arg_send, pass.the_send) depth 10
+
+pub spawn_with-requires-in-loop-worker-send-F : goal.spawn_with-requires-in-loop-worker-send-F
+spawn_with-requires-in-loop-worker-send-F g c κs within =
+    let k = c.requires.crosses.0 in
+    let rt = c.requires.crosses.1 in
+    let log = c.requires.crosses.2 in
+    let desk = desk_sync (param 0 g.row.K) g.K.Keeper k in
+    let own = worker_send (param 0 g.row.K) (param 1 g.row.L) g.K.Keeper g.L.Ledger k in
+    let door = door_send (param 1 g.row.L) g.L.Ledger in
+    let sign = sign_sync in
+    let permits = permits_sync in
+    search (param_send, arg_send, sendable, crosses) depth 40 fits 20000
+
+pub spawn_with-requires-in-loop-worker-send-T : goal.spawn_with-requires-in-loop-worker-send-T
+spawn_with-requires-in-loop-worker-send-T g c κs within =
+    let own = worker_send (param 0 g.row.K) (param 1 g.row.L) g.K.Keeper g.L.Ledger c.requires.crosses.0 in
+    search (param_send, arg_send) depth 10
+
+pub loop-worker-preserved-after-spawn_with-2-2 : goal.loop-worker-preserved-after-spawn_with-2-2
+loop-worker-preserved-after-spawn_with-2-2 g c =
+    let was = c.loop-worker.invariant in
+    let step = c.in-Some.ensures.steps in (
+      (λ k d below. let h = was.0 (k + 1) d in grind rules),
+      elim c.match-spawn_with-2.branch [
+        | in-Ok-spawn_with-2 w ↦ subst (λ z. All (λ p. (p.promise.0.now ≡ c.captures.desk.now) × (p.promise.1.now ≡ c.captures.begun.now)) z.items) (sym w.threads-is) w.keep.ensures
+        | in-Err w ↦ subst (λ z. All (λ p. (p.promise.0.now ≡ c.captures.desk.now) × (p.promise.1.now ≡ c.captures.begun.now)) z.items) (sym w.threads-is) was.1
+      ],
+    )
+
+pub loop-worker-preserved : goal.loop-worker-preserved
+loop-worker-preserved g c =
+    let was = c.loop-worker.invariant in
+    let step = c.in-Some.ensures.steps in (
+      (λ k d below. let h = was.0 (k + 1) d in grind rules),
+      elim c.match-spawn_with-2.branch [
+        | in-Ok-spawn_with-2 w ↦ subst (λ z. All (λ p. (p.promise.0.now ≡ c.captures.desk.now) × (p.promise.1.now ≡ c.captures.begun.now)) z.items) (sym w.threads-is) w.keep.ensures
+        | in-Err w ↦ subst (λ z. All (λ p. (p.promise.0.now ≡ c.captures.desk.now) × (p.promise.1.now ≡ c.captures.begun.now)) z.items) (sym w.threads-is) was.1
+      ],
+    )
+
+pub returns : goal.returns
+returns g c = record {
+  workers = c.in_ok-back.ensures;
+  own = subst (λ p. IsCheckpointers p.1.now.value.journal p.0.now c.join-last.result) c.in-Ok-spawn_with.ensures.ok c.join-last.ensures;
+}

@@ -1,0 +1,31 @@
+//! The threads of a server, from its first session to its last.
+//!
+//! [`serve_on`] hands the passes of a desk to threads, which take sessions from one listener, and
+//! gives back the core and the keeper that they leave. **The one contract** is its clauses: so many
+//! sessions were served as were asked for; what is left came of these sessions alone, from the core
+//! that was handed in; and the keeper, unless it has failed, kept each change since then, in order and
+//! each once, from the state in which it was handed in.
+//!
+//! ```text
+//! let served = serve_on(&rt, alloc, &listener, 4, 100, 16, system, keeper, manners, &mut err)?;
+//! served.sessions                                                        // 100
+//! ```
+//!
+//! # Mechanism
+//!
+//! A desk is built with a pass for each worker and one for the checkpointer. Each worker has besides
+//! one part of a token that takes no bytes, to which the door adds one for each session that it
+//! admits. When all threads have ended their passes close the desk, and all parts of the token
+//! together count what the door has taken. So the number that is told is that of the sessions which
+//! went through the passes.
+//!
+//! # Cost
+//!
+//! A thread for each worker, and one that looks after checkpoints.
+#![tactic(auto)]
+
+mod dealing;
+mod serving;
+mod threads;
+
+pub use serving::{Served, serve_on};

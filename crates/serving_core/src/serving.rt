@@ -1,0 +1,228 @@
+//! A server, from its first session to its last.
+ghost use Rattle.std.specs.Prelude.{◌≡◌, ◌+◌, ◌<◌, ◌≤◌, length, All, false, IfOk, OnOk};
+ghost use Rattle.turnstile.specs.Closed.{AreAll};
+ghost use Rattle.desk_core.specs.Guarded.{origin_of};
+ghost use Rattle.desk_core.specs.Kept.{HasKept};
+ghost use Rattle.desk_core.specs.Turns.{Ended};
+ghost use Rattle.server_core.specs.Sessions.{IsOf, IsNew, AreServers, Leaves};
+ghost use Rattle.serving_core.specs.Ready.{IsReady};
+
+use crate::dealing::{gathered, workers_of};
+use crate::threads::serve_all;
+use desk_core::{Desk, Pass};
+use journal_core::Keeper;
+use server_core::{Door, Log, Manners, Permits, ServeFault, SharedLog, Sign};
+use std::alloc::Global;
+use std::io::Write;
+use std::marker::Brand;
+use std::mem::forget;
+use std::net::TcpListener;
+use std::snapshot::Snapshot;
+use std::sync::atomic::AtomicBool;
+use std::sync::ledger::{Blank, Ledger};
+use std::sync::{Mutex, Wait};
+use std::thread;
+use std::thread::Threads;
+use std::time::{Clock, Duration};
+use system_core::System;
+
+/// How many processors the threads may use: one, where that is not known.
+fn processors<R: Threads>(rt: &R) -> usize {
+    match thread::available_parallelism(rt) {
+        Ok(count) => count.get(),
+        Err(_) => 1,
+    }
+}
+
+/// Serves so many sessions of the listener through these passes, of which the last is the
+/// checkpointer's, and gives their number and the passes.
+fn serve_through<K, L, R, G>(
+    rt: &R,
+    alloc: Global,
+    blank: Blank,
+    desk: &Desk<K>,
+    begun: &Snapshot<System>,
+    passes: Vec<Pass<K>>,
+    workers: usize,
+    listener: &TcpListener,
+    sessions: u64,
+    idle: Option<Duration>,
+    log: &G,
+) -> Result<(u64, Vec<Pass<K>>), ServeFault>
+where
+    K: Keeper + Drop + Send,
+    L: Ledger + Send + Sync,
+    R: Threads + Wait + Clock + Sync,
+    G: Log + Sync,
+    requires name { blank.name ≡ L.name }
+    requires parts { (blank.parts ≡ L.parts) × (L.parts ≡ workers + 1) }
+    requires new { All (IsNew begun.now.value.journal desk.now) passes.items }
+    requires passes { length passes.items ≡ workers + 1 }
+    ensures count { IfOk result (λ b. b.0 ≡ sessions) }
+    ensures servers { IfOk result
+        (λ b. AreServers begun.now.value.journal desk.now b.0 b.1.items) }
+{
+    let mut passes = passes;
+    let Some(own) = passes.pop() else {
+        return Err(ServeFault::NoMemory);
+    };
+    let (book, mut rest) = blank.open::<L>();
+    let door = Mutex::new(Door::new(sessions, book));
+    let (sign, stop) = (Sign::new(), AtomicBool::new(false));
+    let permits = Permits::new(processors(rt));
+    let dealt = workers_of(alloc, desk, begun, passes, &mut rest)?;
+    let (back, own) = serve_all(
+        rt, alloc, desk, begun, dealt, own, listener, &door, &sign, &permits, idle, log, &stop,
+    )?;
+    if back.len() != workers {
+        return Err(ServeFault::NoMemory);
+    }
+    let (passes, all) = gathered(alloc, desk, begun, back, own, rest)?;
+    let served = door.into_inner().served(sessions, all)?;
+    Ok((served, passes))
+}
+
+/// What a server leaves: how many sessions it served, the core, and the keeper of its changes.
+#[derive(Drop)]
+pub struct Served<K> {
+    pub sessions: u64,
+    pub system: System,
+    pub keeper: K,
+}
+
+/// What so many sessions left, where these are all passes of the desk: they are what the threads gave
+/// back.
+fn close<K: Keeper + Drop>(
+    desk: Desk<K>,
+    passes: Vec<Pass<K>>,
+    sessions: u64,
+) -> Result<Served<K>, ServeFault>
+    requires { All (IsOf desk) passes.items }
+    ensures all { OnOk result (AreAll desk passes.items) }
+    ensures count { IfOk result (λ served. served.sessions ≡ sessions) }
+    ensures ended { IfOk result (λ served. Ended desk passes.items served.system) }
+    ensures kept { IfOk result (λ served. HasKept K.keeps K.failed (origin_of desk)
+        served.system.journal served.keeper) }
+{
+    match desk.close(passes) {
+        Ok((system, keeper)) => Ok(Served {
+            sessions,
+            system,
+            keeper,
+        }),
+        Err(left) => {
+            forget(left);
+            Err(ServeFault::NoMemory)
+        }
+    }
+}
+
+/// As [`serve_on`], with a blank token of one part for each thread.
+fn serve_sessions<K, L, R, G>(
+    rt: &R,
+    alloc: Global,
+    blank: Blank,
+    listener: &TcpListener,
+    workers: usize,
+    sessions: u64,
+    chunk: usize,
+    system: System,
+    keeper: K,
+    idle: Option<Duration>,
+    log: &G,
+) -> Result<Served<K>, ServeFault>
+where
+    K: Keeper + Drop + Send,
+    L: Ledger + Send + Sync,
+    R: Threads + Wait + Clock + Sync,
+    G: Log + Sync,
+    requires name { blank.name ≡ L.name }
+    requires parts { (blank.parts ≡ L.parts) × (L.parts ≡ workers + 1) }
+    requires workers { (0 < workers) × (workers ≤ 16) }
+    requires ready { IsReady chunk system }
+    requires works { K.failed keeper ≡ false }
+    ensures count { IfOk result (λ served. served.sessions ≡ sessions) }
+    ensures leaves { IfOk result (λ served. Leaves workers sessions keeper system served.system) }
+    ensures kept { IfOk result (λ served. HasKept K.keeps K.failed
+        (record { chunk = chunk; front = length system.journal; keeper = keeper })
+        served.system.journal served.keeper) }
+{
+    let begun = Snapshot::of(&system);
+    let (desk, passes) = Desk::build(alloc, system, chunk, keeper, workers + 1)?;
+    match serve_through::<K, L, R, G>(
+        rt, alloc, blank, &desk, &begun, passes, workers, listener, sessions, idle, log,
+    ) {
+        Ok((served, passes)) => close(desk, passes, served),
+        Err(fault) => {
+            // The process ends soon, and its memory goes back as a whole.
+            forget(desk);
+            Err(fault)
+        }
+    }
+}
+
+/// Serves so many sessions that the listener gives, by so many threads, from 1 to 16, beside one
+/// that takes the steps of checkpoints, of so many records as the chunk says, from 1 to 64. They
+/// begin with this core, and the keeper keeps each change before its reply is written. Behind the
+/// last session that is wanted the listener is closed, so that further clients are refused. Then it
+/// closes the desk, and answers the number of sessions, and the core and the keeper that they left.
+///
+/// Each session that ends with a fault is told on `err`, as `session fault: read`, or `write`,
+/// `bound`, `journal`, `no memory`. By the manners a session whose client sends nothing for so long
+/// ends with `read`, and one whose client takes nothing for so long with `write`. Where they have a
+/// log, a fault is told as `session 3 fault: read`, and of an idle client as `idle, sent nothing` or
+/// `idle, took nothing`; and each session is told on `err` as it begins and ends, with its number
+/// from 1, its user, its client's address, the lines behind the first, and the moment of its last
+/// reply that bore one. A fault of `err` itself is forgotten.
+///
+/// `Accept` where the listener is gone: no further session is taken, and those that run are ended
+/// by their clients. Of any other fault of accepting a session nothing is told, and it is tried
+/// again. `Journal` where a change could not be kept and its session withheld the reply: the listener
+/// is closed at once, no further session is taken, and those that run end at their next statement.
+/// `NoMemory` where a request for memory was refused or a thread could not be started, before the
+/// first session or behind the last.
+pub fn serve_on<K, R, W>(
+    rt: &R,
+    alloc: Global,
+    listener: &TcpListener,
+    workers: usize,
+    sessions: u64,
+    chunk: usize,
+    system: System,
+    keeper: K,
+    manners: Manners,
+    err: &mut W,
+) -> Result<Served<K>, ServeFault>
+where
+    K: Keeper + Drop + Send,
+    R: Threads + Wait + Clock + Sync,
+    W: Write + Send,
+    requires workers { (0 < workers) × (workers ≤ 16) }
+    requires ready { IsReady chunk system }
+    requires works { K.failed keeper ≡ false }
+    ensures count { IfOk result (λ served. served.sessions ≡ sessions) }
+    ensures leaves { IfOk result (λ served. Leaves workers sessions keeper system served.system) }
+    ensures kept { IfOk result (λ served. HasKept K.keeps K.failed
+        (record { chunk = chunk; front = length system.journal; keeper = keeper })
+        served.system.journal served.keeper) }
+{
+    let log = SharedLog {
+        alloc,
+        writer: Mutex::new(err),
+        sessions: manners.log,
+    };
+    let blank = Blank::new(workers as u64 + 1);
+    serve_sessions::<K, Brand, R, SharedLog<'_, W>>(
+        rt,
+        alloc,
+        blank,
+        listener,
+        workers,
+        sessions,
+        chunk,
+        system,
+        keeper,
+        manners.idle,
+        &log,
+    )
+}

@@ -1,0 +1,198 @@
+//! The threads of a server.
+ghost use Rattle.std.specs.Prelude.{◌≡◌, All, IfOk};
+ghost use Rattle.std.specs.Thread.{IsSend, IsSync};
+ghost use Rattle.server_core.specs.Sessions.{IsNew, IsIdle, IsWorkers, IsCheckpointers};
+
+use desk_core::{Desk, Pass};
+use export_core::NoGate;
+use journal_core::Keeper;
+use server_core::{Door, Log, Permits, ServeFault, Sign, Worker, work};
+use session_core::checkpointer;
+use std::alloc::Global;
+use std::net::TcpListener;
+use std::snapshot::Snapshot;
+use std::sync::atomic::{AtomicBool, Ordering};
+use std::sync::ledger::Ledger;
+use std::sync::{Mutex, Wait};
+use std::thread;
+use std::thread::{Promise, PromisedHandle, Threads};
+use std::time::{Clock, Duration};
+use system_core::System;
+
+/// The promise of a thread that sessions were served through its pass, as many as its token counts,
+/// and nothing else was done.
+#[derive_where(Clone, Copy)]
+pub struct Works<'a, K: Keeper + Drop>(&'a Desk<K>, &'a Snapshot<System>);
+
+impl<'a, K: Keeper + Drop, L: Ledger> Promise<Worker<K, L>> for Works<'a, K> {
+    ghost kept_by = { λ p worker. IsWorkers p.1.now.value.journal p.0.now worker };
+}
+
+/// The promise of a thread that its pass looked after checkpoints, and nothing else was done.
+#[derive_where(Clone, Copy)]
+struct LooksAfter<'a, K: Keeper + Drop>(&'a Desk<K>, &'a Snapshot<System>);
+
+impl<'a, K: Keeper + Drop> Promise<Pass<K>> for LooksAfter<'a, K> {
+    ghost kept_by = { λ p pass. IsCheckpointers p.1.now.value.journal p.0.now pass };
+}
+
+/// What is to be handed to threads: the workers, and the checkpointer's pass. A type of its own, since
+/// a closure that owns a vector as it is takes minutes to prove.
+#[derive(Drop)]
+struct Dealt<K: Keeper + Drop, L: Ledger> {
+    workers: Vec<Worker<K, L>>,
+    own: Pass<K>,
+}
+
+/// Takes the steps of checkpoints until it is told to stop.
+fn check<K: Keeper + Drop, R: Wait + Clock>(
+    rt: &R,
+    desk: &Desk<K>,
+    begun: &Snapshot<System>,
+    pass: Pass<K>,
+    stop: &AtomicBool,
+) -> Pass<K>
+    requires { IsNew begun.now.value.journal desk.now pass }
+    ensures { IsCheckpointers begun.now.value.journal desk.now result }
+{
+    let mut pass = pass;
+    let _ = checkpointer(rt, desk, &mut pass, &NoGate, stop);
+    pass
+}
+
+/// Serves sessions until all are taken, or no further one is.
+fn attend<K: Keeper + Drop, L: Ledger, R: Wait + Clock, G: Log>(
+    rt: &R,
+    alloc: Global,
+    desk: &Desk<K>,
+    begun: &Snapshot<System>,
+    worker: Worker<K, L>,
+    listener: &TcpListener,
+    door: &Mutex<Door<L>>,
+    sign: &Sign,
+    permits: &Permits,
+    idle: Option<Duration>,
+    log: &G,
+) -> Worker<K, L>
+    requires { IsIdle begun.now.value.journal desk.now worker }
+    ensures { IsWorkers begun.now.value.journal desk.now result }
+{
+    work(
+        rt, alloc, desk, worker, listener, door, sign, permits, idle, log,
+    )
+}
+
+// Keeps a thread. There is room for it.
+fn keep<'a, K: Keeper + Drop, L: Ledger>(
+    desk: &'a Desk<K>,
+    begun: &'a Snapshot<System>,
+    threads: &mut Vec<PromisedHandle<Worker<K, L>, Works<'a, K>>>,
+    thread: PromisedHandle<Worker<K, L>, Works<'a, K>>,
+)
+    requires all { All (λ w. (w.promise.0.now ≡ desk.now) × (w.promise.1.now ≡ begun.now))
+        threads.old.items }
+    requires one { (thread.promise.0.now ≡ desk.now) × (thread.promise.1.now ≡ begun.now) }
+    ensures { All (λ w. (w.promise.0.now ≡ desk.now) × (w.promise.1.now ≡ begun.now))
+        threads.new.items }
+{
+    let _ = threads.push(thread);
+}
+
+/// Waits for each of the threads, and gives the workers that come back.
+fn join_all<'a, K: Keeper + Drop, L: Ledger, R: Threads>(
+    rt: &R,
+    desk: &'a Desk<K>,
+    begun: &'a Snapshot<System>,
+    threads: Vec<PromisedHandle<Worker<K, L>, Works<'a, K>>>,
+) -> Result<Vec<Worker<K, L>>, ServeFault>
+    requires { All (λ w. (w.promise.0.now ≡ desk.now) × (w.promise.1.now ≡ begun.now))
+        threads.items }
+    ensures { IfOk result (λ v. All (IsWorkers begun.now.value.journal desk.now) v.items) }
+{
+    match thread::join_promised(rt, threads) {
+        Ok(workers) => Ok(workers),
+        Err(_) => Err(ServeFault::NoMemory),
+    }
+}
+
+/// Runs all threads to their end, and gives the workers back, and the checkpointer's pass. Where one
+/// could not be started, a worker is missing, and the door is shut.
+pub fn serve_all<K, L, R, G>(
+    rt: &R,
+    alloc: Global,
+    desk: &Desk<K>,
+    begun: &Snapshot<System>,
+    workers: Vec<Worker<K, L>>,
+    own: Pass<K>,
+    listener: &TcpListener,
+    door: &Mutex<Door<L>>,
+    sign: &Sign,
+    permits: &Permits,
+    idle: Option<Duration>,
+    log: &G,
+    stop: &AtomicBool,
+) -> Result<(Vec<Worker<K, L>>, Pass<K>), ServeFault>
+where
+    K: Keeper + Drop + Send,
+    L: Ledger + Send + Sync,
+    R: Threads + Wait + Clock + Sync,
+    G: Log + Sync,
+    requires workers { All (IsIdle begun.now.value.journal desk.now) workers.items }
+    requires own { IsNew begun.now.value.journal desk.now own }
+    ensures workers { IfOk result
+        (λ b. All (IsWorkers begun.now.value.journal desk.now) b.0.items) }
+    ensures own { IfOk result (λ b. IsCheckpointers begun.now.value.journal desk.now b.1) }
+{
+    let dealt = Dealt { workers, own };
+    thread::scope(
+        thread::scope_env(),
+        rt,
+        move |scope| -> Result<(Vec<Worker<K, L>>, Pass<K>), ServeFault>
+            requires crosses { IsSend K.row × IsSync R.row × IsSync G.row }
+            requires workers { All (IsIdle begun.now.value.journal desk.now) dealt.workers.items }
+            requires own { IsNew begun.now.value.journal desk.now dealt.own }
+            ensures workers { IfOk result
+                (λ b. All (IsWorkers begun.entry.now.value.journal desk.entry.now) b.0.items) }
+            ensures own { IfOk result
+                (λ b. IsCheckpointers begun.entry.now.value.journal desk.entry.now b.1) }
+        {
+            let Dealt { workers, own } = dealt;
+            let Ok(mut threads) = Vec::with_capacity(alloc, workers.len()) else {
+                return Err(ServeFault::NoMemory);
+            };
+            let Ok(checks) = scope.spawn_with(
+                LooksAfter(desk, begun),
+                move || -> Pass<K>
+                    requires { IsNew begun.now.value.journal desk.now own }
+                    ensures { IsCheckpointers begun.entry.now.value.journal desk.entry.now result }
+                { check(rt, desk, begun, own, stop) },
+            ) else {
+                return Err(ServeFault::NoMemory);
+            };
+            // Nobody takes a session until all threads have started.
+            let mut closed = door.lock(rt);
+            for worker in workers {
+                match scope.spawn_with(
+                    Works(desk, begun),
+                    move || -> Worker<K, L>
+                        requires { IsIdle begun.now.value.journal desk.now worker }
+                        ensures { IsWorkers begun.entry.now.value.journal desk.entry.now result }
+                    {
+                        attend(
+                            rt, alloc, desk, begun, worker, listener, door, sign, permits, idle,
+                            log,
+                        )
+                    },
+                ) {
+                    Ok(thread) => keep(desk, begun, &mut threads, thread),
+                    Err(_) => closed.shut(ServeFault::NoMemory),
+                }
+            }
+            drop(closed);
+            let back = join_all(rt, desk, begun, threads);
+            stop.store(true, Ordering::SeqCst);
+            let last = checks.join(rt);
+            Ok((back?, last))
+        },
+    )
+}
