@@ -1,13 +1,14 @@
-//! The rights that a script makes, explained.
+//! The rights that lines make, explained.
 ghost use Rattle.std.specs.Prelude.{◌≡◌, false};
 
-use crate::command_line::Explaining;
-use crate::running::output;
-use base_core::{Sink, StdSource};
-use explain_text::{ExplainFault, Question, explain, explain_fault_text, history_asked};
-use lines_core::{NO_MEMORY, SessionFault, Steady, fault_text, give_up};
-use load_core::{ReplayFault, Replayed, replay};
-use std::io::Write;
+use crate::loading::loaded_or_empty;
+use crate::replaying::{manner_of, replayed, status_of, tell_left_out};
+use crate::streams::{input, output, tell};
+use base_core::Sink;
+use command_core::Explaining;
+use explain_text::{Answered, ExplainFault, Question, explain, explain_fault_text, history_asked};
+use lines_core::{NO_MEMORY, give_up};
+use load_core::Replayed;
 use std::mem::forget;
 use std::process::ExitCode;
 
@@ -16,53 +17,46 @@ const CHUNK: usize = 16;
 /// The status of an answer that is no.
 const NO_STATUS: u8 = 1;
 
-/// What is told of a fault that ended the reading.
-fn replay_fault_text(fault: ReplayFault) -> &'static str {
-    match fault {
-        ReplayFault::Read => fault_text(SessionFault::Read),
-        ReplayFault::Bound => fault_text(SessionFault::Bound),
-        ReplayFault::NoMemory => NO_MEMORY,
-    }
-}
+/// The status of a question that has no answer.
+const NO_ANSWER_STATUS: u8 = 2;
 
-/// Tells on standard error why a question has no answer.
+/// Tells on standard error why a question has no answer, or why the answer was not written whole.
 fn give_up_question(rt: &HostRuntime, question: &Question<'_>, fault: &ExplainFault) -> ExitCode {
     let Ok(text) = explain_fault_text(rt.alloc(), question, fault) else {
         return give_up(rt, NO_MEMORY);
     };
-    let mut err = rt.stderr();
-    let _ = err.write_all(b"sysr: ");
-    let _ = err.write_all(&text);
-    let _ = err.write_all(b"\n");
-    ExitCode::FAILURE
+    tell(rt, &text);
+    if fault.is_of_the_question() {
+        ExitCode::from(NO_ANSWER_STATUS)
+    } else {
+        ExitCode::FAILURE
+    }
 }
 
-/// What the lines of standard input make, up to this moment. The error is the status, where they
-/// cannot be read, or end before it, which is told.
-fn replayed_to(rt: &HostRuntime, at: Option<u64>) -> Result<Replayed, ExitCode> {
-    let mut reader = StdSource::new(Steady::new(rt.stdin()));
-    let replayed = match replay(rt.alloc(), &mut reader, CHUNK, at.unwrap_or(u64::MAX)) {
-        Ok(replayed) => replayed,
-        Err(fault) => return Err(give_up(rt, replay_fault_text(fault))),
-    };
+/// What the lines of standard input make, up to the moment that is asked for. The error is the
+/// status, where they cannot be read, or end before it, which is told.
+fn replayed_to(rt: &HostRuntime, asked: &Explaining<'_>) -> Result<Replayed, ExitCode> {
+    let begins = loaded_or_empty(rt, None, CHUNK)?;
+    let manner = manner_of(asked.reading, asked.at.unwrap_or(u64::MAX));
+    let replayed = replayed(rt, &mut input(rt), begins, manner)?;
     let end = replayed.system.moment().0;
-    match at {
+    match asked.at {
         Some(at) if end < at => {
             forget(replayed);
             let _ = eprintln!(rt; "sysr: the script ends at @{end}");
-            Err(ExitCode::FAILURE)
+            Err(ExitCode::from(NO_ANSWER_STATUS))
         }
         _ => Ok(replayed),
     }
 }
 
-/// Writes the answer to a question about what was replayed, and says whether it is yes.
+/// Writes the answer to a question about what was replayed, and says what it is.
 fn answer<W: Sink>(
     rt: &HostRuntime,
     replayed: &mut Replayed,
     asked: &Explaining<'_>,
     writer: &mut W,
-) -> Result<bool, ExplainFault>
+) -> Result<Answered, ExplainFault>
     requires { W.failed writer.old ≡ false }
 {
     let (question, format) = (&asked.question, asked.format);
@@ -73,17 +67,33 @@ fn answer<W: Sink>(
     answered
 }
 
-/// Answers a question about the rights that the lines of standard input make. The status is 0 if
-/// the answer is yes, and 1 if it is no.
+/// Tells on standard error what stands beside an answer. The status is that of the reading if it is
+/// yes, and 1 if it is no.
+fn status_of_answer(rt: &HostRuntime, answered: &Answered, reading: ExitCode) -> ExitCode {
+    if let Some(remark) = &answered.remark {
+        tell(rt, remark);
+    }
+    if answered.is_yes {
+        reading
+    } else {
+        ExitCode::from(NO_STATUS)
+    }
+}
+
+/// Answers a question about the rights that the lines of standard input make, and tells of the lines
+/// left out. The status is 0 if the answer is yes, 1 if it is no, or lines were left out and that is
+/// to be strict, and 2 if the question has no answer.
 pub fn explained(rt: &HostRuntime, asked: Explaining<'_>) -> Result<ExitCode, ExitCode> {
     let mut writer = output(rt)?;
-    let mut replayed = replayed_to(rt, asked.at)?;
+    let mut replayed = replayed_to(rt, &asked)?;
+    let told = tell_left_out(rt, &replayed);
+    let reading = status_of(&replayed, asked.reading);
     let answered = answer(rt, &mut replayed, &asked, &mut writer);
     // The process ends here, and its memory goes back as a whole.
     forget(replayed);
+    told?;
     match answered {
-        Ok(true) => Ok(ExitCode::SUCCESS),
-        Ok(false) => Ok(ExitCode::from(NO_STATUS)),
+        Ok(answered) => Ok(status_of_answer(rt, &answered, reading)),
         Err(fault) => Err(give_up_question(rt, &asked.question, &fault)),
     }
 }

@@ -1,20 +1,24 @@
 //! Sessions over TCP.
-ghost use Rattle.std.specs.Prelude.{◌≡◌, ◌<◌, ◌≤◌, false, IfOk};
-ghost use Rattle.sysr.specs.Ranges.{IsInRange};
-ghost use Rattle.sysr.specs.Ready.{IsReady};
-ghost use Rattle.sysr.specs.declared.command_line.CommandLine.TheVariants.{Serve};
+ghost use Rattle.std.specs.Prelude.{◌≡◌, ◌<◌, ◌≤◌, false, length, IfOk, IfSome};
+ghost use Rattle.std.specs.Option.{is_some};
+ghost use Rattle.command_core.specs.Ranges.{IsInRange};
+ghost use Rattle.command_core.specs.declared.command_line.CommandLine.TheVariants.{Serve};
+ghost use Rattle.desk_core.specs.Kept.{HasKept};
+ghost use Rattle.server_core.specs.Sessions.{Leaves};
+ghost use Rattle.serving_core.specs.Ready.{IsReady};
+ghost use Rattle.sysr.specs.Kept.{is_in_lines, IsServed};
 
-use crate::command_line::Serving;
-use crate::files::{JournalSink, dump_file, journal_file};
-use crate::loading::begun_with;
+use crate::files::{DumpSink, dump_file};
+use crate::keeping::{Kept, Left, line_keeper};
+use crate::loading::{Start, begun};
+use crate::naming::{Named, apart_from_each_other};
 use crate::recording::dump_to;
-use crate::running::{goes_on, status_of};
-use crate::serving::{Served, serve_on};
-use base_core::NoMemory;
-use journal_core::{Keeper, LineKeeper, NoKeeper};
+use crate::running::status_of;
+use command_core::Serving;
+use journal_core::{Keeper, NoKeeper};
 use lines_core::{NO_MEMORY, SessionFault, fault_text, give_up};
 use server_core::{Manners, ServeFault};
-use std::fs;
+use serving_core::serve_on;
 use std::mem::forget;
 use std::net::TcpListener;
 use std::process::ExitCode;
@@ -22,33 +26,6 @@ use std::sync::Wait;
 use std::thread::Threads;
 use std::time::{Clock, Duration};
 use system_core::System;
-
-/// Fills the places of standard streams that are closed, for as long as the process runs: a socket
-/// there would be sent what is told on standard error. They are filled by what can only be read, so
-/// that to write there is still a fault.
-fn fill_closed_streams(host: &HostRuntime) {
-    for _ in 0..3 {
-        forget(fs::open(host, "/dev/null"));
-    }
-}
-
-/// Says how many sessions were served, writes the dump of what they left, and audits it, each if
-/// that is asked for.
-fn tell_end(
-    host: &HostRuntime,
-    sessions: u64,
-    system: &System,
-    path: Option<&str>,
-    audited: bool,
-) -> Result<ExitCode, ExitCode> {
-    if println!(host; "served {sessions}").is_err() {
-        return Err(give_up(host, fault_text(SessionFault::Write)));
-    }
-    if let Some(path) = path {
-        dump_to(host, system, &mut dump_file(host, path)?)?;
-    }
-    status_of(host, system, audited)
-}
 
 /// Listens at the port of this machine, and says so.
 fn listener_at(host: &HostRuntime, port: u16) -> Result<TcpListener, ExitCode> {
@@ -62,15 +39,6 @@ fn listener_at(host: &HostRuntime, port: u16) -> Result<TcpListener, ExitCode> {
     Ok(listener)
 }
 
-/// The listener of a server, which is told. The file of a dump is opened first, so that no state is
-/// lost at the end for want of it.
-fn listener_of(host: &HostRuntime, asked: Serving<'_>) -> Result<TcpListener, ExitCode> {
-    if let Some(path) = asked.dump {
-        dump_file(host, path)?;
-    }
-    listener_at(host, asked.port)
-}
-
 /// What is told of a fault that ended a server.
 fn serve_fault_text(fault: ServeFault) -> &'static str {
     match fault {
@@ -80,22 +48,28 @@ fn serve_fault_text(fault: ServeFault) -> &'static str {
     }
 }
 
-/// Serves the sessions that are asked for at the listener, from this core on, whose changes are
-/// kept.
-fn serve_with<R, K>(
+/// Serves the sessions that are asked for at the listener, from this core on, whose changes are kept,
+/// and gives what they left. The error is the status, where the server ended by a fault, which is
+/// told.
+fn served<R, K>(
     host: &HostRuntime,
     rt: &R,
     asked: Serving<'_>,
     listener: &TcpListener,
     system: System,
     keeper: K,
-) -> Result<ExitCode, ExitCode>
+) -> Result<Left<K>, ExitCode>
 where
     R: Threads + Wait + Clock + Sync,
     K: Keeper + Drop + Send,
     requires range { IsInRange (Serve asked) }
     requires ready { IsReady asked.chunk system }
     requires works { K.failed keeper ≡ false }
+    ensures leaves { IfOk result
+        (λ left. Leaves asked.entry.workers asked.entry.sessions keeper system left.system) }
+    ensures kept { IfOk result (λ left. HasKept K.keeps K.failed
+        (record { chunk = asked.entry.chunk; front = length system.journal; keeper = keeper })
+        left.system.journal left.keeper) }
 {
     let manners = Manners {
         idle: asked.idle.map(Duration::from_secs),
@@ -115,60 +89,125 @@ where
         &mut err,
     );
     match served {
-        Ok(served) => {
-            let status = tell_end(
-                host,
-                served.sessions,
-                &served.system,
-                asked.dump,
-                asked.audit,
-            );
-            // The process ends here, and its memory goes back as a whole.
-            forget(served);
-            status
-        }
+        Ok(served) => Ok(Left {
+            system: served.system,
+            keeper: served.keeper,
+        }),
         Err(fault) => Err(give_up(host, serve_fault_text(fault))),
     }
 }
 
-/// What keeps the changes in the file of a journal.
-fn journal_keeper(
-    host: &HostRuntime,
-    asked: Serving<'_>,
-    path: &str,
-) -> Result<LineKeeper<JournalSink>, ExitCode>
-    ensures { IfOk result (λ keeper. keeper.failed ≡ false) }
-{
-    let sink = journal_file(host, path, goes_on(asked.load, path))?;
-    match LineKeeper::new(host.alloc(), sink) {
-        Ok(keeper) => Ok(keeper),
-        Err(NoMemory) => Err(give_up(host, NO_MEMORY)),
-    }
-}
-
-/// Listens, once the file of a dump is known to open, and serves the sessions that are asked for.
-fn listen_and_serve<R, K>(
+/// Serves the sessions that are asked for at the listener, and keeps each change in the file of the
+/// journal, if one is named.
+fn kept<R>(
     host: &HostRuntime,
     rt: &R,
     asked: Serving<'_>,
-    system: System,
-    keeper: K,
-) -> Result<ExitCode, ExitCode>
+    listener: &TcpListener,
+    begun: Start,
+) -> Result<Kept, ExitCode>
 where
     R: Threads + Wait + Clock + Sync,
-    K: Keeper + Drop + Send,
     requires range { IsInRange (Serve asked) }
-    requires ready { IsReady asked.chunk system }
-    requires works { K.failed keeper ≡ false }
+    requires ready { IsReady asked.chunk begun.system }
+    requires works { IfSome begun.journal (λ sink. sink.failed ≡ false) }
+    ensures kept { IfOk result (λ kept. is_in_lines kept ≡ is_some begun.journal) }
+    ensures served { IfOk result (IsServed asked.entry.workers asked.entry.sessions begun.system) }
 {
-    match listener_of(host, asked) {
-        Ok(listener) => serve_with(host, rt, asked, &listener, system, keeper),
+    let Start { system, journal } = begun;
+    let Some(sink) = journal else {
+        let left = served(host, rt, asked, listener, system, NoKeeper)?;
+        return Ok(Kept::Nowhere(left));
+    };
+    match line_keeper(host, sink) {
+        Ok(keeper) => {
+            let left = served(host, rt, asked, listener, system, keeper)?;
+            Ok(Kept::Lines(left))
+        }
         Err(status) => {
             // The process ends here, and its memory goes back as a whole.
-            forget((system, keeper));
+            forget(system);
             Err(status)
         }
     }
+}
+
+/// Says how many sessions were served, writes the dump of what they left, and audits it, each if
+/// that is asked for.
+fn tell_end(
+    host: &HostRuntime,
+    asked: Serving<'_>,
+    system: &System,
+    dump: Option<DumpSink>,
+) -> Result<ExitCode, ExitCode>
+    requires { IfSome dump (λ sink. sink.failed ≡ false) }
+{
+    let sessions = asked.sessions;
+    if println!(host; "served {sessions}").is_err() {
+        return Err(give_up(host, fault_text(SessionFault::Write)));
+    }
+    if let Some(sink) = dump {
+        write_state(host, system, sink)?;
+    }
+    status_of(host, system, asked.audit)
+}
+
+/// Writes the dump. Where it cannot be written whole, what was gathered of it is not written.
+fn write_state(host: &HostRuntime, system: &System, sink: DumpSink) -> Result<(), ExitCode>
+    requires { sink.failed ≡ false }
+{
+    let mut sink = sink;
+    match dump_to(host, system, &mut sink) {
+        Ok(()) => Ok(()),
+        Err(status) => {
+            forget(sink);
+            Err(status)
+        }
+    }
+}
+
+/// The file of a dump, if one is named. It is held from the start, so that no state is lost at the
+/// end for want of it.
+fn dump_of(host: &HostRuntime, named: Named<'_>) -> Result<Option<DumpSink>, ExitCode>
+    ensures { IfOk result (λ dump. IfSome dump (λ sink. sink.failed ≡ false)) }
+{
+    match named.dump {
+        Some(path) => {
+            // The file of the journal is there by now, and may be this one under another name.
+            apart_from_each_other(host, named)?;
+            Ok(Some(dump_file(host, path)?))
+        }
+        None => Ok(None),
+    }
+}
+
+/// Serves the sessions that are asked for, and tells the end, where the files are open.
+fn listen_and_serve<R>(
+    host: &HostRuntime,
+    rt: &R,
+    asked: Serving<'_>,
+    begun: Start,
+    dump: Option<DumpSink>,
+) -> Result<ExitCode, ExitCode>
+where
+    R: Threads + Wait + Clock + Sync,
+    requires range { IsInRange (Serve asked) }
+    requires ready { IsReady asked.chunk begun.system }
+    requires works { IfSome begun.journal (λ sink. sink.failed ≡ false) }
+    requires dump { IfSome dump (λ sink. sink.failed ≡ false) }
+{
+    let listener = match listener_at(host, asked.port) {
+        Ok(listener) => listener,
+        Err(status) => {
+            // The process ends here, and its memory goes back as a whole.
+            forget(begun);
+            return Err(status);
+        }
+    };
+    let kept = kept(host, rt, asked, &listener, begun)?;
+    let status = tell_end(host, asked, kept.system(), dump);
+    forget(kept);
+    status
 }
 
 /// Serves the sessions that are asked for. It says at which port it listens, and at the end how
@@ -178,15 +217,17 @@ where
     R: Threads + Wait + Clock + Sync,
     requires { IsInRange (Serve asked) }
 {
-    fill_closed_streams(host);
-    let system = begun_with(host, asked.load, asked.chunk)?;
-    let Some(path) = asked.journal else {
-        return listen_and_serve(host, rt, asked, system, NoKeeper);
+    let named = Named {
+        load: asked.load,
+        journal: asked.journal,
+        dump: asked.dump,
     };
-    match journal_keeper(host, asked, path) {
-        Ok(keeper) => listen_and_serve(host, rt, asked, system, keeper),
+    apart_from_each_other(host, named)?;
+    let begun = begun(host, named, asked.chunk)?;
+    match dump_of(host, named) {
+        Ok(dump) => listen_and_serve(host, rt, asked, begun, dump),
         Err(status) => {
-            forget(system);
+            forget(begun);
             Err(status)
         }
     }

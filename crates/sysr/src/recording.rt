@@ -1,13 +1,21 @@
-//! What the lines of standard input leave, as lines again: their changes, or a dump.
-ghost use Rattle.std.specs.Prelude.{◌≡◌, ◌<◌, ◌≤◌, false, IfOk};
+//! What lines leave, as lines again: their changes, or a dump.
+ghost use Rattle.std.specs.Prelude.{◌≡◌, ◌<◌, ◌≤◌, Ok, false, IfOk, IfErr};
+ghost use Rattle.std.specs.List.{AllByRecursion};
+ghost use Rattle.std.specs.Process.{exit_status};
+ghost use Rattle.dump_core.specs.Ending.{EndsDump};
+ghost use Rattle.journal_core.specs.Keeping.{EndsJournal};
+ghost use Rattle.journal_core.specs.Text.{WasRead};
+ghost use Rattle.sysr.specs.Joints.{WritesJournal, WritesDump};
 
-use crate::loading::loaded;
-use crate::running::{answered, output};
-use base_core::{Name, Sink};
+use crate::loading::loaded_or_empty;
+use crate::replaying::{manner_of, replayed, status_of, tell_left_out};
+use crate::streams::{input, output};
+use base_core::{Name, Sink, Source};
+use command_core::Reading;
 use dump_core::{DumpFault, write_dump};
-use journal_core::{LineKeeper, NoKeeper};
+use journal_core::{JournalFault, write_journal};
 use lines_core::{NO_MEMORY, SessionFault, fault_text, give_up};
-use load_core::Silence;
+use load_core::Manner;
 use std::io::Write;
 use std::mem::forget;
 use std::process::ExitCode;
@@ -15,19 +23,66 @@ use system_core::System;
 
 const CHUNK: usize = 16;
 
-/// Writes the accepted changes of the lines of standard input.
-pub fn journal(rt: &HostRuntime) -> Result<ExitCode, ExitCode> {
-    let writer = output(rt)?;
-    let Ok(mut keeper) = LineKeeper::new(rt.alloc(), writer) else {
-        return Err(give_up(rt, NO_MEMORY));
-    };
-    let system = answered(rt, &mut Silence, &mut keeper, CHUNK, None)?;
-    forget(system);
-    Ok(ExitCode::SUCCESS)
+/// Writes the journal of a core. The error is the status, where it could not be written whole, which
+/// is told.
+fn journal_to<W: Sink>(rt: &HostRuntime, system: &System, writer: &mut W) -> Result<(), ExitCode>
+    requires works { W.failed writer.old ≡ false }
+    requires read { AllByRecursion WasRead system.now.journal }
+    ensures ok { IfOk result
+        (λ _. EndsJournal (Ok tt) system.now.journal (W.taken writer.old) (W.taken writer.new)) }
+    ensures err { IfErr result (λ status. exit_status status ≡ 1) }
+{
+    match write_journal(rt.alloc(), system, writer) {
+        Ok(()) => Ok(()),
+        Err(JournalFault::Write) => Err(give_up(rt, fault_text(SessionFault::Write))),
+        Err(JournalFault::NoMemory) => Err(give_up(rt, NO_MEMORY)),
+    }
+}
+
+/// Writes the changes of the reader's lines, from this core on, and tells of the lines left out.
+/// Where the status is given, they were written whole.
+fn write_changes<S: Source, W: Sink>(
+    rt: &HostRuntime,
+    reader: &mut S,
+    writer: &mut W,
+    begins: System,
+    reading: Reading,
+    manner: Manner,
+) -> Result<ExitCode, ExitCode>
+    requires source { S.failed reader.old ≡ false }
+    requires sink { W.failed writer.old ≡ false }
+    requires read { AllByRecursion WasRead begins.journal }
+    ensures ok { IfOk result (λ _. WritesJournal manner begins
+        (S.left reader.old) (S.left reader.new) (W.taken writer.old) (W.taken writer.new)) }
+    ensures err { IfErr result (λ status. exit_status status ≡ 1) }
+{
+    let replayed = replayed(rt, reader, begins, manner)?;
+    let written = journal_to(rt, &replayed.system, writer);
+    let told = tell_left_out(rt, &replayed);
+    let status = status_of(&replayed, reading);
+    // The process ends here, and its memory goes back as a whole.
+    forget(replayed);
+    written?;
+    told?;
+    Ok(status)
+}
+
+/// Writes the accepted changes of the lines of standard input. The status is 1 where lines were left
+/// out and that is to be strict, and else 0. The error is the status, where the journal could not be
+/// written whole, which is told.
+pub fn journal(rt: &HostRuntime, reading: Reading) -> Result<ExitCode, ExitCode>
+    ensures { IfErr result (λ status. exit_status status ≡ 1) }
+{
+    let mut writer = output(rt)?;
+    let begins = loaded_or_empty(rt, None, CHUNK)?;
+    let manner = manner_of(reading, u64::MAX);
+    write_changes(rt, &mut input(rt), &mut writer, begins, reading, manner)
 }
 
 /// Tells on standard error of which row no line can say that it is inserted.
-fn give_up_row(rt: &HostRuntime, table: &Name, row: u64) -> ExitCode {
+fn give_up_row(rt: &HostRuntime, table: &Name, row: u64) -> ExitCode
+    ensures { exit_status result ≡ 1 }
+{
     let mut err = rt.stderr();
     let _ = write!(err, "sysr: row {row} of ");
     let _ = err.write_all(table.as_bytes());
@@ -36,7 +91,9 @@ fn give_up_row(rt: &HostRuntime, table: &Name, row: u64) -> ExitCode {
 }
 
 /// Tells on standard error why a dump is not whole.
-fn give_up_dump(rt: &HostRuntime, fault: &DumpFault) -> ExitCode {
+fn give_up_dump(rt: &HostRuntime, fault: &DumpFault) -> ExitCode
+    ensures { exit_status result ≡ 1 }
+{
     match fault {
         DumpFault::Write => give_up(rt, fault_text(SessionFault::Write)),
         DumpFault::NoMemory => give_up(rt, NO_MEMORY),
@@ -48,6 +105,9 @@ fn give_up_dump(rt: &HostRuntime, fault: &DumpFault) -> ExitCode {
 /// told.
 pub fn dump_to<W: Sink>(rt: &HostRuntime, system: &System, writer: &mut W) -> Result<(), ExitCode>
     requires { W.failed writer.old ≡ false }
+    ensures ok { IfOk result
+        (λ _. EndsDump system.now.journal (Ok tt) (W.taken writer.old) (W.taken writer.new)) }
+    ensures err { IfErr result (λ status. exit_status status ≡ 1) }
 {
     match write_dump(rt.alloc(), system, writer) {
         Ok(()) => Ok(()),
@@ -55,17 +115,48 @@ pub fn dump_to<W: Sink>(rt: &HostRuntime, system: &System, writer: &mut W) -> Re
     }
 }
 
-/// Writes the dump of what the lines of standard input leave, behind the changes of a file, if one
-/// is named.
-pub fn dump(rt: &HostRuntime, load: Option<&str>) -> Result<ExitCode, ExitCode> {
-    let mut writer = output(rt)?;
-    let begins = match load {
-        Some(path) => Some(loaded(rt, path, CHUNK)?),
-        None => None,
-    };
-    let system = answered(rt, &mut Silence, &mut NoKeeper, CHUNK, begins)?;
-    let dumped = dump_to(rt, &system, &mut writer);
-    forget(system);
+/// Writes the dump of what the reader's lines leave, from this core on, and tells of the lines left
+/// out. Where the status is given, it was written whole.
+fn write_state<S: Source, W: Sink>(
+    rt: &HostRuntime,
+    reader: &mut S,
+    writer: &mut W,
+    begins: System,
+    reading: Reading,
+    manner: Manner,
+) -> Result<ExitCode, ExitCode>
+    requires source { S.failed reader.old ≡ false }
+    requires sink { W.failed writer.old ≡ false }
+    ensures ok { IfOk result (λ _. WritesDump manner begins
+        (S.left reader.old) (S.left reader.new) (W.taken writer.old) (W.taken writer.new)) }
+    ensures err { IfErr result (λ status. exit_status status ≡ 1) }
+{
+    let replayed = replayed(rt, reader, begins, manner)?;
+    let dumped = dump_to(rt, &replayed.system, writer);
+    let told = tell_left_out(rt, &replayed);
+    let status = status_of(&replayed, reading);
+    // The process ends here, and its memory goes back as a whole.
+    forget(replayed);
     dumped?;
-    Ok(ExitCode::SUCCESS)
+    told?;
+    Ok(status)
+}
+
+/// Writes the dump of what the lines of standard input leave, behind the changes of a file, if one
+/// is named. The status is 1 where lines were left out and that is to be strict, and else 0. The
+/// error is the status, where the dump could not be written whole, which is told.
+pub fn dump(rt: &HostRuntime, load: Option<&str>, reading: Reading) -> Result<ExitCode, ExitCode>
+    ensures { IfErr result (λ status. exit_status status ≡ 1) }
+{
+    let mut writer = output(rt)?;
+    let begins = loaded_or_empty(rt, load, CHUNK)?;
+    let manner = manner_of(reading, u64::MAX);
+    match write_state(rt, &mut input(rt), &mut writer, begins, reading, manner) {
+        Ok(status) => Ok(status),
+        Err(status) => {
+            // What was gathered is not written: a front of a dump is none.
+            forget(writer);
+            Err(status)
+        }
+    }
 }

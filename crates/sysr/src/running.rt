@@ -1,65 +1,60 @@
 //! Lines of standard input, answered.
-ghost use Rattle.std.specs.Prelude.{◌≡◌, ◌<◌, ◌≤◌, false, IfOk};
+ghost use Rattle.std.specs.Prelude.{◌≡◌, ◌<◌, ◌≤◌, true, false, Ok, IfOk, IfSome};
+ghost use Rattle.std.specs.Option.{is_some};
+ghost use Rattle.script_core.specs.Keeping.{EndsKeptFrom};
+ghost use Rattle.sysr.specs.Kept.{is_in_lines};
 
 use crate::auditing::audit;
-use crate::command_line::Running;
-use crate::files::journal_file;
-use crate::loading::loaded_and_told;
-use base_core::{Sink, StdSink, StdSource};
-use journal_core::{Keeper, LineKeeper, NoKeeper};
-use lines_core::{NO_MEMORY, Steady, give_up};
-use script_core::{script, script_fault_text, script_from};
-use std::io::{BufWriter, Stdout};
+use crate::keeping::{Kept, Left, line_keeper};
+use crate::loading::{Start, begun};
+use crate::naming::{Named, apart_from_each_other};
+use crate::streams::{input, output};
+use base_core::{Sink, Source};
+use command_core::Running;
+use journal_core::{Keeper, NoKeeper};
+use lines_core::give_up;
+use script_core::{script_fault_text, script_from};
 use std::mem::forget;
 use std::process::ExitCode;
 use system_core::System;
 
-// What is gathered of the output before it is written.
-const OUTPUT_BYTES: usize = 65536;
-
-/// Standard output. The error is the status, where there was no memory for its buffer.
-pub fn output(rt: &HostRuntime) -> Result<StdSink<Steady<Stdout>>, ExitCode>
-    ensures { IfOk result (λ writer. writer.failed ≡ false) }
-{
-    match BufWriter::with_capacity(rt.alloc(), OUTPUT_BYTES, Steady::new(rt.stdout())) {
-        Ok(buffered) => Ok(StdSink::new(buffered)),
-        Err(_) => Err(give_up(rt, NO_MEMORY)),
-    }
-}
-
-/// Answers the lines of standard input, from an empty core or from the one that is given. The error
-/// is the status, where it ended by a fault, which is told.
-pub fn answered<W: Sink, K: Keeper>(
+/// Answers the reader's lines, from this core on, and gives the core that they left, and the keeper
+/// of their changes. The error is the status, where it ended by a fault, which is told.
+fn answered<S: Source, W: Sink, K: Keeper + Drop>(
     rt: &HostRuntime,
+    reader: &mut S,
     writer: &mut W,
-    keeper: &mut K,
-    chunk: usize,
-    begins: Option<System>,
-) -> Result<System, ExitCode>
-    requires some { 0 < chunk }
-    requires small { chunk ≤ 64 }
+    keeper: K,
+    begins: System,
+) -> Result<Left<K>, ExitCode>
+    requires source { S.failed reader.old ≡ false }
     requires sink { W.failed writer.old ≡ false }
-    requires works { K.failed keeper.old ≡ false }
+    requires works { K.failed keeper ≡ false }
+    ensures { IfOk result (λ left. EndsKeptFrom K.keeps K.fails K.failed begins (Ok left.system)
+        keeper left.keeper (S.left reader.old) (S.left reader.new)
+        (W.taken writer.old) (W.taken writer.new)) }
 {
-    let mut reader = StdSource::new(Steady::new(rt.stdin()));
-    let answered = match begins {
-        None => script(rt.alloc(), &mut reader, writer, keeper, chunk),
-        Some(system) => script_from(rt.alloc(), &mut reader, writer, keeper, system),
-    };
-    match answered {
-        Ok(system) => Ok(system),
+    let mut keeper = keeper;
+    match script_from(rt.alloc(), reader, writer, &mut keeper, begins) {
+        Ok(system) => Ok(Left { system, keeper }),
         Err(fault) => Err(give_up(rt, script_fault_text(fault))),
     }
 }
 
-/// The core that a file makes, if one is named. It says how many changes that were.
-fn begins(rt: &HostRuntime, asked: Running<'_>) -> Result<Option<System>, ExitCode>
-    requires some { 0 < asked.chunk }
-    requires small { asked.chunk ≤ 64 }
+/// Answers the lines of standard input, and keeps each change in the file of the journal, if one is
+/// named.
+fn kept(rt: &HostRuntime, begun: Start) -> Result<Kept, ExitCode>
+    requires { IfSome begun.journal (λ sink. sink.failed ≡ false) }
+    ensures { IfOk result (λ kept. is_in_lines kept ≡ is_some begun.journal) }
 {
-    match asked.load {
-        Some(path) => Ok(Some(loaded_and_told(rt, path, asked.chunk)?)),
-        None => Ok(None),
+    let Start { system, journal } = begun;
+    let mut writer = output(rt)?;
+    match journal {
+        None => Ok(Kept::Nowhere(answered(rt, &mut input(rt), &mut writer, NoKeeper, system)?)),
+        Some(sink) => {
+            let keeper = line_keeper(rt, sink)?;
+            Ok(Kept::Lines(answered(rt, &mut input(rt), &mut writer, keeper, system)?))
+        }
     }
 }
 
@@ -71,46 +66,22 @@ pub fn status_of(rt: &HostRuntime, system: &System, audited: bool) -> Result<Exi
     Ok(ExitCode::SUCCESS)
 }
 
-/// Answers the lines, and audits what they left, if that is asked for.
-fn run_with<K: Keeper>(
-    rt: &HostRuntime,
-    asked: Running<'_>,
-    keeper: &mut K,
-) -> Result<ExitCode, ExitCode>
-    requires some { 0 < asked.chunk }
-    requires small { asked.chunk ≤ 64 }
-    requires works { K.failed keeper.old ≡ false }
-{
-    let mut writer = output(rt)?;
-    let begins = begins(rt, asked)?;
-    let system = answered(rt, &mut writer, keeper, asked.chunk, begins)?;
-    let status = status_of(rt, &system, asked.audit);
-    // The process ends here, and its memory goes back as a whole: to take the rows apart one by one
-    // first would cost a tenth of the run.
-    forget(system);
-    status
-}
-
-/// Whether the file is the one that is loaded, as it was named.
-pub fn goes_on(load: Option<&str>, path: &str) -> bool {
-    match load {
-        Some(loaded) => loaded == path,
-        None => false,
-    }
-}
-
 /// Answers the lines of standard input, and writes each change to the journal's file, if one is
-/// named.
+/// named. Then it audits what they left, if that is asked for.
 pub fn run(rt: &HostRuntime, asked: Running<'_>) -> Result<ExitCode, ExitCode>
     requires some { 0 < asked.chunk }
     requires small { asked.chunk ≤ 64 }
 {
-    let Some(path) = asked.journal else {
-        return run_with(rt, asked, &mut NoKeeper);
+    let named = Named {
+        load: asked.load,
+        journal: asked.journal,
+        dump: None,
     };
-    let sink = journal_file(rt, path, goes_on(asked.load, path))?;
-    match LineKeeper::new(rt.alloc(), sink) {
-        Ok(mut keeper) => run_with(rt, asked, &mut keeper),
-        Err(_) => Err(give_up(rt, NO_MEMORY)),
-    }
+    apart_from_each_other(rt, named)?;
+    let kept = kept(rt, begun(rt, named, asked.chunk)?)?;
+    let status = status_of(rt, kept.system(), asked.audit);
+    // The process ends here, and its memory goes back as a whole: to take the rows apart one by one
+    // first would cost a tenth of the run.
+    forget(kept);
+    status
 }

@@ -1,7 +1,7 @@
 -- The numbers of a command line.
 use Rattle.std.specs.Prelude.{ℕ, ◌<◌, ◌≤◌, Option, IfSome}
-use Rattle.sysr.specs.declared.command_line.CommandLine.{CommandLine}
-use Rattle.sysr.specs.declared.command_line.CommandLine.TheVariants as asked
+use Rattle.command_core.specs.declared.command_line.CommandLine.{CommandLine}
+use Rattle.command_core.specs.declared.command_line.CommandLine.TheVariants as asked
 
 -- as many records as a step of the checkpointer may take
 abbrev pub IsChunk : ℕ → Type 0
@@ -18,8 +18,8 @@ IsMoment at = IfSome at (λ m. m ≤ 1000000)
 -- each number that is asked for is in its range
 abbrev pub IsInRange : CommandLine → Type 0
 IsInRange (asked.Run r) = IsChunk r.chunk
-IsInRange asked.Journal = Unit {0}
-IsInRange (asked.Dump load) = Unit {0}
+IsInRange (asked.Journal reading) = Unit {0}
+IsInRange (asked.Dump load reading) = Unit {0}
 IsInRange (asked.Serve s) =
     ((0 < s.port) × (s.port ≤ 65535))
     × ((0 < s.workers) × (s.workers ≤ 16))

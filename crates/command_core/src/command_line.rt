@@ -1,8 +1,9 @@
 //! What the command line says.
 ghost use Rattle.std.specs.Prelude.{◌<◌, ◌≤◌, IfOk};
-ghost use Rattle.sysr.specs.Ranges.{IsChunk, IsIdle, IsMoment, IsInRange};
+ghost use Rattle.command_core.specs.Ranges.{IsChunk, IsIdle, IsMoment, IsInRange};
 
 use crate::commands::program;
+use crate::reading::{Reading, reading_of};
 use clap::error::ErrorKind;
 use clap::{ArgMatches, Error};
 use explain_text::{Format, Question};
@@ -33,9 +34,12 @@ pub enum CommandLine<'a> {
     /// To answer the lines of standard input.
     Run(Running<'a>),
     /// To write the accepted changes of the lines of standard input.
-    Journal,
+    Journal(Reading),
     /// To write what would make the state that they leave, beginning with what this file says.
-    Dump { load: Option<&'a str> },
+    Dump {
+        load: Option<&'a str>,
+        reading: Reading,
+    },
     /// To serve sessions.
     Serve(Serving<'a>),
     /// To explain the rights that the lines of standard input make.
@@ -71,10 +75,11 @@ pub struct Serving<'a> {
     pub audit: bool,
 }
 
-/// What is to be explained of a script: a question, as of which moment, if not at its end, and in
-/// which form.
+/// What is to be explained of a journal or a script: a question, as of which moment, if not at its
+/// end, and in which form; and how standard input is read.
 #[derive(Clone, Copy)]
 pub struct Explaining<'a> {
+    pub reading: Reading,
     pub at: Option<u64>,
     pub format: Format,
     pub question: Question<'a>,
@@ -199,6 +204,7 @@ fn explaining_of<'a>(matches: &ArgMatches<'a>) -> Explaining<'a>
     ensures { IsInRange (CommandLine.Explain result) }
 {
     Explaining {
+        reading: reading_of(matches),
         at: moment_of(matches),
         format: format_of(matches),
         question: question_of(matches),
@@ -224,12 +230,15 @@ pub fn options<'a, S: AsStr>(alloc: Global, words: &'a [S]) -> Result<CommandLin
     if let Some(dump) = matches.subcommand_matches("dump") {
         return Ok(CommandLine::Dump {
             load: dump.get_str("load"),
+            reading: reading_of(dump),
         });
     }
-    Ok(match matches.subcommand_matches("run") {
-        Some(run) => CommandLine::Run(running_of(run)),
-        None => CommandLine::Journal,
-    })
+    if let Some(journal) = matches.subcommand_matches("journal") {
+        return Ok(CommandLine::Journal(reading_of(journal)));
+    }
+    // clap has refused a command line without a command.
+    let run = matches.subcommand_matches("run").unwrap_or(&matches);
+    Ok(CommandLine::Run(running_of(run)))
 }
 
 /// Shows help or the version, which are asked for, or tells why the command line was refused: with

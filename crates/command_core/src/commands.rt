@@ -1,0 +1,206 @@
+//! The commands of the program, and what each may be given.
+
+use crate::explain_commands::explain_command;
+use crate::reading_flags::with_reading;
+use clap::builder::ValueParser;
+use clap::{Arg, ArgAction, Command};
+use std::alloc::{AllocError, Global};
+
+// This edition of the program.
+const VERSION: &str = "0.1.0";
+
+const FORM_OF_A_LINE: &str = "\
+A line is `user: statement`, as in `ann: SELECT * FROM pay`. Replies go to standard output, in the
+order of the lines; standard error says why the program could not go on.";
+
+const FORM_OF_A_SESSION: &str = "\
+The first line of a session is `USER name`; each later line is a statement of that user, as in
+`SELECT * FROM pay`. Standard error says of each session that ended with a fault which one it was;
+with --log it also says where each session begins and ends.";
+
+const FORM_OF_A_JOURNAL: &str = "\
+It reads a journal (what `run --journal` kept) or, with --script, a script, and writes the journal
+of what was carried out: for each change the line `user: statement`. A server that answers these
+lines has the same tables, rows and rights. Lines that were denied or refused, or that say no
+statement, are left out, which it tells on standard error. The status is 0 if all was written, and 1
+if not, or if with --strict something was left out.";
+
+const FORM_OF_A_DUMP: &str = "\
+It reads a journal (what `run --journal` kept) or, with --script, a script, and writes a dump of
+what was carried out: lines that make the same tables, rows and grants in force, each once. Lines
+that were denied or refused, or that say no statement, are left out, which it tells on standard
+error. The status is 0 if all was written, and 1 if not, or if with --strict something was left
+out.";
+
+/// A command under construction. No call here promises what it keeps, so that in a chain of them the
+/// last is as cheap to prove as the first; and none but the two below has an exit at a fault.
+pub type Made<'a> = Result<Command<'a>, AllocError>;
+
+/// The command with this argument behind its others.
+pub fn with<'a>(command: Made<'a>, arg: Arg<'a>) -> Made<'a> {
+    command?.arg(arg)
+}
+
+/// The command with this subcommand behind its others.
+pub fn with_command<'a>(command: Made<'a>, subcommand: Made<'a>) -> Made<'a> {
+    let subcommand = subcommand?;
+    command?.subcommand(subcommand)
+}
+
+/// A command without arguments.
+pub fn command<'a>(alloc: Global, name: &'a str, about: &'a str, more: &'a str) -> Made<'a> {
+    Ok(Command::new(alloc, name).about(about).after_help(more))
+}
+
+/// An option that takes one value.
+pub fn value_arg<'a>(alloc: Global, name: &'a str, value: &'a str, help: &'a str) -> Arg<'a> {
+    Arg::new(alloc, name)
+        .long(name)
+        .value_name(value)
+        .help(help)
+}
+
+/// What such an option takes.
+pub fn taking<'a>(arg: Arg<'a>, parser: ValueParser<'a>) -> Arg<'a> {
+    arg.value_parser(parser)
+}
+
+/// An option that takes no value.
+pub fn flag_arg<'a>(alloc: Global, name: &'a str, help: &'a str) -> Arg<'a> {
+    Arg::new(alloc, name)
+        .long(name)
+        .action(ArgAction::SetTrue)
+        .help(help)
+}
+
+fn chunk_arg<'a>(alloc: Global) -> Arg<'a> {
+    let help = "Records in a step of the checkpointer, from 1 to 64; 16 where it is not given";
+    taking(
+        value_arg(alloc, "chunk", "k", help),
+        clap::value_parser!(u8).range(1..=64),
+    )
+}
+
+fn audit_arg<'a>(alloc: Global) -> Arg<'a> {
+    let help = "At the end compares the rights in force with a replay of the journal";
+    flag_arg(alloc, "audit", help)
+}
+
+fn load_arg<'a>(alloc: Global) -> Arg<'a> {
+    let help = "Begins with the changes of this file, which a journal or a dump has written";
+    value_arg(alloc, "load", "FILE", help)
+}
+
+fn journal_arg<'a>(alloc: Global) -> Arg<'a> {
+    let help =
+        "Writes each change to the end of this file before its reply; the file is new or empty, \
+        or the one that is loaded";
+    value_arg(alloc, "journal", "FILE", help)
+}
+
+fn dump_arg<'a>(alloc: Global) -> Arg<'a> {
+    let help =
+        "At the end writes to this file, which is new or empty, what would make the same state";
+    value_arg(alloc, "dump", "FILE", help)
+}
+
+fn run_command<'a>(alloc: Global) -> Made<'a> {
+    let about = "Answers the lines of standard input on standard output";
+    let made = command(alloc, "run", about, FORM_OF_A_LINE);
+    let made = with(made, chunk_arg(alloc));
+    let made = with(made, load_arg(alloc));
+    let made = with(made, journal_arg(alloc));
+    with(made, audit_arg(alloc))
+}
+
+fn journal_command<'a>(alloc: Global) -> Made<'a> {
+    let about = "Writes the accepted changes of the lines of standard input, as lines again";
+    let made = command(alloc, "journal", about, FORM_OF_A_JOURNAL);
+    with_reading(alloc, made, false)
+}
+
+fn dump_command<'a>(alloc: Global) -> Made<'a> {
+    let about = "Writes few lines that make what the lines of standard input leave";
+    let made = command(alloc, "dump", about, FORM_OF_A_DUMP);
+    let made = with(made, load_arg(alloc));
+    with_reading(alloc, made, false)
+}
+
+fn port_arg<'a>(alloc: Global) -> Arg<'a> {
+    let help = "The port of 127.0.0.1 at which it listens";
+    let arg = taking(
+        value_arg(alloc, "port", "p", help),
+        clap::value_parser!(u16).range(1..=65535),
+    );
+    arg.required(true)
+}
+
+fn workers_arg<'a>(alloc: Global) -> Arg<'a> {
+    let help = "Threads that serve sessions, from 1 to 16; 4 where it is not given";
+    taking(
+        value_arg(alloc, "workers", "n", help),
+        clap::value_parser!(u8).range(1..=16),
+    )
+}
+
+fn sessions_arg<'a>(alloc: Global) -> Arg<'a> {
+    let help =
+        "Sessions that are served before it ends, from 1 to 10,000; 10,000 where it is not given";
+    taking(
+        value_arg(alloc, "sessions", "k", help),
+        clap::value_parser!(u16).range(1..=10000),
+    )
+}
+
+fn idle_arg<'a>(alloc: Global) -> Arg<'a> {
+    let help = "Seconds after which a session ends whose client sends nothing or takes nothing, \
+        from 1 to 86,400; it waits where it is not given";
+    taking(
+        value_arg(alloc, "idle", "s", help),
+        clap::value_parser!(u32).range(1..=86400),
+    )
+}
+
+fn log_arg<'a>(alloc: Global) -> Arg<'a> {
+    let help = "Says on standard error where each session begins and ends";
+    flag_arg(alloc, "log", help)
+}
+
+fn serve_command<'a>(alloc: Global) -> Made<'a> {
+    let made = command(
+        alloc,
+        "serve",
+        "Serves sessions over TCP",
+        FORM_OF_A_SESSION,
+    );
+    let made = with(made, port_arg(alloc));
+    let made = with(made, workers_arg(alloc));
+    let made = with(made, sessions_arg(alloc));
+    let made = with(made, chunk_arg(alloc));
+    let made = with(made, idle_arg(alloc));
+    let made = with(made, log_arg(alloc));
+    let made = with(made, load_arg(alloc));
+    let made = with(made, journal_arg(alloc));
+    let made = with(made, dump_arg(alloc));
+    with(made, audit_arg(alloc))
+}
+
+// The program without its commands.
+fn bare<'a>(alloc: Global) -> Made<'a> {
+    let about = "A table server in memory whose rights are delegated and revoked as in System R";
+    Ok(
+        Command::new(alloc, "sysr")
+            .about(about)
+            .version(VERSION)
+            .subcommand_required(true),
+    )
+}
+
+/// The program with its commands.
+pub fn program<'a>(alloc: Global) -> Made<'a> {
+    let made = with_command(bare(alloc), run_command(alloc));
+    let made = with_command(made, journal_command(alloc));
+    let made = with_command(made, dump_command(alloc));
+    let made = with_command(made, serve_command(alloc));
+    with_command(made, explain_command(alloc))
+}

@@ -1,0 +1,34 @@
+//! What the command line of `sysr` says.
+//!
+//! The crate knows the commands of the program, what each may be given, and the help that tells of
+//! it. [`options`] reads the words of a command line as a [`CommandLine`]: to answer a script
+//! ([`Running`]), to serve sessions ([`Serving`]), to write a journal or a dump of what is read, or
+//! to explain the rights that it makes ([`Explaining`]). The last three bear a [`Reading`], which
+//! says whether standard input is a journal or a script, what becomes of a journal's last line that
+//! was cut off, and whether the status tells of lines that were left out. [`refuse`] shows the help
+//! that was asked for, or tells why the words were refused.
+//!
+//! **The contract** of `options`: each number that is asked for is in its range
+//! (`specs/Ranges.antt`), so that no command has to look again. What the words and the errors look
+//! like is clap's. That each flag of a reading is read is tested.
+//!
+//! ```text
+//! options(alloc, &["sysr", "run", "--chunk", "4"])?   // Run(Running { chunk: 4, load: None, .. })
+//! options(alloc, &["sysr", "journal", "--script"])?   // Journal(Reading { form: Script, .. })
+//! options(alloc, &["sysr", "run", "--script"])        // Err, of the kind UnknownArgument
+//! ```
+//!
+//! It stands in a crate of its own because what clap's builders own takes long to prove: so it is
+//! made once, beside the proofs of what the commands call.
+#![tactic(auto)]
+
+mod command_line;
+mod commands;
+mod explain_commands;
+mod reading;
+mod reading_flags;
+#[cfg(test)]
+mod tests;
+
+pub use command_line::{CommandLine, Explaining, Running, Serving, options, refuse};
+pub use reading::Reading;

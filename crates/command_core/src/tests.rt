@@ -1,0 +1,127 @@
+//! Which words say how standard input is read, and which commands refuse them.
+
+use crate::command_line::{CommandLine, options};
+use crate::reading::Reading;
+use clap::Error;
+use clap::error::ErrorKind;
+use load_core::{CutLine, Form};
+use std::alloc::Global;
+use std::process::Abort;
+use std::test::Fail;
+
+const OF_A_JOURNAL: Reading = Reading {
+    form: Form::Journal,
+    cut_line: CutLine::Refuse,
+    strict: false,
+};
+
+// How the command that these words name reads standard input, if it reads a journal or a script.
+fn read(alloc: Global, words: &[&str]) -> Result<Option<Reading>, Error> {
+    Ok(match options(alloc, words)? {
+        CommandLine::Journal(reading) => Some(reading),
+        CommandLine::Dump { load: _, reading } => Some(reading),
+        CommandLine::Explain(asked) => Some(asked.reading),
+        CommandLine::Run(_) | CommandLine::Serve(_) => None,
+    })
+}
+
+// Each of these command lines asks for this reading.
+fn all_read(rt: &impl Abort, alloc: Global, lines: &[&str], wanted: Reading) -> Result<(), Fail> {
+    for line in lines {
+        let words: Vec<&str> = line.split(' ').collect(alloc)?;
+        let reading = read(alloc, words.as_slice())?;
+        assert!(rt; reading == Some(wanted), "{line}");
+    }
+    Ok(())
+}
+
+// clap refuses each of these command lines with this error, and with status 2.
+fn all_refused(
+    rt: &impl Abort,
+    alloc: Global,
+    lines: &[&str],
+    kind: ErrorKind,
+) -> Result<(), Fail> {
+    for line in lines {
+        let words: Vec<&str> = line.split(' ').collect(alloc)?;
+        match options(alloc, words.as_slice()) {
+            Ok(_) => assert!(rt; false, "{line}"),
+            Err(error) => {
+                assert!(rt; error.kind() == kind, "{line}");
+                assert_eq!(rt; error.exit_code(), 2, "{line}");
+            }
+        }
+    }
+    Ok(())
+}
+
+#[test]
+fn journals_are_read_without_a_flag(rt: HostRuntime) -> Result<(), Fail> {
+    let lines = [
+        "sysr journal",
+        "sysr dump --load pay.journal",
+        "sysr explain rights",
+        "sysr explain --cut-line refuse fell",
+    ];
+    all_read(&rt, rt.alloc(), &lines, OF_A_JOURNAL)
+}
+
+#[test]
+fn scripts_are_read(rt: HostRuntime) -> Result<(), Fail> {
+    let lines = [
+        "sysr journal --script",
+        "sysr dump --script",
+        "sysr explain --script rights",
+        "sysr explain why eve SELECT pay --script",
+    ];
+    let wanted = Reading {
+        form: Form::Script,
+        ..OF_A_JOURNAL
+    };
+    all_read(&rt, rt.alloc(), &lines, wanted)
+}
+
+#[test]
+fn cut_lines_are_dropped(rt: HostRuntime) -> Result<(), Fail> {
+    let lines = [
+        "sysr journal --cut-line drop",
+        "sysr dump --cut-line drop",
+        "sysr explain --cut-line drop rights",
+        "sysr explain who pay --cut-line drop",
+    ];
+    let wanted = Reading {
+        cut_line: CutLine::Drop,
+        ..OF_A_JOURNAL
+    };
+    all_read(&rt, rt.alloc(), &lines, wanted)
+}
+
+#[test]
+fn readings_are_strict(rt: HostRuntime) -> Result<(), Fail> {
+    let lines = [
+        "sysr journal --strict",
+        "sysr dump --strict",
+        "sysr explain --strict rights",
+        "sysr explain grants --strict",
+    ];
+    let wanted = Reading {
+        strict: true,
+        ..OF_A_JOURNAL
+    };
+    all_read(&rt, rt.alloc(), &lines, wanted)
+}
+
+#[test]
+fn what_answers_statements_takes_no_flag_of_a_reading(rt: HostRuntime) -> Result<(), Fail> {
+    let unknown = [
+        "sysr run --script",
+        "sysr run --strict",
+        "sysr run --cut-line drop",
+        "sysr serve --port 7878 --script",
+        "sysr serve --port 7878 --strict",
+        "sysr serve --port 7878 --cut-line drop",
+    ];
+    all_refused(&rt, rt.alloc(), &unknown, ErrorKind::UnknownArgument)?;
+    let other_words = ["sysr journal --cut-line keep", "sysr dump --cut-line keep"];
+    all_refused(&rt, rt.alloc(), &other_words, ErrorKind::InvalidValue)
+}

@@ -1,5 +1,0 @@
-use Rattle.sysr.proofs.Dealing.{checkpointer_of}
-use Rattle.sysr.proofs.serving.check.Goals as goal
-
-pub returns : goal.returns
-returns g c = checkpointer_of c.args.begun.now.value.journal c.args.desk.now c.args.pass c.checkpointer.new.pass c.requires c.checkpointer.ensures.checks c.checkpointer.ensures.watches.same
