@@ -12,6 +12,12 @@ import time
 from served import WAIT, Server, Session, free_port, in_time, talk
 
 
+# What a log tells of clients who are idle for too long.
+SENT_NOTHING, TOOK_NOTHING = "idle, sent nothing", "idle, took nothing"
+SILENT = (([], ["session fault: read", "session fault: write"]),
+    (["--log"], [f"session 3 fault: {SENT_NOTHING}", f"session 4 fault: {TOOK_NOTHING}"]))
+
+
 def taken_port(program, check):
     with socket.socket() as taken:
         taken.bind(("127.0.0.1", 0))
@@ -53,12 +59,13 @@ def fewest_words(program, check):
         session.end()
 
 
-def silent_clients(program, check):
+def silent_clients(program, check, more, faults):
     """Of two clients of two workers one sends nothing and one takes nothing of 9 MB. Some seconds later both sessions
     have ended with their faults, and others are served in their place. A server that was stopped and goes on ends no
-    session. Between the two parts other tests are played, while the time passes.
+    session. Between the two parts other tests are played, while the time passes. With a log the faults are of the third
+    and the fourth session, and idleness is told.
     """
-    server = Server(program, 5, more=["--idle", "1"])
+    server = Server(program, 5, more=["--idle", "1", *more])
     Server.running.remove(server.child)
     try:
         row = ", ".join(3 * [f"'{1000 * 'x'}'"])
@@ -80,8 +87,8 @@ def silent_clients(program, check):
             check("another beside them", seen == "welcome carl\n", seen)
             check("that sends nothing", silent.recv(1) == b"", "not ended")
             ended = server.end()
-        wanted = (0, b"served 5\n", ["session fault: read", "session fault: write"])
-        check("silent clients: the end", ended == wanted, ended)
+        told = [line for line in ended[2] if " fault: " in line]
+        check("silent clients: the end", (*ended[:2], told) == (0, b"served 5\n", faults), ended)
     finally:
         server.child.kill()
         server.child.communicate(timeout=WAIT)
@@ -162,34 +169,79 @@ def closed_streams(program, check):
         check(f"closed streams {closed}", seen == (1, b"sysr: write fault\n"), seen)
 
 
+class Logged:
+    """A server of one worker with a log, and the lines that it has to write: of each session its beginning, its fault if
+    one ended it, and its end."""
+
+    def __init__(self, program, sessions, *more):
+        self.server, self.number, self.lines = Server(program, sessions, workers=1, more=["--log", *more]), 0, []
+
+    def told(self, session, user, lines, moment, fault=None):
+        self.number += 1
+        peer, number = "{}:{}".format(*session.client.getsockname()), self.number
+        self.lines += [f"session {number} begun: peer {peer}", *([f"session {number} fault: {fault}"] if fault else []),
+            f"session {number} ended: user {user}, peer {peer}, lines {lines}, moment {moment}"]
+
+    def says(self, user, *lines):
+        """A session of these lines. It hears the first line of each answer, and says what the last one was."""
+        session = Session(self.server, user)
+        said = [session.ask(line) for line in lines][-1:]
+        return session, said
+
+
 def logged(program, check):
-    """With a log the beginning and the end of each session are told, beside its fault."""
-    server = Server(program, 4, workers=1, more=["--log"])
-    wanted = []
-
-    def told(session, number, user, lines, moment, *fault):
-        peer = "{}:{}".format(*session.client.getsockname())
-        wanted.extend([f"session {number} begun: peer {peer}", *fault,
-            f"session {number} ended: user {user}, peer {peer}, lines {lines}, moment {moment}"])
-
-    ann = Session(server, "ann")
-    for line in ("CREATE TABLE t (x INTEGER)", "INSERT INTO t VALUES (1)", "CHECKPOINTS", "?"):
-        ann.ask(line)
-    told(ann, 1, "ann", 4, 2)
-    ann.end()
-    nobody = Session(server, "in vain")
-    told(nobody, 2, "-", 0, "-")
+    """With a log the beginning and the end of each session are told, beside its fault. The moment is that of the last
+    answer which bore one, be it done, denied or refused: of an export the present one."""
+    log = Logged(program, 10)
+    for user, lines, moment, answer in (
+        ("ann", ["CREATE TABLE t (x INTEGER)", "INSERT INTO t VALUES (1)", "CHECKPOINTS", "?"], 2, "error 3 at 0: bad byte"),
+        ("bob", ["SELECT * FROM t"], 2, "denied @2: bob lacks SELECT(x) on t"),
+        ("ann", ["INSERT INTO t VALUES (1, 2)"], 2, "refused @2: 2 values for 1 columns"),
+        ("ann", ["?"], "-", "error 3 at 0: bad byte"),
+        ("ann", ["CHECKPOINT"], 2, "checkpoint 1 begun @2"),
+        ("ann", ["INSERT INTO t VALUES (2)"], 3, "done @3"),
+        ("eve", ["SELECT * FROM t", "", "EXPORT 2"], 3, "denied @3: no checkpoint 2"),
+    ):
+        session, said = log.says(user, *lines)
+        check(f"a log: {user}", said == [f"{answer}\n"], said)
+        log.told(session, user, len(lines), moment)
+        session.end()
+    session, _ = log.says("ann")
+    asked = len([*session.lists(0.005)])
+    exported(session, check)
+    log.told(session, "ann", asked + 1, 3)
+    session.end()
+    nobody = Session(log.server, "in vain")
+    log.told(nobody, "-", 0, "-")
     nobody.end()
-    eve = Session(server, "eve")
+    eve = Session(log.server, "eve")
     eve.send("SELECT * FR")
-    told(eve, 3, "eve", 0, "-", "session fault: read")
+    log.told(eve, "eve", 0, "-", "read")
     eve.reset()
-    bob = Session(server, "bob")
-    bob.ask("SELECT * FROM t")
-    told(bob, 4, "bob", 1, 2)
-    bob.end()
-    ended = server.end()
-    check("a log", ended == (0, b"served 4\n", wanted), ended)
+    ended = log.server.end()
+    check("a log", ended == (0, b"served 10\n", log.lines), ended)
+
+
+def exported(session, check):
+    """An export of what was at moment 2, made at moment 3."""
+    said = session.export(1)
+    wanted = ["export 1 point 2 @3\n", "table,t,x\n", "row,1\n", "end 1\n"]
+    check("a log: an export", said == wanted, said)
+
+
+def logged_idle(program, check):
+    """With a log it is told that a session ended since its client said nothing for too long, and of which fault else."""
+    log = Logged(program, 2, "--idle", "1")
+    silent, said = log.says("ann", "CREATE TABLE t (x INTEGER)")
+    log.told(silent, "ann", 1, 1, SENT_NOTHING)
+    heard = silent.line()
+    check("an idle session is ended", (said, heard) == (["done @1\n"], ""), (said, heard))
+    bob, _ = log.says("bob", "?")
+    bob.send("SELECT * FR")
+    log.told(bob, "bob", 1, "-", "read")
+    bob.reset()
+    ended = log.server.end()
+    check("a log of an idle session", ended == (0, b"served 2\n", log.lines), ended)
 
 
 # Lets accept4 fail by the numbers of ACCEPT_FAULTS, one after another; it is as ever where a number is 0, and behind
@@ -239,12 +291,15 @@ def refused_accepts(program, check, preloaded):
     check("without a listener: the end", ended == (1, b"", ["sysr: accept fault"]), ended)
 
 
-TESTS = (taken_port, greatest_numbers, fewest_words, clients_that_wait, streams, closed_streams, logged)
+TESTS = (taken_port, greatest_numbers, fewest_words, clients_that_wait, streams, closed_streams, logged,
+    logged_idle)
 
 
 def played(program, check):
-    slow = silent_clients(program, check)
-    in_time("silent clients", check, lambda: next(slow))
+    slow = [silent_clients(program, check, *words) for words in SILENT]
+    for each in slow:
+        in_time("silent clients", check, lambda: next(each))
     for test in TESTS:
         in_time(test.__name__, check, lambda: test(program, check))
-    in_time("silent clients", check, lambda: next(slow, None))
+    for each in slow:
+        in_time("silent clients", check, lambda: next(each, None))

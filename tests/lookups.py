@@ -3,10 +3,15 @@
 A long script by chance is played as it is, and once more with each `column = v` written as `column >= v AND column <= v`,
 which goes over all rows. Both have to be answered alike, and as sqlite3 answers, which keeps indexes of its own. A table has
 some thousands of rows, and another one passes now and then the number from which on indexes are made. Rows are inserted,
-changed and deleted all the while, also in the columns that are asked for, and checkpoints are taken and exported.
+changed and deleted all the while, also in the columns that are asked for, and checkpoints are taken and exported. That
+indexes are made at all is seen by the requests for memory that they take.
 """
+import functools
 import random
 import sqlite3
+import subprocess
+
+import refusals
 
 SEED = 1976
 STATEMENTS = 100_000
@@ -25,6 +30,10 @@ def literal(value):
 def field(value):
     text = str(value)
     return '"' + text.replace('"', '""') + '"' if any(mark in text for mark in ',"') else text
+
+
+# So many rows a table has to have before its columns get indexes.
+INDEXED = 256
 
 
 class Lookups:
@@ -167,3 +176,33 @@ def script(statements=STATEMENTS):
             lookups.any()
         lookups.export()
     return lookups.given, lookups.ranged, lookups.wanted
+
+
+def requests_of(requests, program, rows, filters):
+    """How many requests for memory each of these look-ups takes more, in a table of so many rows."""
+    front = ["own: CREATE TABLE t (id INTEGER, name TEXT)", *(
+        f"own: INSERT INTO t VALUES ({n}, 'row {n}')" for n in range(rows))]
+    asked = [f"own: SELECT * FROM t WHERE {each}" for each in filters]
+
+    def count(lines):
+        text = "".join(line + "\n" for line in lines).encode()
+        run = functools.partial(subprocess.run, [program, "run"], input=text, stdout=subprocess.DEVNULL, timeout=60)
+        return requests.counted(run)[1]
+
+    counts = [count([*front, *asked[:many]]) for many in range(len(asked) + 1)]
+    return [after - before for before, after in zip(counts, counts[1:])]
+
+
+def indexed(program, check, preloaded, work):
+    """A column that is asked for by equality a second time gets an index, which takes requests, if the table has rows
+    enough. Later look-ups by that column take no more than the first; a range makes none."""
+    requests = refusals.Requests(preloaded, work)
+    for rows in (10, INDEXED - 1, INDEXED, 3_000):
+        for kind, equal, ranged in (("numbers", "id = 7", "id >= 7 AND id <= 7"),
+                ("texts", "name = 'row 7'", "name >= 'row 7' AND name <= 'row 7'")):
+            first, second, *later = requests_of(requests, program, rows, 5 * [equal])
+            made = second > first + 5 if rows >= INDEXED else second == first
+            check(f"an index of {kind}, {rows} rows", made, (first, second))
+            check(f"one index of {kind}, {rows} rows", later == 3 * [first], (first, later))
+            taken = requests_of(requests, program, rows, 4 * [ranged])
+            check(f"no index of {kind} by ranges, {rows} rows", len(set(taken)) == 1, taken)

@@ -1,5 +1,6 @@
 """What stands in packaging: the program takes the words of the unit and of the container file, is killed and goes on with
-its journal; journals are mended; and what a container gets is all that the program needs."""
+its journal; journals are mended, on a full disk too; and what a container gets is all that the program needs."""
+import contextlib
 import json
 import os
 import shutil
@@ -97,6 +98,54 @@ def mending(program, check):
             check(f"mended, and loaded: {given}", loaded.stdout == wanted, loaded)
 
 
+@contextlib.contextmanager
+def small_disk(size):
+    """A folder on a disk of so many bytes, or None where none can be mounted."""
+    with tempfile.TemporaryDirectory() as folder:
+        words = ["mount", "-t", "tmpfs", "-o", f"size={size}", "none", folder]
+        can_mount = os.geteuid() == 0 and shutil.which("mount") is not None
+        if not can_mount or subprocess.run(words, capture_output=True, timeout=WAIT).returncode != 0:
+            yield None
+            return
+        try:
+            yield folder
+        finally:
+            subprocess.run(["umount", folder], check=True, timeout=WAIT)
+
+
+def fill(path):
+    """Writes to the file until the disk is full. It gives how many bytes were written."""
+    with open(path, "ab", buffering=0) as file, contextlib.suppress(OSError):
+        while file.write(1000 * b"x"):
+            pass
+    return os.path.getsize(path)
+
+
+def mending_a_full_disk(program, check):
+    """On a full disk a cut line is taken away, though there is no room to keep it, and the program goes on with the
+    journal."""
+    with small_disk(64 << 10) as folder:
+        if folder is None:
+            print("no disk could be mounted: mend-journal on a full disk was not tried")
+            return
+        path, line = os.path.join(folder, "sysr.journal"), b"ann: CREATE TABLE t (x TEXT)\n"
+        with open(path, "wb") as file:
+            file.write(line + b"ann: INSERT INTO t VALUES ('")
+        cut = fill(path) - len(line)
+        check("a full disk", cut > 50_000, cut)
+        done = mended(folder)
+        told = (f"sysr.journal: its last line was cut off; {cut} bytes were taken away, and could not all be copied to "
+            "sysr.journal.cut\n")
+        check("mended on a full disk, and told", (done.returncode, done.stdout, done.stderr) == (0, "", told), done)
+        check("mended on a full disk", content(path) == line, content(path)[:100])
+        again = mended(folder)
+        check("mended twice", (again.returncode, again.stdout, again.stderr) == (0, "", ""), again)
+        words = [program, "run", "--load", path, "--journal", path]
+        goes_on = subprocess.run(words, input=b"ann: INSERT INTO t VALUES ('a')\n", capture_output=True, timeout=WAIT)
+        seen = goes_on.returncode, goes_on.stdout, goes_on.stderr
+        check("it goes on", seen == (0, b"loaded 1 changes\ndone @2\n", b""), seen)
+
+
 def content(path):
     if not os.path.exists(path):
         return None
@@ -137,5 +186,5 @@ def container(program, check):
 def played(program, check):
     for name, words in (("the unit", words_of_unit()), ("the container", words_of_container())):
         in_time(name, check, lambda: goes_on(program, check, name, words))
-    for test in (mending, verified, container):
+    for test in (mending, mending_a_full_disk, verified, container):
         in_time(test.__name__, check, lambda: test(program, check))

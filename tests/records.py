@@ -13,6 +13,8 @@ import threading
 import time
 
 import rights_by_chance
+from one_history import replies
+from reading import COLUMNS, LONGEST_NAME, left_out_of, left_out_told, line_of
 from rights import BY_COLUMN
 from served import Server, Session
 
@@ -96,10 +98,10 @@ class Records:
         done = subprocess.run([self.program, *words], input=given, capture_output=True, timeout=WAIT)
         return done.returncode, done.stdout, done.stderr
 
-    def told(self, name, words, given=b""):
-        """What it writes, where it ends well."""
+    def told(self, name, words, given=b"", left_out=b""):
+        """What it writes, where it ends well, and tells on standard error what was left out."""
         status, out, err = self.run(words, given)
-        self.check(name, (status, err) == (0, b""), (status, err))
+        self.check(name, (status, err) == (0, left_out), (status, err))
         return out
 
     def ends(self, name, words, given, wanted):
@@ -112,10 +114,18 @@ class Records:
             text = file.read()
         self.check(name, text == as_bytes(lines), text)
 
+    def left_out(self, given, answers):
+        """What is told of the lines of a script that say no change which is done."""
+        lines = given.decode(errors="replace").split("\n")[:-1]
+        heads = replies(answers.decode(errors="replace").split("\n")[:-1])
+        return as_bytes(f"sysr: {line}" for line in left_out_told(left_out_of(lines, heads)))
+
     def is_kept(self, name, words, given):
         """A script's journal and its dump make what the script left, and are their own journal and dump."""
-        journal = self.told(f"{name}: journal", ["journal"], given)
-        dump = self.told(f"{name}: dump", ["dump"], given)
+        before = self.told(name, ["run", *words], given)
+        left_out = self.left_out(given, before)
+        journal = self.told(f"{name}: journal", ["journal"], given, left_out)
+        dump = self.told(f"{name}: dump", ["dump"], given, left_out)
         self.check(f"{name}: its journal again", self.told(name, ["journal"], journal) == journal, journal[:400])
         for kept in (journal, dump):
             again = self.told(f"{name}: run again", ["run"], kept)
@@ -128,7 +138,6 @@ class Records:
         users += sorted({to for _, _, to, _ in dumped.grants} - set(users))
         asked = as_bytes(probes(users, dumped))
         wanted = self.told(name, ["run", *words], given + asked)
-        before = self.told(name, ["run", *words], given)
         for kind, kept in (("journal", journal), ("dump", dump)):
             loaded = self.told(f"{name}: {kind} loaded", ["run", "--load", self.file(kind, kept)], asked)
             head, _, answers = loaded.partition(b"\n")
@@ -239,6 +248,17 @@ def loading(records):
     records.ends("a folder", ["run", "--load", path], b"", (1, b"", f"sysr: {path}: read fault\n".encode()))
 
 
+def long_lines_loaded(records):
+    """A file's line may have a statement of 4,096 bytes behind the longest name."""
+    for user, size, fault_at in ((LONGEST_NAME, 4097, None), (LONGEST_NAME, 4127, None), ("o", 4098, None),
+            (LONGEST_NAME, 4128, 4127), ("o", 4099, 4098), (LONGEST_NAME, 4129, 4128), ("o", 9000, 4128)):
+        lines = [f"{user}: CREATE TABLE w {COLUMNS}", line_of(user, size)]
+        path = records.file("long", as_bytes(lines))
+        told = f"sysr: {path}: line 2: error 2 at {fault_at}: too long\n".encode()
+        wanted = (1, b"", told) if fault_at else (0, b"loaded 2 changes\n", b"")
+        records.ends(f"a line of {size} loaded", ["run", "--load", path], b"", wanted)
+
+
 def journals(records):
     """Where a journal is written, and where not."""
     created, inserted = (as_bytes([line]) for line in LINES)
@@ -327,6 +347,7 @@ def played(program, check, examples):
         by_chance(records)
         long_lines(records)
         loading(records)
+        long_lines_loaded(records)
         journals(records)
         served(records)
         served_without_room(records)

@@ -259,7 +259,7 @@ def picture(owner, edges):
 
 def ended(edge):
     if edge.fell is None:
-        return "" if edge.option_end is None else f"option @{edge.option_end}"
+        return f"option @{edge.option_end}" if edge.option and edge.option_end else ""
     return f"{edge.how} @{edge.fell}, line {edge.revoke}"
 
 

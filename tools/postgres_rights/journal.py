@@ -106,13 +106,13 @@ def answered(sysr: str, changes: bytes, lines: bytes) -> Optional[list[str]]:
 def accepted(sysr: str, given: bytes) -> tuple[bytes, int]:
     """A journal as it is, and of a script the changes that were accepted, with how many other lines it has.
 
-    (`sysr journal` would not do for both: a journal's lines may be longer than a script's.)
+    (`sysr journal` would not do for both: it reads one of them, and a journal's lines may be longer than a script's.)
     """
     if given and not given.endswith(b"\n"):
         fail("standard input: the last line is cut off")
     if answered(sysr, given, b"") is not None:
         return given, 0
-    status, out, why = run_sysr(sysr, ["journal"], given)
+    status, out, why = run_sysr(sysr, ["journal", "--script"], given)
     if status:
         fail(why)
     return out, given.count(b"\n") - out.count(b"\n")

@@ -128,17 +128,20 @@ class Commands:
         self._talk.tell(*self._explained(["why", user, " ".join(privilege), table]))
 
     def _explained(self, question: Sequence[str]) -> List[str]:
-        """The lines with which `sysr explain` answers. Status 1 without an answer says that there is none, and why."""
+        """The lines with which `sysr explain` answers. Where there is no answer, standard error says why.
+
+        (A last line that is cut off is one that the server is writing.)
+        """
         journal = self._talk.session.place.journal
         if journal is None:
             raise CommandError(NO_JOURNAL)
         with open(journal, "rb") as lines:
             try:
-                told = subprocess.run([self._program, "explain", *question], stdin=lines, capture_output=True,
-                    check=False)
+                told = subprocess.run([self._program, "explain", "--cut-line", "drop", *question], stdin=lines,
+                    capture_output=True, check=False)
             except OSError as fault:
                 raise CommandError(f"{self._program}: {fault.strerror}: begin the shell with --sysr PROGRAM") from fault
-        if told.stderr:
+        if told.stderr and not told.stdout:
             raise CommandError(told.stderr.decode(errors="replace").strip())
         return told.stdout.decode(errors="replace").splitlines()
 
