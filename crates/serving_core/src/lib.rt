@@ -11,6 +11,9 @@
 //! served.sessions                                                        // 100
 //! ```
 //!
+//! So a file goes on: what the keeper wrote as lines behind a file that loads what the server began
+//! with, loads with it what the server left (law [`gone_on_server_is_kept`]).
+//!
 //! # Mechanism
 //!
 //! A desk is built with a pass for each worker and one for the checkpointer. Each worker has besides
@@ -25,7 +28,9 @@
 #![tactic(auto)]
 
 mod dealing;
+mod laws;
 mod serving;
 mod threads;
 
+pub use laws::gone_on_server_is_kept;
 pub use serving::{Served, serve_on};

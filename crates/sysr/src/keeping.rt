@@ -2,10 +2,10 @@
 ghost use Rattle.std.specs.Prelude.{◌≡◌, false, IfOk};
 ghost use Rattle.sysr.specs.Kept.{system_of};
 
-use crate::files::JournalSink;
 use base_core::{NoMemory, Sink};
 use journal_core::{LineKeeper, NoKeeper};
 use lines_core::{NO_MEMORY, give_up};
+use std::mem::forget;
 use std::process::ExitCode;
 use system_core::System;
 
@@ -18,14 +18,14 @@ pub struct Left<K> {
 
 /// What they left, and where their changes are kept.
 #[derive(Drop)]
-pub enum Kept {
-    /// Nowhere, since no journal is named.
+pub enum Kept<W: Sink + Drop> {
+    /// Nowhere, since there is no journal.
     Nowhere(Left<NoKeeper>),
-    /// As lines, in the file of the journal that is named.
-    Lines(Left<LineKeeper<JournalSink>>),
+    /// As lines, in the journal.
+    Lines(Left<LineKeeper<W>>),
 }
 
-impl Kept {
+impl<W: Sink + Drop> Kept<W> {
     /// The core that was left.
     pub fn system(&self) -> &System
         ensures { result.now ≡ system_of self.now }
@@ -37,10 +37,29 @@ impl Kept {
     }
 }
 
-/// A keeper that writes to this file. The error is the status, where there was no memory for it, which
-/// is told.
-pub fn line_keeper(rt: &HostRuntime, sink: JournalSink) -> Result<LineKeeper<JournalSink>, ExitCode>
-    requires { sink.failed ≡ false }
+/// What a run or a server left, and the status that it ended with.
+#[derive(Drop)]
+pub struct Ended<W: Sink + Drop> {
+    pub kept: Kept<W>,
+    pub status: ExitCode,
+}
+
+impl<W: Sink + Drop> Ended<W> {
+    /// The status. The process ends with it, and its memory goes back as a whole: to take the rows
+    /// apart one by one first would cost a tenth of a run.
+    pub fn into_status(self) -> ExitCode
+        ensures { result ≡ self.status }
+    {
+        let Ended { kept, status } = self;
+        forget(kept);
+        status
+    }
+}
+
+/// A keeper that writes to this journal. The error is the status, where there was no memory for it,
+/// which is told.
+pub fn line_keeper<W: Sink + Drop>(rt: &HostRuntime, sink: W) -> Result<LineKeeper<W>, ExitCode>
+    requires { W.failed sink ≡ false }
     ensures { IfOk result (λ keeper. keeper ≡ sink) }
 {
     match LineKeeper::new(rt.alloc(), sink) {

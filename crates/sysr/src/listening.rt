@@ -1,19 +1,19 @@
 //! Sessions over TCP.
-ghost use Rattle.std.specs.Prelude.{◌≡◌, ◌<◌, ◌≤◌, false, length, IfOk, IfSome};
-ghost use Rattle.std.specs.Option.{is_some};
+ghost use Rattle.std.specs.Prelude.{◌≡◌, false, length, IfOk, IfSome};
 ghost use Rattle.command_core.specs.Ranges.{IsInRange};
 ghost use Rattle.command_core.specs.declared.command_line.CommandLine.TheVariants.{Serve};
 ghost use Rattle.desk_core.specs.Kept.{HasKept};
 ghost use Rattle.server_core.specs.Sessions.{Leaves};
 ghost use Rattle.serving_core.specs.Ready.{IsReady};
-ghost use Rattle.sysr.specs.Kept.{is_in_lines, IsServed};
+ghost use Rattle.sysr.specs.Kept.{IsServed, ServesFrom};
 
-use crate::files::{DumpSink, dump_file};
-use crate::keeping::{Kept, Left, line_keeper};
+use crate::files::{DumpSink, JournalSink, dump_file};
+use crate::keeping::{Ended, Kept, Left, line_keeper};
 use crate::loading::{Start, begun};
 use crate::naming::{Named, apart_from_each_other};
 use crate::recording::dump_to;
 use crate::running::status_of;
+use base_core::Sink;
 use command_core::Serving;
 use journal_core::{Keeper, NoKeeper};
 use lines_core::{NO_MEMORY, SessionFault, fault_text, give_up};
@@ -97,22 +97,23 @@ where
     }
 }
 
-/// Serves the sessions that are asked for at the listener, and keeps each change in the file of the
-/// journal, if one is named.
-fn kept<R>(
+/// Serves the sessions that are asked for at the listener, and keeps each change in the journal, if
+/// there is one. The error is the status, where the server ended by a fault, which is told.
+fn kept<R, W>(
     host: &HostRuntime,
     rt: &R,
     asked: Serving<'_>,
     listener: &TcpListener,
-    begun: Start,
-) -> Result<Kept, ExitCode>
+    begun: Start<W>,
+) -> Result<Kept<W>, ExitCode>
 where
     R: Threads + Wait + Clock + Sync,
+    W: Sink + Drop + Send,
     requires range { IsInRange (Serve asked) }
     requires ready { IsReady asked.chunk begun.system }
-    requires works { IfSome begun.journal (λ sink. sink.failed ≡ false) }
-    ensures kept { IfOk result (λ kept. is_in_lines kept ≡ is_some begun.journal) }
-    ensures served { IfOk result (IsServed asked.entry.workers asked.entry.sessions begun.system) }
+    requires works { IfSome begun.journal (λ sink. W.failed sink ≡ false) }
+    ensures { IfOk result (IsServed W.taken W.handed_on W.failed
+        asked.entry.workers asked.entry.sessions begun) }
 {
     let Start { system, journal } = begun;
     let Some(sink) = journal else {
@@ -133,7 +134,7 @@ where
 }
 
 /// Says how many sessions were served, writes the dump of what they left, and audits it, each if
-/// that is asked for.
+/// that is asked for. The error is the status, where that could not be said or written.
 fn tell_end(
     host: &HostRuntime,
     asked: Serving<'_>,
@@ -149,7 +150,7 @@ fn tell_end(
     if let Some(sink) = dump {
         write_state(host, system, sink)?;
     }
-    status_of(host, system, asked.audit)
+    Ok(status_of(host, system, asked.audit))
 }
 
 /// Writes the dump. Where it cannot be written whole, what was gathered of it is not written.
@@ -182,19 +183,22 @@ fn dump_of(host: &HostRuntime, named: Named<'_>) -> Result<Option<DumpSink>, Exi
 }
 
 /// Serves the sessions that are asked for, and tells the end, where the files are open.
-fn listen_and_serve<R>(
+fn listen_and_serve<R, W>(
     host: &HostRuntime,
     rt: &R,
     asked: Serving<'_>,
-    begun: Start,
+    begun: Start<W>,
     dump: Option<DumpSink>,
-) -> Result<ExitCode, ExitCode>
+) -> Result<Ended<W>, ExitCode>
 where
     R: Threads + Wait + Clock + Sync,
+    W: Sink + Drop + Send,
     requires range { IsInRange (Serve asked) }
     requires ready { IsReady asked.chunk begun.system }
-    requires works { IfSome begun.journal (λ sink. sink.failed ≡ false) }
+    requires works { IfSome begun.journal (λ sink. W.failed sink ≡ false) }
     requires dump { IfSome dump (λ sink. sink.failed ≡ false) }
+    ensures { IfOk result (λ ended. IsServed W.taken W.handed_on W.failed
+        asked.entry.workers asked.entry.sessions begun ended.kept) }
 {
     let listener = match listener_at(host, asked.port) {
         Ok(listener) => listener,
@@ -205,17 +209,25 @@ where
         }
     };
     let kept = kept(host, rt, asked, &listener, begun)?;
-    let status = tell_end(host, asked, kept.system(), dump);
-    forget(kept);
-    status
+    let status = match tell_end(host, asked, kept.system(), dump) {
+        Ok(status) | Err(status) => status,
+    };
+    Ok(Ended { kept, status })
 }
 
 /// Serves the sessions that are asked for. It says at which port it listens, and at the end how
-/// many sessions it served, and how an audit ended.
-pub fn serve<R>(host: &HostRuntime, rt: &R, asked: Serving<'_>) -> Result<ExitCode, ExitCode>
+/// many sessions it served, and how an audit ended. What they left is given too.
+pub fn serve<R>(
+    host: &HostRuntime,
+    rt: &R,
+    asked: Serving<'_>,
+) -> Result<Ended<JournalSink>, ExitCode>
 where
     R: Threads + Wait + Clock + Sync,
     requires { IsInRange (Serve asked) }
+    ensures { IfOk result (λ ended. ServesFrom ⟦<JournalSink as Sink>⟧.taken
+        ⟦<JournalSink as Sink>⟧.handed_on ⟦<JournalSink as Sink>⟧.failed
+        asked.entry.workers asked.entry.sessions asked.entry.journal ended.kept) }
 {
     let named = Named {
         load: asked.load,

@@ -71,11 +71,11 @@ fn loaded_and_told(rt: &HostRuntime, load: Option<&str>, chunk: usize) -> Result
     Ok(system)
 }
 
-/// What a program begins with: a core, and a writer to the file of a journal, if one is named.
+/// What a program begins with: a core, and a journal that its changes are kept in, if there is one.
 #[derive(Drop)]
-pub struct Start {
+pub struct Start<W> {
     pub system: System,
-    pub journal: Option<JournalSink>,
+    pub journal: Option<W>,
 }
 
 /// A writer to the file of a journal, if one is named.
@@ -91,7 +91,7 @@ fn journal_of(rt: &HostRuntime, path: Option<&str>) -> Result<Option<JournalSink
 
 /// What a program begins with where the file that is loaded is gone on with: it is held before it is
 /// read, so that no other program writes to it behind what was read.
-fn going_on(rt: &HostRuntime, path: &str, chunk: usize) -> Result<Start, ExitCode>
+fn going_on(rt: &HostRuntime, path: &str, chunk: usize) -> Result<Start<JournalSink>, ExitCode>
     requires some { 0 < chunk }
     requires small { chunk ≤ 64 }
     ensures ready { IfOk result (λ begun. IsReady chunk begun.system) }
@@ -108,7 +108,11 @@ fn going_on(rt: &HostRuntime, path: &str, chunk: usize) -> Result<Start, ExitCod
 
 /// What a program begins with. A file is loaded before another one is opened to write to, so that
 /// none is made where it cannot be loaded. The error is the status, and the reason is told.
-pub fn begun(rt: &HostRuntime, named: Named<'_>, chunk: usize) -> Result<Start, ExitCode>
+pub fn begun(
+    rt: &HostRuntime,
+    named: Named<'_>,
+    chunk: usize,
+) -> Result<Start<JournalSink>, ExitCode>
     requires some { 0 < chunk }
     requires small { chunk ≤ 64 }
     ensures ready { IfOk result (λ begun. IsReady chunk begun.system) }

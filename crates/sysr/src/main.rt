@@ -22,12 +22,12 @@
 //! a dump says that of [`write_dump`](dump_core::write_dump); what is explained that of
 //! [`explain`](explain_text::explain); what the command line may say that of
 //! [`options`](command_core::options); and what the threads of a server do to its core that of
-//! [`serve_on`](serving_core::serve_on). This crate joins them with files and streams: where a journal
-//! or a dump is written without a fault it is whole (`specs/Joints.antt`), and what `run` and `serve`
-//! leave is kept in the journal that is named (`specs/Kept.antt`).
+//! [`serve_on`](serving_core::serve_on). This crate joins them with files and streams: where `journal`
+//! and `dump` end without a fault, what they wrote is whole (`specs/Joints.antt`); what `run` and `serve`
+//! leave was kept in the journal that is named, from where it was opened (`specs/Kept.antt`).
 #![tactic(auto)]
 
-ghost use Rattle.std.specs.Prelude.{◌<◌, ◌≤◌};
+ghost use Rattle.command_core.specs.Ranges.{IsInRange};
 
 mod auditing;
 mod explaining;
@@ -41,15 +41,50 @@ mod replaying;
 mod running;
 mod streams;
 
-use command_core::{CommandLine, options, refuse};
+use command_core::{CommandLine, Reading, options, refuse};
 use explaining::explained;
 use lines_core::{NO_MEMORY, give_up};
 use listening::serve;
 use recording::{dump, journal};
 use running::run;
+use std::mem::forget;
 use std::process::ExitCode;
+use std::sync::Wait;
+use std::thread::Threads;
+use std::time::Clock;
 use std::{env, io};
-use streams::fill_closed_streams;
+use streams::{fill_closed_streams, input, output};
+
+/// Writes the dump of what standard input leaves. What is gathered of one that cannot be written whole
+/// is not written, as a front of a dump is none.
+fn dumped(rt: &HostRuntime, load: Option<&str>, reading: Reading) -> Result<ExitCode, ExitCode> {
+    let mut writer = output(rt)?;
+    match dump(rt, &mut input(rt), &mut writer, load, reading) {
+        Ok(status) => Ok(status),
+        Err(status) => {
+            forget(writer);
+            Err(status)
+        }
+    }
+}
+
+/// Does what the command line asks for. The error is the status, where it could not be done, which is
+/// told.
+fn carried_out<R>(host: &HostRuntime, rt: &R, asked: CommandLine<'_>) -> Result<ExitCode, ExitCode>
+where
+    R: Threads + Wait + Clock + Sync,
+    requires { IsInRange asked }
+{
+    match asked {
+        CommandLine::Run(asked) => Ok(run(host, asked)?.into_status()),
+        CommandLine::Journal(reading) => {
+            journal(host, &mut input(host), &mut output(host)?, reading)
+        }
+        CommandLine::Dump { load, reading } => dumped(host, load, reading),
+        CommandLine::Serve(asked) => Ok(serve(host, rt, asked)?.into_status()),
+        CommandLine::Explain(asked) => explained(host, asked),
+    }
+}
 
 fn main(rt: HostRuntime) -> ExitCode {
     fill_closed_streams(&rt);
@@ -65,11 +100,7 @@ fn main(rt: HostRuntime) -> ExitCode {
         Err(_) => return give_up(&rt, NO_MEMORY),
     };
     let ended = match options(rt.alloc(), words.as_slice()) {
-        Ok(CommandLine::Run(asked)) => run(&rt, asked),
-        Ok(CommandLine::Journal(reading)) => journal(&rt, reading),
-        Ok(CommandLine::Dump { load, reading }) => dump(&rt, load, reading),
-        Ok(CommandLine::Serve(asked)) => serve(&rt, &rt, asked),
-        Ok(CommandLine::Explain(asked)) => explained(&rt, asked),
+        Ok(asked) => carried_out(&rt, &rt, asked),
         Err(error) => Err(refuse(&rt, &error)),
     };
     match ended {

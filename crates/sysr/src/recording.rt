@@ -1,5 +1,5 @@
 //! What lines leave, as lines again: their changes, or a dump.
-ghost use Rattle.std.specs.Prelude.{◌≡◌, ◌<◌, ◌≤◌, Ok, false, IfOk, IfErr};
+ghost use Rattle.std.specs.Prelude.{◌≡◌, Ok, false, IfOk, IfErr};
 ghost use Rattle.std.specs.List.{AllByRecursion};
 ghost use Rattle.std.specs.Process.{exit_status};
 ghost use Rattle.dump_core.specs.Ending.{EndsDump};
@@ -9,13 +9,11 @@ ghost use Rattle.sysr.specs.Joints.{WritesJournal, WritesDump};
 
 use crate::loading::loaded_or_empty;
 use crate::replaying::{manner_of, replayed, status_of, tell_left_out};
-use crate::streams::{input, output};
 use base_core::{Name, Sink, Source};
 use command_core::Reading;
 use dump_core::{DumpFault, write_dump};
 use journal_core::{JournalFault, write_journal};
 use lines_core::{NO_MEMORY, SessionFault, fault_text, give_up};
-use load_core::Manner;
 use std::io::Write;
 use std::mem::forget;
 use std::process::ExitCode;
@@ -39,24 +37,23 @@ fn journal_to<W: Sink>(rt: &HostRuntime, system: &System, writer: &mut W) -> Res
     }
 }
 
-/// Writes the changes of the reader's lines, from this core on, and tells of the lines left out.
-/// Where the status is given, they were written whole.
-fn write_changes<S: Source, W: Sink>(
+/// Writes the changes of the reader's lines, and tells of the lines left out. Where the status is
+/// given, they were written whole: it is 1 where lines were left out and that is to be strict, and
+/// else 0. The error is the status, where they could not be written whole, which is told.
+pub fn journal<S: Source, W: Sink>(
     rt: &HostRuntime,
     reader: &mut S,
     writer: &mut W,
-    begins: System,
     reading: Reading,
-    manner: Manner,
 ) -> Result<ExitCode, ExitCode>
     requires source { S.failed reader.old ≡ false }
     requires sink { W.failed writer.old ≡ false }
-    requires read { AllByRecursion WasRead begins.journal }
-    ensures ok { IfOk result (λ _. WritesJournal manner begins
-        (S.left reader.old) (S.left reader.new) (W.taken writer.old) (W.taken writer.new)) }
+    ensures ok { IfOk result (λ status. WritesJournal reading (S.left reader.old)
+        (S.left reader.new) (W.taken writer.old) (W.taken writer.new) (exit_status status)) }
     ensures err { IfErr result (λ status. exit_status status ≡ 1) }
 {
-    let replayed = replayed(rt, reader, begins, manner)?;
+    let begins = loaded_or_empty(rt, None, CHUNK)?;
+    let replayed = replayed(rt, reader, begins, manner_of(reading, u64::MAX))?;
     let written = journal_to(rt, &replayed.system, writer);
     let told = tell_left_out(rt, &replayed);
     let status = status_of(&replayed, reading);
@@ -65,18 +62,6 @@ fn write_changes<S: Source, W: Sink>(
     written?;
     told?;
     Ok(status)
-}
-
-/// Writes the accepted changes of the lines of standard input. The status is 1 where lines were left
-/// out and that is to be strict, and else 0. The error is the status, where the journal could not be
-/// written whole, which is told.
-pub fn journal(rt: &HostRuntime, reading: Reading) -> Result<ExitCode, ExitCode>
-    ensures { IfErr result (λ status. exit_status status ≡ 1) }
-{
-    let mut writer = output(rt)?;
-    let begins = loaded_or_empty(rt, None, CHUNK)?;
-    let manner = manner_of(reading, u64::MAX);
-    write_changes(rt, &mut input(rt), &mut writer, begins, reading, manner)
 }
 
 /// Tells on standard error of which row no line can say that it is inserted.
@@ -115,23 +100,25 @@ pub fn dump_to<W: Sink>(rt: &HostRuntime, system: &System, writer: &mut W) -> Re
     }
 }
 
-/// Writes the dump of what the reader's lines leave, from this core on, and tells of the lines left
-/// out. Where the status is given, it was written whole.
-fn write_state<S: Source, W: Sink>(
+/// Writes the dump of what the reader's lines leave, behind the changes of a file, if one is named,
+/// and tells of the lines left out. Where the status is given, it was written whole: it is 1 where
+/// lines were left out and that is to be strict, and else 0. The error is the status, where the dump
+/// could not be written whole, which is told.
+pub fn dump<S: Source, W: Sink>(
     rt: &HostRuntime,
     reader: &mut S,
     writer: &mut W,
-    begins: System,
+    load: Option<&str>,
     reading: Reading,
-    manner: Manner,
 ) -> Result<ExitCode, ExitCode>
     requires source { S.failed reader.old ≡ false }
     requires sink { W.failed writer.old ≡ false }
-    ensures ok { IfOk result (λ _. WritesDump manner begins
-        (S.left reader.old) (S.left reader.new) (W.taken writer.old) (W.taken writer.new)) }
+    ensures ok { IfOk result (λ status. WritesDump load.entry reading (S.left reader.old)
+        (S.left reader.new) (W.taken writer.old) (W.taken writer.new) (exit_status status)) }
     ensures err { IfErr result (λ status. exit_status status ≡ 1) }
 {
-    let replayed = replayed(rt, reader, begins, manner)?;
+    let begins = loaded_or_empty(rt, load, CHUNK)?;
+    let replayed = replayed(rt, reader, begins, manner_of(reading, u64::MAX))?;
     let dumped = dump_to(rt, &replayed.system, writer);
     let told = tell_left_out(rt, &replayed);
     let status = status_of(&replayed, reading);
@@ -140,23 +127,4 @@ fn write_state<S: Source, W: Sink>(
     dumped?;
     told?;
     Ok(status)
-}
-
-/// Writes the dump of what the lines of standard input leave, behind the changes of a file, if one
-/// is named. The status is 1 where lines were left out and that is to be strict, and else 0. The
-/// error is the status, where the dump could not be written whole, which is told.
-pub fn dump(rt: &HostRuntime, load: Option<&str>, reading: Reading) -> Result<ExitCode, ExitCode>
-    ensures { IfErr result (λ status. exit_status status ≡ 1) }
-{
-    let mut writer = output(rt)?;
-    let begins = loaded_or_empty(rt, load, CHUNK)?;
-    let manner = manner_of(reading, u64::MAX);
-    match write_state(rt, &mut input(rt), &mut writer, begins, reading, manner) {
-        Ok(status) => Ok(status),
-        Err(status) => {
-            // What was gathered is not written: a front of a dump is none.
-            forget(writer);
-            Err(status)
-        }
-    }
 }

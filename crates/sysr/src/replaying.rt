@@ -4,6 +4,7 @@ ghost use Rattle.std.specs.List.{AllByRecursion};
 ghost use Rattle.std.specs.Process.{exit_status};
 ghost use Rattle.journal_core.specs.Text.{WasRead};
 ghost use Rattle.load_core.specs.Replaying.{EndsReplay};
+ghost use Rattle.sysr.specs.Joints.{status_behind};
 
 use crate::streams::tell;
 use base_core::{NoMemory, Source};
@@ -90,7 +91,9 @@ pub fn tell_left_out(rt: &HostRuntime, replayed: &Replayed) -> Result<(), ExitCo
 
 /// The status behind lines that were carried out: 1 where one of them was left out, and that is asked
 /// for, and else 0.
-pub fn status_of(replayed: &Replayed, reading: Reading) -> ExitCode {
+pub fn status_of(replayed: &Replayed, reading: Reading) -> ExitCode
+    ensures { exit_status result ≡ status_behind reading replayed.now }
+{
     let whole = replayed.first_left_out.is_none() && replayed.dropped.is_none();
     if reading.strict && !whole {
         ExitCode::FAILURE

@@ -1,11 +1,12 @@
 //! Lines of standard input, answered.
-ghost use Rattle.std.specs.Prelude.{◌≡◌, ◌<◌, ◌≤◌, true, false, Ok, IfOk, IfSome};
+ghost use Rattle.std.specs.Prelude.{◌≡◌, ◌<◌, ◌≤◌, false, Ok, IfOk, IfSome};
 ghost use Rattle.std.specs.Option.{is_some};
 ghost use Rattle.script_core.specs.Keeping.{EndsKeptFrom};
-ghost use Rattle.sysr.specs.Kept.{is_in_lines};
+ghost use Rattle.sysr.specs.Kept.{is_in_lines, IsAnswered};
 
 use crate::auditing::audit;
-use crate::keeping::{Kept, Left, line_keeper};
+use crate::files::JournalSink;
+use crate::keeping::{Ended, Kept, Left, line_keeper};
 use crate::loading::{Start, begun};
 use crate::naming::{Named, apart_from_each_other};
 use crate::streams::{input, output};
@@ -41,36 +42,56 @@ fn answered<S: Source, W: Sink, K: Keeper + Drop>(
     }
 }
 
-/// Answers the lines of standard input, and keeps each change in the file of the journal, if one is
-/// named.
-fn kept(rt: &HostRuntime, begun: Start) -> Result<Kept, ExitCode>
-    requires { IfSome begun.journal (λ sink. sink.failed ≡ false) }
-    ensures { IfOk result (λ kept. is_in_lines kept ≡ is_some begun.journal) }
+/// Answers the reader's lines, and keeps each change in the journal, if there is one. The error is
+/// the status, where it ended by a fault, which is told.
+fn kept<S: Source, R: Sink, W: Sink + Drop>(
+    rt: &HostRuntime,
+    reader: &mut S,
+    writer: &mut R,
+    begun: Start<W>,
+) -> Result<Kept<W>, ExitCode>
+    requires source { S.failed reader.old ≡ false }
+    requires sink { R.failed writer.old ≡ false }
+    requires works { IfSome begun.journal (λ sink. W.failed sink ≡ false) }
+    ensures { IfOk result (IsAnswered W.taken W.handed_on W.failed begun (S.left reader.old)
+        (S.left reader.new) (R.taken writer.old) (R.taken writer.new)) }
 {
     let Start { system, journal } = begun;
-    let mut writer = output(rt)?;
-    match journal {
-        None => Ok(Kept::Nowhere(answered(rt, &mut input(rt), &mut writer, NoKeeper, system)?)),
-        Some(sink) => {
-            let keeper = line_keeper(rt, sink)?;
-            Ok(Kept::Lines(answered(rt, &mut input(rt), &mut writer, keeper, system)?))
+    let Some(sink) = journal else {
+        let left = answered(rt, reader, writer, NoKeeper, system)?;
+        return Ok(Kept::Nowhere(left));
+    };
+    match line_keeper(rt, sink) {
+        Ok(keeper) => {
+            let left = answered(rt, reader, writer, keeper, system)?;
+            Ok(Kept::Lines(left))
+        }
+        Err(status) => {
+            // The process ends here, and its memory goes back as a whole.
+            forget(system);
+            Err(status)
         }
     }
 }
 
 /// The status at the end, behind an audit if one is asked for.
-pub fn status_of(rt: &HostRuntime, system: &System, audited: bool) -> Result<ExitCode, ExitCode> {
-    if audited {
-        return Ok(audit(rt, system, &mut output(rt)?));
+pub fn status_of(rt: &HostRuntime, system: &System, audited: bool) -> ExitCode {
+    if !audited {
+        return ExitCode::SUCCESS;
     }
-    Ok(ExitCode::SUCCESS)
+    match output(rt) {
+        Ok(mut writer) => audit(rt, system, &mut writer),
+        Err(status) => status,
+    }
 }
 
 /// Answers the lines of standard input, and writes each change to the journal's file, if one is
-/// named. Then it audits what they left, if that is asked for.
-pub fn run(rt: &HostRuntime, asked: Running<'_>) -> Result<ExitCode, ExitCode>
+/// named. Then it audits what they left, if that is asked for. What they left is given too.
+pub fn run(rt: &HostRuntime, asked: Running<'_>) -> Result<Ended<JournalSink>, ExitCode>
     requires some { 0 < asked.chunk }
     requires small { asked.chunk ≤ 64 }
+    ensures { IfOk result
+        (λ ended. is_in_lines ended.kept ≡ is_some asked.entry.journal) }
 {
     let named = Named {
         load: asked.load,
@@ -78,10 +99,9 @@ pub fn run(rt: &HostRuntime, asked: Running<'_>) -> Result<ExitCode, ExitCode>
         dump: None,
     };
     apart_from_each_other(rt, named)?;
-    let kept = kept(rt, begun(rt, named, asked.chunk)?)?;
+    let mut writer = output(rt)?;
+    let begun = begun(rt, named, asked.chunk)?;
+    let kept = kept(rt, &mut input(rt), &mut writer, begun)?;
     let status = status_of(rt, kept.system(), asked.audit);
-    // The process ends here, and its memory goes back as a whole: to take the rows apart one by one
-    // first would cost a tenth of the run.
-    forget(kept);
-    status
+    Ok(Ended { kept, status })
 }

@@ -1,0 +1,29 @@
+//! A law of servers, the contract of a function that does nothing.
+ghost use Rattle.std.specs.Prelude.{◌≡◌, ◌++◌, ℕ, List, [], length, map, false};
+ghost use Rattle.std.specs.Str.Lines.{lines};
+ghost use Rattle.turnstile.specs.Logs.{gained};
+ghost use Rattle.system_core.specs.World.{World};
+ghost use Rattle.lines_core.specs.Lines.{IsWhole};
+ghost use Rattle.journal_core.specs.Keeping.{KeepsLine};
+ghost use Rattle.desk_core.specs.Kept.{HasKept};
+ghost use Rattle.server_core.specs.Sessions.{Leaves};
+ghost use Rattle.load_core.specs.Kept.{CanBeLoadedBehind};
+ghost use Rattle.load_core.specs.Loading.{Loads, lines_unmarked, without_pass};
+
+use base_core::Sink;
+
+/// A file goes on through servers. What [`serve_on`](crate::serve_on) kept as lines, behind a file
+/// that loads the journal which the server began with, loads with it the journal that the server
+/// left, each new entry but for its pass.
+pub fn gone_on_server_is_kept<W: Sink>()
+    ensures { (workers sessions chunk : ℕ) (start world : World) (old : List ℕ) (begun sink : W)
+        → Leaves workers sessions begun start world
+        → HasKept (KeepsLine W.taken W.handed_on) W.failed
+        (record { chunk = chunk; front = length start.journal; keeper = begun })
+        world.journal sink
+        → W.failed sink ≡ false
+        → IsWhole old
+        → Loads world.limits [] (lines_unmarked (lines old)) start.journal
+        → CanBeLoadedBehind world.limits old (W.taken begun) (W.taken sink)
+        (start.journal ++ map without_pass (gained start.journal world.journal)) }
+{}
