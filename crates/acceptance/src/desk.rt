@@ -31,6 +31,7 @@ fn ask<R: Wait + Abort>(
     let statement = read(alloc, statement.as_bytes()).expect(rt, "a statement");
     let told = desk.execute(rt, pass, ann, statement);
     say(rt, alloc, &told, said);
+    drop(told);
 }
 
 fn say(rt: &impl Abort, alloc: Global, told: &Result<Reply, Unkept>, said: &mut Vec<u8>) {
@@ -63,8 +64,9 @@ fn share<R: Wait + Abort>(
     ask(rt, alloc, desk, first, "CHECKPOINT", said);
     let abandoned = desk.abandon_turn(rt, first);
     say(rt, alloc, &abandoned, said);
+    drop(abandoned);
     ask(rt, alloc, desk, second, "CHECKPOINT", said);
-    let _ = desk.checkpoint_turn(rt, first);
+    drop(desk.checkpoint_turn(rt, first));
     ask(rt, alloc, desk, second, "CHECKPOINTS", said);
 }
 
@@ -132,6 +134,7 @@ fn wear_out<R: Wait + Clock + Abort>(
     ask(rt, alloc, desk, pass, "INSERT INTO t VALUES (7)", said);
     let step = desk.checkpoint_turn(rt, pass);
     say(rt, alloc, &step, said);
+    drop(step);
     checkpointer(rt, desk, pass, &NoGate, &AtomicBool::new(false)).is_err()
 }
 

@@ -74,7 +74,10 @@ fn is_answered<'a, R: Wait + Abort>(
 {
     let user = User(Name::read(user.as_bytes()).expect(rt, "a name"));
     let statement = read(alloc, statement.as_bytes()).expect(rt, "a statement");
-    desk.execute(rt, pass, user, statement).is_ok()
+    let told = desk.execute(rt, pass, user, statement);
+    let answered = told.is_ok();
+    drop(told);
+    answered
 }
 
 /// Whether each of these is answered: a change by ann, one by bob, and a look by ann.

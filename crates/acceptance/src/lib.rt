@@ -7,14 +7,6 @@
 #[cfg(test)]
 mod calls;
 #[cfg(test)]
-mod captures;
-#[cfg(test)]
-mod chance;
-#[cfg(test)]
-mod checkpoints;
-#[cfg(test)]
-mod columns;
-#[cfg(test)]
 mod desk;
 #[cfg(test)]
 mod exports;
@@ -27,24 +19,12 @@ mod lines;
 #[cfg(test)]
 mod locks;
 #[cfg(test)]
-mod lookups;
-#[cfg(test)]
-mod nobody;
-#[cfg(test)]
 mod pieces;
 #[cfg(test)]
-mod plain;
-#[cfg(test)]
 mod printer;
-#[cfg(test)]
-mod rights;
-#[cfg(test)]
-mod scripts;
 #[cfg(test)]
 mod slow;
 #[cfg(test)]
 mod stores;
 #[cfg(test)]
 mod streams;
-#[cfg(test)]
-mod tables;

@@ -10,6 +10,7 @@ fn reprinted(rt: &impl Abort, alloc: Global, lines: &str) -> String {
     for line in lines.lines() {
         let statement = read(alloc, line.as_bytes()).expect(rt, "a statement");
         let text = print(alloc, &statement).expect(rt, "a text");
+        drop(statement);
         all.push_str(text.as_str()).expect(rt, "memory");
         all.push('\n').expect(rt, "memory");
     }
@@ -75,6 +76,8 @@ fn too_long_to_print(rt: HostRuntime) {
         );
         let line = line.expect(&rt, "memory");
         let statement = read(rt.alloc(), line.as_bytes()).expect(&rt, "a statement");
-        assert!(rt; print(rt.alloc(), &statement).err() == fault);
+        let printed = print(rt.alloc(), &statement);
+        drop(statement);
+        assert!(rt; printed.err() == fault);
     }
 }

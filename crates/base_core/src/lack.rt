@@ -7,7 +7,7 @@ use crate::privilege::Atom;
 use crate::value::ColType;
 
 /// What may be full.
-#[derive(Clone, Copy, PartialEq, Eq)]
+#[derive(Clone, Copy)]
 pub enum What {
     Changes,
     Tables,
@@ -17,7 +17,7 @@ pub enum What {
 
 /// What is missing where a statement is not carried out. Each leaves everything unchanged. Codes 11
 /// to 20 and 27 are denials, 21 to 26 are refusals.
-#[derive(Clone, Copy, PartialEq, Eq)]
+#[derive(Clone, Copy)]
 pub enum Lack {
     NoTable(Name),
     TableExists(Name),

@@ -55,7 +55,9 @@ fn write_creation<W: Sink>(
         result (W.taken writer.old) (W.taken writer.new) }
 {
     let statement = creation(alloc, table.name, table.columns)?;
-    write_statement(page, writer, table.owner, &statement)
+    let written = write_statement(page, writer, table.owner, &statement);
+    drop(statement);
+    written
 }
 
 /// The table at this place in the order of creation.
@@ -136,7 +138,9 @@ fn write_row<W: Sink>(
         (W.taken writer.old) (W.taken writer.new) }
 {
     let statement = insertion(alloc, table.name, row.values.as_slice())?;
-    write_insertion(page, writer, table.owner, &statement, table.name, number)
+    let written = write_insertion(page, writer, table.owner, &statement, table.name, number);
+    drop(statement);
+    written
 }
 
 /// Writes the INSERT of each row of a table, in order.
@@ -198,8 +202,11 @@ fn write_made<W: Sink>(
     ensures ends { EndsLines IsNowhere (entry 0 made.grantor made.statement ∷ []) result
         (W.taken writer.old) (W.taken writer.new) }
 {
-    write_statement(page, writer, made.grantor, &made.statement)?;
-    Ok(made.count)
+    let written = write_statement(page, writer, made.grantor, &made.statement);
+    let count = made.count;
+    drop(made);
+    written?;
+    Ok(count)
 }
 
 /// Writes the GRANTs of grants in force, neighbours of one statement together.

@@ -82,6 +82,31 @@ impl Coming {
     }
 }
 
+impl Coming {
+    /// When each of the grants that the changes made is next revoked, where none is noted yet.
+    fn all_ends(
+        &mut self,
+        alloc: Global,
+        changes: &[Change],
+        made: &[Grant],
+    ) -> Result<Vec<Ends>, NoMemory>
+        requires noted { AreNoted changes.now (length changes.now) self.old }
+        requires made { made.now ≡ granted changes.now }
+        ensures { IfOk result (λ ends. ends.items ≡ map (next_ends changes.now) made.now) }
+    {
+        let mut before = changes.len();
+        let mut ends = Vec::new(alloc);
+        for at in (0..made.len()).rev() {
+            let moment = made[at].moment.0 as usize;
+            self.go_back(changes, moment, before)?;
+            before = moment;
+            ends.push(self.ends(&made[at]))?;
+        }
+        ends.reverse();
+        Ok(ends)
+    }
+}
+
 /// When each of the grants that the changes made is next revoked. `NoMemory` where a request for
 /// memory was refused.
 pub fn next_ends(alloc: Global, changes: &[Change], made: &[Grant]) -> Result<Vec<Ends>, NoMemory>
@@ -92,14 +117,7 @@ pub fn next_ends(alloc: Global, changes: &[Change], made: &[Grant]) -> Result<Ve
         struck: IndexMap::new(alloc),
         unoptioned: IndexMap::new(alloc),
     };
-    let mut before = changes.len();
-    let mut ends = Vec::new(alloc);
-    for at in (0..made.len()).rev() {
-        let moment = made[at].moment.0 as usize;
-        coming.go_back(changes, moment, before)?;
-        before = moment;
-        ends.push(coming.ends(&made[at]))?;
-    }
-    ends.reverse();
-    Ok(ends)
+    let ends = coming.all_ends(alloc, changes, made);
+    drop(coming);
+    ends
 }

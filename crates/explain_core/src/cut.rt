@@ -63,10 +63,15 @@ impl<'a> Standing<'a> {
         let mut kept = KeptGrants::new(alloc);
         for grant in self.grants {
             if !grant.is_named(by, atoms, whom) {
-                kept.add(self.owners, grant)?;
+                let Ok(()) = kept.add(self.owners, grant) else {
+                    drop(kept);
+                    return Err(NoMemory);
+                };
             }
         }
-        Ok(gives_any(&kept.grants, user, self.atom))
+        let holds = gives_any(&kept.grants, user, self.atom);
+        drop(kept);
+        Ok(holds)
     }
 
     /// Those of the users from whom this one has to revoke, so that the other loses the atom: each

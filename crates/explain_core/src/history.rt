@@ -3,9 +3,10 @@ ghost use Rattle.std.specs.Prelude.{◌≡◌, ◌+◌, ◌<◌, List, length, I
 ghost use Rattle.grants_core.specs.declared.grant.Change.{Change as changes};
 ghost use Rattle.grants_core.specs.declared.grant.Grant.{Grant as grants};
 ghost use Rattle.grants_core.specs.Owners.{owns};
-ghost use Rattle.grants_core.specs.History.{owners_after, in_force_after};
+ghost use Rattle.grants_core.specs.History.{granted, owners_after, in_force_after};
 ghost use Rattle.grants_core.specs.Lawful.{AreLawful};
 ghost use Rattle.explain_core.specs.Ends.{life_until, next_ends, upheld_until};
+ghost use Rattle.explain_core.specs.Kept.{Explains};
 ghost use Rattle.explain_core.specs.Lives.{lives_of, given_to};
 ghost use Rattle.explain_core.specs.Reading.{AreEarlier, IsRead};
 ghost use Rattle.explain_core.specs.Supports.{AreLongest};
@@ -99,6 +100,32 @@ fn add_life(
     Ok(())
 }
 
+/// The lives of the grants that the changes made, and their supports.
+fn read_lives(
+    alloc: Global,
+    changes: &[Change],
+    made: &Made,
+) -> Result<(Vec<Life>, Vec<Option<usize>>), NoMemory>
+    requires lawful { AreLawful changes.now }
+    requires owners { made.now.owners ≡ owners_after changes.now }
+    requires grants { made.now.grants.items ≡ granted changes.now }
+    ensures { IfOk result
+        (λ read. Explains changes.now made.now.owners read.0.items read.1.items) }
+{
+    let ends = next_ends(alloc, changes, &made.grants)?;
+    let mut lives = Vec::new(alloc);
+    let mut places = Vec::new(alloc);
+    let mut supports = Supports::new(alloc);
+    for next in &ends {
+        let Ok(()) = add_life(made, &mut lives, &mut places, &mut supports, *next) else {
+            drop(supports);
+            return Err(NoMemory);
+        };
+    }
+    drop(supports);
+    Ok((lives, places))
+}
+
 impl History {
     /// The history of these changes, of which the m-th is that of moment m: each table is created
     /// once, before any grant on it, and each grant is by a user who may grant all of it at that
@@ -108,18 +135,15 @@ impl History {
         ensures { IfOk result (λ history. history ≡ changes.items) }
     {
         let made = Made::read(alloc, &changes)?;
-        let ends = next_ends(alloc, &changes, &made.grants)?;
-        let mut lives = Vec::new(alloc);
-        let mut places = Vec::new(alloc);
-        let mut supports = Supports::new(alloc);
-        for next in &ends {
-            add_life(&made, &mut lives, &mut places, &mut supports, *next)?;
-        }
+        let Ok((lives, supports)) = read_lives(alloc, &changes, &made) else {
+            drop(made);
+            return Err(NoMemory);
+        };
         Ok(History {
             changes,
             owners: made.owners,
             lives,
-            supports: places,
+            supports,
         })
     }
 

@@ -52,7 +52,10 @@ impl Made {
         let mut moment = 0;
         for change in changes {
             moment += 1;
-            made.enter(alloc, Moment(moment), change)?;
+            let Ok(()) = made.enter(alloc, Moment(moment), change) else {
+                drop(made);
+                return Err(NoMemory);
+            };
         }
         Ok(made)
     }

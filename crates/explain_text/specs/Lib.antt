@@ -1,5 +1,4 @@
 pub mod FaultTexts
-pub mod Graphs
 pub mod Questions
 pub mod Supposing
 pub use Rattle.system_core.specs.Journal

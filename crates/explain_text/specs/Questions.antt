@@ -2,8 +2,8 @@
 use Rattle.std.specs.Prelude.{ℕ, Bool, true, false, List, [], codes, Option, Some, None}
 use Rattle.explain_text.specs.declared.question.Question.{Question}
 use Rattle.explain_text.specs.declared.question.Question.TheVariants as questions
-use Rattle.explain_text.specs.declared.question.Format.{Format}
-use Rattle.explain_text.specs.declared.question.Format.TheVariants as formats
+use Rattle.explain_words.specs.declared.format.Format.{Format}
+use Rattle.explain_words.specs.declared.format.Format.TheVariants as formats
 
 -- the word of the command line
 abbrev pub word : Question → List ℕ

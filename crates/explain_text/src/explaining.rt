@@ -4,21 +4,16 @@ ghost use Rattle.std.specs.Io.KnownBytes.{Keeps};
 ghost use Rattle.explain_text.specs.Questions.{may_be_no, may_remark};
 ghost use Rattle.explain_text.specs.declared.fault.Unanswered.{Unanswered as reasons};
 
-use crate::answer::Answer;
-use crate::cutting::cut_answer;
-use crate::dot::{put_grants_graph, put_why_graph};
 use crate::fault::{ExplainFault, Unanswered};
-use crate::holders::{holders_as_records, put_holders};
-use crate::hypothesis::{consequences_as_records, put_consequences};
-use crate::past::Past;
-use crate::privileges::{atoms_named, atoms_of_table, table_of, user_of};
-use crate::prose::Prose;
-use crate::question::{Format, Question};
-use crate::reasons::put_reasons_of;
-use crate::rights::{fallen_records, grants_made, put_all_fallen, rights_in_force};
-use crate::steps::steps_of;
+use crate::question::Question;
+use crate::words::{atoms_named, table_of, user_of};
 use base_core::{Atom, Name, NoMemory, Sink, User, write_all};
 use explain_core::History;
+use explain_words::{
+    Answer, Format, Past, Prose, atoms_of_table, consequences_as_records, cut_answer,
+    fallen_records, grants_made, holders_as_records, put_all_fallen, put_consequences,
+    put_grants_graph, put_holders, put_reasons_of, put_why_graph, rights_in_force, steps_of,
+};
 use load_core::Replayed;
 use monitor_core::columns_of;
 use std::alloc::Global;

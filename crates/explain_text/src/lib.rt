@@ -2,7 +2,7 @@
 //!
 //! [`history_asked`] gives the [`History`](explain_core::History) that a [`Question`] is about: that
 //! of the changes that were read, and of the one that the question supposes. By it [`explain`]
-//! writes the answer in a [`Format`], with each moment's line quoted.
+//! writes the answer in a [`Format`](explain_words::Format), with each moment's line quoted.
 //!
 //! **The contract**: the history is that of the core's journal, and a supposed line is entered as a
 //! session's would be. `explain` fails exactly where its writer does, and writes nothing where there
@@ -35,32 +35,13 @@
 //! its privilege for each step of a descent. The text is gathered in memory before it is written.
 #![tactic(auto)]
 
-mod answer;
-mod cutting;
-mod dot;
 mod explaining;
 mod fault;
-mod folds;
-mod held;
-mod holders;
-mod hypothesis;
-mod lives;
-mod lost;
-mod outcomes;
-mod past;
-mod privileges;
-mod prose;
 mod question;
-mod quoting;
 mod reading;
-mod reasons;
-mod records;
-mod rights;
-mod rows;
-mod steps;
-mod teller;
+mod words;
 
 pub use explaining::{Answered, explain};
 pub use fault::{ExplainFault, Unanswered, explain_fault_text};
-pub use question::{Format, Question};
+pub use question::Question;
 pub use reading::history_asked;

@@ -4,6 +4,8 @@ ghost use Rattle.explain_text.specs.Questions.{word, user_word, table_word, priv
 ghost use Rattle.explain_text.specs.Questions.{has_graph, has_format};
 ghost use Rattle.explain_text.specs.Supposing.{supposed_line};
 
+use explain_words::Format;
+
 /// A question about the rights that a script makes, in the words of the command line.
 #[derive(Clone, Copy)]
 pub enum Question<'a> {
@@ -34,17 +36,6 @@ pub enum Question<'a> {
         privilege: &'a str,
         table: &'a str,
     },
-}
-
-/// The form of an answer.
-#[derive(Clone, Copy, PartialEq, Eq)]
-pub enum Format {
-    /// For people.
-    Text,
-    /// Records with commas, under a line that names their fields.
-    Csv,
-    /// A graph, as the programs of Graphviz read it.
-    Dot,
 }
 
 impl<'a> Question<'a> {

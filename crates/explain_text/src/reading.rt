@@ -6,8 +6,9 @@ ghost use Rattle.explain_text.specs.Questions.{has_format};
 ghost use Rattle.explain_text.specs.Supposing.{supposed_line, Supposes};
 
 use crate::fault::Unanswered;
-use crate::question::{Format, Question};
+use crate::question::Question;
 use explain_core::History;
+use explain_words::Format;
 use lines_core::LONGEST_LINE;
 use load_core::{Replayed, enter_line, is_out_of_memory};
 use std::alloc::Global;

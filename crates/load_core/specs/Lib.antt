@@ -4,6 +4,7 @@ pub mod Replayer
 pub mod Loader
 pub mod FaultTexts
 pub mod Kept
+pub mod Ready
 pub use Rattle.lines_core.specs.Lines
 pub use Rattle.lines_core.specs.Serving
 pub use Rattle.base_core.specs.Words

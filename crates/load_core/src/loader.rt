@@ -1,5 +1,5 @@
 //! A core that enters the changes which lines say.
-ghost use Rattle.std.specs.Prelude.{◌≡◌, ◌<◌, ◌+◌, ◌^◌, length, Ok, None, true};
+ghost use Rattle.std.specs.Prelude.{◌≡◌, ◌<◌, ◌+◌, ◌^◌, length, Ok, None, Some, true};
 ghost use Rattle.monitor_core.specs.Verdict.{is_change};
 ghost use Rattle.system_core.specs.Journal.{verdict_at};
 ghost use Rattle.load_core.specs.Loading.{unmarked, IsUndoneEntry};
@@ -14,6 +14,7 @@ use reader_core::read_with;
 use script_core::addressed_up_to;
 use std::alloc::Global;
 use std::marker::Model;
+use std::mem;
 use system_core::{Entry, Event, Reply, System};
 
 /// U+FEFF in UTF-8.
@@ -79,6 +80,7 @@ impl Loader {
             None => entered,
             Some(_) => entered + 1,
         };
+        drop(stop);
         LoadFault::CutOff { number }
     }
 
@@ -95,8 +97,15 @@ impl Loader {
 
     /// Frees all that the loader holds.
     pub fn free(self) {
-        let Loader { system, .. } = self;
+        let Loader {
+            tokens,
+            system,
+            stop,
+            ..
+        } = self;
         system.free();
+        drop(tokens);
+        drop(stop);
     }
 }
 
@@ -147,6 +156,7 @@ fn enter(system: &mut System, entry: Entry) -> Option<Undone>
     ensures { EntersEntry system.old entry result system.new }
 {
     if !is_change(&entry.statement) {
+        drop(entry);
         return Some(Undone::NoChange);
     }
     if !system.may_change(&entry) {
@@ -192,6 +202,14 @@ pub fn enter_line(
         }
         Err(ReadFault::NoMemory) => Some(Undone::Unread),
     }
+}
+
+/// Stops for this reason.
+#[inline(never)]
+pub(crate) fn stop_for(stop: &mut Option<Undone>, why: Undone)
+    ensures { stop.new ≡ Some why }
+{
+    drop(mem::replace(stop, Some(why)));
 }
 
 impl LineServer for Loader {

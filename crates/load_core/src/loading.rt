@@ -82,6 +82,10 @@ pub fn load_or_text<S: Source>(
 {
     match load(alloc, reader, chunk) {
         Ok(system) => Ok(system),
-        Err(fault) => Err(load_fault_text(alloc, &fault)),
+        Err(fault) => {
+            let told = load_fault_text(alloc, &fault);
+            drop(fault);
+            Err(told)
+        }
     }
 }

@@ -1,10 +1,10 @@
 //! A core that enters the changes which lines say, and leaves the other lines out.
-ghost use Rattle.std.specs.Prelude.{◌≡◌, ◌+◌, ◌<◌, ◌^◌, None};
+ghost use Rattle.std.specs.Prelude.{◌≡◌, ◌+◌, ◌<◌, ◌^◌, None, Some};
 ghost use Rattle.load_core.specs.Replaying.{is_memory_refused, is_out_of_memory, is_too_long, ends_reading, says_no_change};
 ghost use Rattle.load_core.specs.Replayer.{line_behind, begun, noted, left_out_last, NotesEntered, TakesLine, dropped_at, left_by};
 
 use crate::fault::Undone;
-use crate::loader::{enter_line, unmarked};
+use crate::loader::{enter_line, stop_for, unmarked};
 use crate::manner::{CutLine, Form, Manner};
 use crate::replayed::{CutFront, LeftOut, ReplayFault, Replayed};
 use base_core::{Broken, Lack, Sink};
@@ -12,6 +12,7 @@ use lexer_core::{Code, MAX_LINE, Token};
 use lines_core::LineServer;
 use std::alloc::Global;
 use std::marker::Model;
+use std::mem;
 use system_core::{Reply, System};
 
 /// A core that enters the allowed changes which lines say, notes the lines that it leaves out, and
@@ -113,6 +114,14 @@ fn line_behind(count: u64, line: &[u8]) -> &[u8]
     if count == 0 { unmarked(line) } else { line }
 }
 
+/// Notes the first line that is left out.
+#[inline(never)]
+fn note_first(first: &mut Option<LeftOut>, line: LeftOut)
+    ensures { first.new ≡ Some line }
+{
+    drop(mem::replace(first, Some(line)));
+}
+
 impl Replayer {
     /// Nothing came yet.
     pub fn new(alloc: Global, system: System, manner: Manner) -> Replayer
@@ -137,9 +146,11 @@ impl Replayer {
         ensures { self.new ≡ noted self.old why }
     {
         if ends_reading(self.manner.form, &why) {
-            self.stop = Some(why);
+            stop_for(&mut self.stop, why);
         } else if !says_no_change(&why) {
             self.leave_out(why);
+        } else {
+            drop(why);
         }
     }
 
@@ -151,7 +162,9 @@ impl Replayer {
         self.left_out += 1;
         if self.first_left_out.is_none() {
             let number = self.count;
-            self.first_left_out = Some(LeftOut { number, why });
+            note_first(&mut self.first_left_out, LeftOut { number, why });
+        } else {
+            drop(why);
         }
     }
 
@@ -161,7 +174,7 @@ impl Replayer {
         ensures { NotesEntered self.old self.new }
     {
         if self.lines.push(self.count).is_err() {
-            self.stop = Some(Undone::Unread);
+            stop_for(&mut self.stop, Undone::Unread);
         }
     }
 
@@ -210,6 +223,7 @@ impl Replayer {
             }),
             Err(fault) => {
                 system.free();
+                drop(first_left_out);
                 Err(fault)
             }
         }
@@ -217,8 +231,19 @@ impl Replayer {
 
     /// Frees all that the replayer holds.
     pub fn free(self) {
-        let Replayer { system, .. } = self;
+        let Replayer {
+            tokens,
+            system,
+            lines,
+            first_left_out,
+            stop,
+            ..
+        } = self;
         system.free();
+        drop(tokens);
+        drop(lines);
+        drop(first_left_out);
+        drop(stop);
     }
 }
 

@@ -1,6 +1,8 @@
 -- No tokens say two statements.
-use Rattle.std.proofs.Common.{◌≡◌, ℕ, Bool, true, false, List, [], ◌∷◌, ◌++◌, Option, Some, None, ap, sym, ◌∙◌, refl, append_assoc}
+use Rattle.std.proofs.Common.{◌≡◌, ℕ, Bool, true, false, List, [], ◌∷◌, ◌++◌, Option, Some, None, ap, sym, ◌∙◌, refl, append_assoc, eqb}
+use Rattle.std.proofs.lemmas.Bool.{eq-eqb, false≢true}
 use Rattle.std.specs.List.{flat_map}
+use Rattle.base_core.specs.declared.keyword.Keyword.{Keyword}
 use Rattle.base_core.specs.declared.keyword.Keyword.TheVariants as keywords
 use Rattle.base_core.specs.declared.name.Name.{Name}
 use Rattle.base_core.specs.declared.name.User.{User}
@@ -20,6 +22,7 @@ use Rattle.reader_core.specs.declared.privilege.Privilege.{Privilege}
 use Rattle.reader_core.specs.declared.privilege.Privilege.TheVariants as privileges_of
 use Rattle.reader_core.specs.declared.statement.Statement.{Statement}
 use Rattle.reader_core.specs.declared.statement.Statement.TheVariants as statements
+use Rattle.reader_core.specs.Grammar.{keyword_number}
 use Rattle.reader_core.specs.Saying.{comma_lexeme, listed, name_says, names_say, user_says, column_says, value_says, value_lexeme, type_lexeme, comparison_mark, condition_says, set_says, filter_says, selection_says, columns_say, privilege_says, option_says, only_says, privileges_from_say, statement_says}
 use Rattle.reader_core.specs.Language.{SaysStatement}
 use Rattle.reader_core.proofs.Whole.{ending, ended}
@@ -258,18 +261,54 @@ no_option (privileges_of.Insert ∷ ps) qs m n us vs a b e = cc
 no_option (privileges_of.Delete ∷ ps) qs m n us vs a b e = cc
 no_option (privileges_of.Update columns ∷ ps) qs m n us vs a b e = cc
 
-same_statement : (s t : Statement) (a b : Bool) → statement_says s ++ ending a ≡ statement_says t ++ ending b → s ≡ t
-same_statement (statements.CreateTable m xs) (statements.CreateTable n ys) a b e =
+-- the word that a statement begins with
+abbrev word : Statement → Keyword
+word (statements.CreateTable m xs) = keywords.Create
+word (statements.Insert m xs) = keywords.Insert
+word (statements.Select l m cs) = keywords.Select
+word (statements.Delete m cs) = keywords.Delete
+word (statements.Update m xs cs) = keywords.Update
+word (statements.Grant ps m us o) = keywords.Grant
+word (statements.Revoke ps m us) = keywords.Revoke
+word (statements.RevokeOption ps m us) = keywords.Revoke
+word statements.Checkpoint = keywords.Checkpoint
+word statements.Checkpoints = keywords.Checkpoints
+word (statements.Export m o) = keywords.Export
+
+begins : (s : Statement) (u : List Lexeme) → (w : List Lexeme) × (statement_says s ++ u ≡ lexemes.Key (word s) ∷ w)
+begins (statements.CreateTable m xs) u = (_, refl)
+begins (statements.Insert m xs) u = (_, refl)
+begins (statements.Select l m cs) u = (_, refl)
+begins (statements.Delete m cs) u = (_, refl)
+begins (statements.Update m xs cs) u = (_, refl)
+begins (statements.Grant ps m us o) u = (_, refl)
+begins (statements.Revoke ps m us) u = (_, refl)
+begins (statements.RevokeOption ps m us) u = (_, refl)
+begins statements.Checkpoint u = (_, refl)
+begins statements.Checkpoints u = (_, refl)
+begins (statements.Export m o) u = (_, refl)
+
+-- what says the same begins with the same word
+same_word : (s t : Statement) (u v : List Lexeme) → statement_says s ++ u ≡ statement_says t ++ v → eqb (keyword_number (word s)) (keyword_number (word t)) ≡ true
+same_word s t u v e =
+    let p = begins s u in
+    let q = begins t v in
+    let f : lexemes.Key (word s) ∷ p.0 ≡ lexemes.Key (word t) ∷ q.0 = sym p.1 ∙ e ∙ q.1 in
+    let same : word s ≡ word t = cc in
+    eq-eqb _ _ (ap keyword_number same)
+
+same_statement : (s t : Statement) (a b : Bool) → eqb (keyword_number (word s)) (keyword_number (word t)) ≡ true → statement_says s ++ ending a ≡ statement_says t ++ ending b → s ≡ t
+same_statement (statements.CreateTable m xs) (statements.CreateTable n ys) a b w e =
     let f : (listed comma_lexeme column_says xs ++ close ∷ []) ++ ending a ≡ (listed comma_lexeme column_says ys ++ close ∷ []) ++ ending b = cc in
     let l = same_front comma_lexeme column_says (λ z. cc) one_column xs ys (close ∷ []) (close ∷ []) (ending a) (ending b) (close_stops_columns a) (close_stops_columns b) f in
     let same : xs ≡ ys = l.0 in
     cc
-same_statement (statements.Insert m xs) (statements.Insert n ys) a b e =
+same_statement (statements.Insert m xs) (statements.Insert n ys) a b w e =
     let f : (listed comma_lexeme value_says xs ++ close ∷ []) ++ ending a ≡ (listed comma_lexeme value_says ys ++ close ∷ []) ++ ending b = cc in
     let l = same_front comma_lexeme value_says (λ z. cc) one_value xs ys (close ∷ []) (close ∷ []) (ending a) (ending b) (close_stops_values a) (close_stops_values b) f in
     let same : xs ≡ ys = l.0 in
     cc
-same_statement (statements.Select l m cs) (statements.Select k n ds) a b e =
+same_statement (statements.Select l m cs) (statements.Select k n ds) a b w e =
     let f : (selection_says l ++ from m cs) ++ ending a ≡ (selection_says k ++ from n ds) ++ ending b = cc in
     let r = same_selection l k m n cs ds a b f in
     let list : l ≡ k = r.0 in
@@ -277,18 +316,18 @@ same_statement (statements.Select l m cs) (statements.Select k n ds) a b e =
     let same : cs ≡ ds = same_filter cs ds a b (cc) in
     let table : m ≡ n = cc in
     cc
-same_statement (statements.Delete m cs) (statements.Delete n ds) a b e =
+same_statement (statements.Delete m cs) (statements.Delete n ds) a b w e =
     let same : cs ≡ ds = same_filter cs ds a b (cc) in
     let table : m ≡ n = cc in
     cc
-same_statement (statements.Update m xs cs) (statements.Update n ys ds) a b e =
+same_statement (statements.Update m xs cs) (statements.Update n ys ds) a b w e =
     let f : (listed comma_lexeme set_says xs ++ filter_says cs) ++ ending a ≡ (listed comma_lexeme set_says ys ++ filter_says ds) ++ ending b = cc in
     let l = same_front comma_lexeme set_says (λ z. cc) one_set xs ys (filter_says cs) (filter_says ds) (ending a) (ending b) (filter_stops cs a) (filter_stops ds b) f in
     let sets : xs ≡ ys = l.0 in
     let same : cs ≡ ds = same_filter cs ds a b l.1 in
     let table : m ≡ n = cc in
     cc
-same_statement (statements.Grant ps m us o) (statements.Grant qs n vs p) a b e =
+same_statement (statements.Grant ps m us o) (statements.Grant qs n vs p) a b w e =
     let f : (listed comma_lexeme privilege_says ps ++ on m (lexemes.Key keywords.To ∷ (listed comma_lexeme user_says us ++ option_says o))) ++ ending a ≡ (listed comma_lexeme privilege_says qs ++ on n (lexemes.Key keywords.To ∷ (listed comma_lexeme user_says vs ++ option_says p))) ++ ending b = cc in
     let l = same_privileges ps qs m n _ _ a b f in
     let privileges : ps ≡ qs = l.0 in
@@ -299,27 +338,27 @@ same_statement (statements.Grant ps m us o) (statements.Grant qs n vs p) a b e =
     let users : us ≡ vs = r.0 in
     let option : o ≡ p = same_option o p a b r.1 in
     cc
-same_statement (statements.Revoke ps m us) (statements.Revoke qs n vs) a b e =
+same_statement (statements.Revoke ps m us) (statements.Revoke qs n vs) a b w e =
     let r = same_revoked ps qs m n us vs a b (cc) in
     let privileges : ps ≡ qs = r.0 in
     let table : m ≡ n = r.1 in
     let users : us ≡ vs = r.2 in
     cc
-same_statement (statements.RevokeOption ps m us) (statements.RevokeOption qs n vs) a b e =
+same_statement (statements.RevokeOption ps m us) (statements.RevokeOption qs n vs) a b w e =
     let r = same_revoked ps qs m n us vs a b (cc) in
     let privileges : ps ≡ qs = r.0 in
     let table : m ≡ n = r.1 in
     let users : us ≡ vs = r.2 in
     cc
-same_statement (statements.Revoke ps m us) (statements.RevokeOption qs n vs) a b e = absurd (no_option ps qs m n us vs a b (cc))
-same_statement (statements.RevokeOption ps m us) (statements.Revoke qs n vs) a b e = absurd (no_option qs ps n m vs us b a (cc))
-same_statement statements.Checkpoint statements.Checkpoint a b e = refl
-same_statement statements.Checkpoints statements.Checkpoints a b e = refl
-same_statement (statements.Export m o) (statements.Export n p) a b e =
+same_statement (statements.Revoke ps m us) (statements.RevokeOption qs n vs) a b w e = absurd (no_option ps qs m n us vs a b (cc))
+same_statement (statements.RevokeOption ps m us) (statements.Revoke qs n vs) a b w e = absurd (no_option qs ps n m vs us b a (cc))
+same_statement statements.Checkpoint statements.Checkpoint a b w e = refl
+same_statement statements.Checkpoints statements.Checkpoints a b w e = refl
+same_statement (statements.Export m o) (statements.Export n p) a b w e =
     let only : o ≡ p = same_only o p a b (cc) in
     let number : m ≡ n = cc in
     cc
-same_statement _ _ a b e = cc
+same_statement _ _ a b w e = absurd (false≢true w)
 
 pub said_once : (said : List Lexeme) (s t : Statement) → SaysStatement said s → SaysStatement said t → s ≡ t
-said_once said s t p q = let a = ended said s p in let b = ended said t q in same_statement s t a.0 b.0 (sym a.1 ∙ b.1)
+said_once said s t p q = let a = ended said s p in let b = ended said t q in let e = sym a.1 ∙ b.1 in same_statement s t a.0 b.0 (same_word s t _ _ e) e

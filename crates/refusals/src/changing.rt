@@ -57,7 +57,9 @@ fn granted(rt: &HostRuntime, graph: &mut Graph) -> Option<()>
 /// Two privileges for three users.
 pub fn grant(rt: &HostRuntime, alloc: Global) -> Option<()> {
     let mut graph = Graph::new(alloc);
-    granted(rt, &mut graph)
+    let told = granted(rt, &mut graph);
+    drop(graph);
+    told
 }
 
 fn create(alloc: Global, tables: &mut Tables) -> Option<()>
@@ -202,8 +204,12 @@ pub fn update(rt: &HostRuntime, alloc: Global) -> Option<()> {
     let mut out = Vec::new(alloc);
     let filled = fill(alloc, &mut tables);
     tables.begin();
-    match filled {
+    let told = match filled {
         Some(()) => change(rt, &mut tables, &sets, &mut out),
         None => None,
-    }
+    };
+    drop(tables);
+    drop(out);
+    drop(sets);
+    told
 }

@@ -17,13 +17,23 @@ use std::alloc::Global;
 use std::env;
 use std::process::ExitCode;
 
+/// The numbers of rows and of tickets, if these words name them.
+fn numbers(words: &[String]) -> Option<(usize, usize)> {
+    let rows = words.get(1)?.parse().ok()?;
+    let tickets = words.get(2)?.parse().ok()?;
+    Some((rows, tickets))
+}
+
 /// The numbers of rows and of tickets that the command line names, and the user, if it names any.
 fn asked(rt: &HostRuntime) -> Option<(usize, usize, String)> {
     let mut words: Vec<String> = env::args(rt).ok()?.collect(rt.alloc()).ok()?;
-    let rows = words.get(1)?.parse().ok()?;
-    let tickets = words.get(2)?.parse().ok()?;
-    let user = words.pop()?;
-    Some((rows, tickets, user))
+    let numbers = numbers(&words);
+    let user = words.pop();
+    drop(words);
+    match (numbers, user) {
+        (Some((rows, tickets)), Some(user)) => Some((rows, tickets, user)),
+        _ => None,
+    }
 }
 
 fn all(rt: &HostRuntime, alloc: Global) -> Option<()> {

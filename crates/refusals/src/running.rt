@@ -44,7 +44,9 @@ fn play(rt: &HostRuntime, alloc: Global, system: &mut System) -> Option<bool> {
         Ok(replies) => replies,
         Err((_, replies)) => replies,
     };
-    told(rt, alloc, system, &replies)
+    let told = told(rt, alloc, system, &replies);
+    drop(replies);
+    told
 }
 
 /// Plays the events with a core of their own: whether all were answered.

@@ -37,7 +37,11 @@ fn tell_replaced(rt: &HostRuntime, store: &mut Store<Value>, item: i64) -> Optio
         return None;
     }
     match store.replace(0, Value::Int(item)) {
-        Some(old) => tell_item(rt, 0, &old),
+        Some(old) => {
+            let told = tell_item(rt, 0, &old);
+            drop(old);
+            told
+        }
         None => println!(rt; "kept").ok(),
     }
 }
@@ -85,5 +89,8 @@ fn tell_all(rt: &HostRuntime, store: &mut Store<Value>, out: &mut Vec<(u64, Valu
 pub fn store(rt: &HostRuntime, alloc: Global) -> Option<()> {
     let mut store: Store<Value> = Store::new(alloc);
     let mut out = Vec::new(alloc);
-    tell_all(rt, &mut store, &mut out)
+    let told = tell_all(rt, &mut store, &mut out);
+    drop(store);
+    drop(out);
+    told
 }

@@ -62,6 +62,14 @@ pub fn ask(rt: &HostRuntime, alloc: Global, system: &mut System, line: &str) -> 
     if !is_refused(&reply) {
         return Some(reply);
     }
+    drop(reply);
     unchanged(rt, system.moment() == before);
     Some(system.step(event(alloc, line)?))
+}
+
+/// Says a line, whose answer nobody looks at.
+pub fn say(rt: &HostRuntime, alloc: Global, system: &mut System, line: &str) -> Option<()> {
+    let reply = ask(rt, alloc, system, line)?;
+    drop(reply);
+    Some(())
 }

@@ -5,7 +5,7 @@ ghost use Rattle.desk_core.specs.Guarded.{origin_of};
 ghost use Rattle.desk_core.specs.Kept.{HasKept};
 ghost use Rattle.desk_core.specs.Turns.{Ended};
 ghost use Rattle.server_core.specs.Sessions.{IsOf, IsNew, AreServers, Leaves};
-ghost use Rattle.serving_core.specs.Ready.{IsReady};
+ghost use Rattle.load_core.specs.Ready.{IsReady};
 
 use crate::dealing::{gathered, workers_of};
 use crate::threads::serve_all;

@@ -16,44 +16,28 @@
 //! neither a file nor a client is sent what is meant for them. A file that is written to is held
 //! against other programs, and no two words of a command line may name one file.
 //!
-//! What is written for what was read is the contract of [`script_from`](script_core::script_from);
-//! what a journal's file gets that of [`LineKeeper`](journal_core::LineKeeper); what a file makes
+//! What is written for what was read is the contract of [`answered`](run_core::answered); what a
+//! journal's file gets that of [`LineKeeper`](journal_core::LineKeeper); what a file makes
 //! that of [`load`](load_core::load), and standard input that of [`replay`](load_core::replay); what
 //! a dump says that of [`write_dump`](dump_core::write_dump); what is explained that of
 //! [`explain`](explain_text::explain); what the command line may say that of
 //! [`options`](command_core::options); and what the threads of a server do to its core that of
-//! [`serve_on`](serving_core::serve_on). This crate joins them with files and streams: where `journal`
-//! and `dump` end without a fault, what they wrote is whole (`specs/Joints.antt`); what `run` and `serve`
-//! leave was kept in the journal that is named, from where it was opened (`specs/Kept.antt`).
+//! [`serve_on`](serving_core::serve_on). [`program_core`] joins them with files and streams, and this
+//! crate joins its commands with the words of the process.
 #![tactic(auto)]
 
 ghost use Rattle.command_core.specs.Ranges.{IsInRange};
 
-mod auditing;
-mod explaining;
-mod files;
-mod keeping;
-mod listening;
-mod loading;
-mod naming;
-mod recording;
-mod replaying;
-mod running;
-mod streams;
-
 use command_core::{CommandLine, Reading, options, refuse};
-use explaining::explained;
 use lines_core::{NO_MEMORY, give_up};
-use listening::serve;
-use recording::{dump, journal};
-use running::run;
+use program_core::{dump, explained, journal, run, serve};
+use run_core::{fill_closed_streams, input, output};
 use std::mem::forget;
 use std::process::ExitCode;
 use std::sync::Wait;
 use std::thread::Threads;
 use std::time::Clock;
 use std::{env, io};
-use streams::{fill_closed_streams, input, output};
 
 /// Writes the dump of what standard input leaves. What is gathered of one that cannot be written whole
 /// is not written, as a front of a dump is none.

@@ -6,15 +6,15 @@ ghost use Rattle.lexer_core.specs.declared.token.Mark.TheVariants as marks;
 ghost use Rattle.reader_core.specs.Grammar.{Items};
 ghost use Rattle.reader_core.specs.Cursor.{Reads};
 ghost use Rattle.reader_core.specs.Privileges.{word_of};
-ghost use Rattle.reader_core.specs.Sentences.{optional, name_list, selection, in_brackets, behind_word, privileges_rule, privilege_item, filter, grant_option, grant_option_for, only_table};
-ghost use Rattle.reader_core.specs.Saying.{comma_lexeme, listed, names_say, name_says, user_says, selection_says, columns_say, privilege_columns, privilege_says, filter_says, option_says, option_for_says, only_says};
+ghost use Rattle.reader_core.specs.Sentences.{optional, name_list, selection, in_brackets, behind_word, privileges_rule, privilege_item, privileges_from, names_rule, set_item, filter, grant_option, grant_option_for, only_table};
+ghost use Rattle.reader_core.specs.Saying.{comma_lexeme, listed, names_say, name_says, user_says, selection_says, columns_say, privilege_columns, privilege_says, privileges_from_say, set_says, filter_says, option_says, option_for_says, only_says};
 ghost use Rattle.reader_core.specs.Forming.{IsWellFormedPrivilege, ArePrivileges};
 
 use crate::parsing::list::list;
 use crate::parsing::reader::Reader;
 use crate::privilege::{Privilege, PrivilegeWord, Privileges};
 use crate::statement::{MAX_ITEMS, MAX_USERS};
-use base_core::{Condition, Distinct, Keyword, Limited, Name, User};
+use base_core::{Assignment, Condition, Distinct, Keyword, Limited, Name, User};
 use lexer_core::{Mark, ReadFault};
 use std::alloc::Global;
 
@@ -100,6 +100,33 @@ impl Reader<'_> {
     {
         let privileges = list::<Privilege, Vec<Privilege>>(self, alloc)?;
         Ok(Privileges::from_vec(alloc, privileges)?)
+    }
+
+    /// The privileges, the table and the users that a REVOKE names.
+    #[tactic(auto, using(crate::proofs::Exits::exit_is))]
+    pub fn privileges_from(
+        &mut self,
+        alloc: Global,
+    ) -> Result<(Privileges, Name, Distinct<User, MAX_USERS>), ReadFault>
+        ensures reads { Reads privileges_from (λ named. privileges_from_say named.0 named.1 named.2)
+            result self.old self.new }
+        ensures well_formed { IfOk result (λ named. ArePrivileges named.0) }
+    {
+        let privileges = self.privileges(alloc)?;
+        self.keyword(Keyword::On)?;
+        let table = self.name()?;
+        self.keyword(Keyword::From)?;
+        let users = self.users(alloc)?;
+        Ok((privileges, table, users))
+    }
+
+    /// The assignments of UPDATE.
+    pub fn sets(&mut self, alloc: Global) -> Result<Distinct<Assignment, MAX_ITEMS>, ReadFault>
+        ensures { Reads (λ k. Items (names_rule 32) [] set_item k)
+            (λ sets. listed comma_lexeme set_says sets) result self.old self.new }
+    {
+        let sets = list::<Assignment, Vec<Assignment>>(self, alloc)?;
+        Ok(Distinct::from_vec(alloc, sets)?)
     }
 
     fn conditions(&mut self, alloc: Global) -> Result<Limited<Condition, MAX_ITEMS>, ReadFault>

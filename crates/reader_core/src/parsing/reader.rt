@@ -121,7 +121,7 @@ impl Reader<'_> {
                     ..
                 },
                 ..
-            ] => *next == keyword,
+            ] => keyword == *next,
             _ => false,
         }
     }
@@ -137,7 +137,7 @@ impl Reader<'_> {
                     ..
                 },
                 ..
-            ] => *next == mark,
+            ] => mark == *next,
             _ => false,
         }
     }

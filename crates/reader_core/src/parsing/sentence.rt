@@ -9,7 +9,7 @@ ghost use Rattle.reader_core.specs.Forming.{IsWellFormed};
 use crate::parsing::list::list;
 use crate::parsing::reader::Reader;
 use crate::statement::Statement;
-use base_core::{Assignment, Column, Distinct, Keyword, SeveralValues, Value, ValuesBuilder};
+use base_core::{Column, Distinct, Keyword, SeveralValues, Value, ValuesBuilder};
 use lexer_core::{Code, Mark, ReadFault};
 use std::alloc::Global;
 
@@ -82,8 +82,7 @@ impl Reader<'_> {
         self.keyword(Keyword::Update)?;
         let table = self.name()?;
         self.keyword(Keyword::Set)?;
-        let items = list::<Assignment, Vec<Assignment>>(self, alloc)?;
-        let sets = Distinct::from_vec(alloc, items)?;
+        let sets = self.sets(alloc)?;
         let filter = self.filter(alloc)?;
         Ok(Statement::Update {
             table,
@@ -119,11 +118,7 @@ impl Reader<'_> {
     {
         self.keyword(Keyword::Revoke)?;
         let option_alone = self.option_for()?;
-        let privileges = self.privileges(alloc)?;
-        self.keyword(Keyword::On)?;
-        let table = self.name()?;
-        self.keyword(Keyword::From)?;
-        let users = self.users(alloc)?;
+        let (privileges, table, users) = self.privileges_from(alloc)?;
         if option_alone {
             return Ok(Statement::RevokeOption {
                 privileges,

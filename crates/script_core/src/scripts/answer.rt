@@ -74,14 +74,21 @@ fn tell<W: Sink>(
         (W.taken writer.old) (W.taken writer.new)) }
 {
     let reply = system.step(Event::Step);
-    if !is_refused(&reply) {
+    let refused = is_refused(&reply);
+    drop(reply);
+    if !refused {
         system.let_go();
         return write_said(buffer, said, writer);
     }
     let given_up = system.step(Event::Abandon);
     system.let_go();
-    write_said(buffer, said, writer)?;
-    write_reply(buffer, given_up, writer, &NoGate)
+    match write_said(buffer, said, writer) {
+        Ok(()) => write_reply(buffer, given_up, writer, &NoGate),
+        Err(Broken) => {
+            drop(given_up);
+            Err(Broken)
+        }
+    }
 }
 
 /// Tells that a line has this fault.

@@ -199,18 +199,28 @@ impl Ledger {
             ≡ record self.old { journal = self.old.journal ++ entry ∷ [] }) }
         ensures err { OnErr result (self.new ≡ self.old) }
     {
-        self.journal.reserve(1)?;
+        if let Err(AllocError) = self.journal.reserve(1) {
+            drop(entry);
+            return Err(NoMemory);
+        }
         let moment = count(&self.journal);
-        carry_out(
+        match carry_out(
             self.alloc,
             &mut self.tables,
             &mut self.rights,
             Moment(moment),
             &entry.user,
             &entry.statement,
-        )?;
-        self.journal.push_reserved(entry);
-        Ok(())
+        ) {
+            Ok(()) => {
+                self.journal.push_reserved(entry);
+                Ok(())
+            }
+            Err(NoMemory) => {
+                drop(entry);
+                Err(NoMemory)
+            }
+        }
     }
 
     /// Begins a capture of the tables and rights of the journal, and answers its number. It takes

@@ -285,6 +285,34 @@ impl System {
         }
     }
 
+    /// Answers what is no change, as [`look`](System::look) does, and lets go of it.
+    // Not inlined, here and below: room for the reply would otherwise be cleared for every INSERT.
+    #[inline(never)]
+    fn look_at(&mut self, entry: Entry) -> Reply
+        requires allowed { let asked = entry.statement in
+            verdict_at self.old.limits self.old.journal entry.user asked ≡ Ok tt }
+        requires look { is_change entry.statement ≡ false }
+        ensures { let checks = checkpoint_checks self.old entry.user entry.statement in
+            Responds self.old entry (first_lack checks) result self.new }
+    {
+        let reply = self.look(&entry);
+        drop(entry);
+        reply
+    }
+
+    /// Names the lack of what is not allowed, as [`refuse`](System::refuse) does, and lets go of it.
+    #[inline(never)]
+    fn turn_away(&self, entry: Entry) -> Reply
+        requires { let asked = entry.statement in
+            verdict_at self.now.limits self.now.journal entry.user asked ≡ Ok tt → ⊥ }
+        ensures { Responds self.now entry
+            (verdict_of self.now entry.user entry.statement) result self.now }
+    {
+        let reply = self.refuse(&entry);
+        drop(entry);
+        reply
+    }
+
     fn say(&mut self, entry: Entry) -> Reply
         ensures { Responds self.old entry
             (verdict_of self.old entry.user entry.statement) result self.new }
@@ -295,10 +323,10 @@ impl System {
                     let at = self.moment();
                     Reply::to_change(at, self.change(entry))
                 } else {
-                    self.look(&entry)
+                    self.look_at(entry)
                 }
             }
-            None => self.refuse(&entry),
+            None => self.turn_away(entry),
         }
     }
 
@@ -378,7 +406,19 @@ impl System {
 
     /// Frees all that the core holds. A crate that let one go by itself would prove its destructor
     /// once more.
-    pub fn free(self) {}
+    pub fn free(self) {
+        let System {
+            ledger,
+            capture,
+            catalogue,
+            parting,
+            ..
+        } = self;
+        drop(ledger);
+        drop(capture);
+        drop(catalogue);
+        drop(parting);
+    }
 
     /// One step after another. Where there is no memory to note a reply, the events before it were
     /// done, with these replies, and no later one.
@@ -390,6 +430,7 @@ impl System {
         let mut replies = Vec::new(self.alloc);
         for event in events {
             if let Err(AllocError) = replies.reserve(1) {
+                drop(event);
                 return Err((NoMemory, replies));
             }
             replies.push_reserved(self.step(event));

@@ -1,4 +1,4 @@
-use Rattle.std.proofs.Common.{◌≡◌, ◌∙◌, ℕ, ◌&&◌, ◌==◌, Bool, false, ap, sym, arith}
+use Rattle.std.proofs.Common.{◌≡◌, ◌∙◌, ℕ, ◌&&◌, ◌==◌, Bool, false, ap, sym, arith, rules}
 use Rattle.std.proofs.lemmas.Grind.{common_steps}
 use Rattle.std.proofs.lemmas.Bool.{eq-eqb, ne_eqb}
 use Rattle.links_core.specs.declared.link.Link.{Link}
@@ -30,3 +30,6 @@ returns-else-link-clause-contents c =
       | else-link-via-else-link w ↦ ap (λ b. b && (c.in-Some.link.grantor == c.args.by)) w.if-link.false
     ] in
     none_is c.args.by c.args.end.now c.args.store.now.contents c.requires.own c.requires.rising (ap (passes (asked c.args.by)) found ∙ idle)
+
+pub returns-then-link-by-clause-rest : goal.returns-then-link-by-clause-rest
+returns-then-link-by-clause-rest c = search rules

@@ -1,4 +1,4 @@
-use Rattle.std.proofs.Common.{◌<◌, ◌≤◌, ◌+◌, ◌-◌, [], length, sym, ap, ◌∙◌, arith, append-nil}
+use Rattle.std.proofs.Common.{◌<◌, ◌≤◌, ◌+◌, ◌-◌, [], length, sym, ap, ◌∙◌, arith, append-nil, rules}
 use Rattle.std.proofs.lemmas.List.{drop_all}
 use Rattle.indexmap.specs.Layout.{length-set_value_at}
 use Rattle.base_core.specs.declared.name.Name.{Name}
@@ -127,3 +127,6 @@ loop-place-preserved c =
       left = omega (arith, turn, k.left, ap length passed);
       few = omega (arith, o.given, k.few);
     }
+
+pub returns-clause-moves : goal.returns-clause-moves
+returns-clause-moves c = search rules

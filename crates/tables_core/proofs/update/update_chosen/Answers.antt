@@ -1,4 +1,4 @@
-use Rattle.std.proofs.Common.{List, filter, refl, ◌∙◌}
+use Rattle.std.proofs.Common.{List, filter, refl, ◌∙◌, rules}
 use Rattle.std.proofs.lemmas.List.Elements.{All-filter, All-weaker}
 use Rattle.tables_core.specs.Contents.{assigned_row, satisfies}
 use Rattle.tables_core.specs.Indexing.{Numbered, EachLists}
@@ -29,3 +29,6 @@ returns-clause-listed c =
     let items = rw (c.new-conditions.ensures.columns, c.new-conditions.ensures.items, c.new-changes.ensures.columns, c.new-changes.ensures.items) at c.in_ok-new_rows.ensures in
     let noted = rw c.as_slice.ensures.value at (c.note_changed.ensures.noted (filter chosen rows) (c.as_slice.ensures.value ∙ items) (All-filter chosen old rows c.requires)) in
     rw (c.set_new_rows.ensures.contents, c.prepare.ensures.contents) (all-with_new_rows new rows c.in_ok-new_rows.new_rows.items (All-weaker old new c.note_changed.ensures.kept rows c.requires) noted)
+
+pub returns-clause-due : goal.returns-clause-due
+returns-clause-due c = search rules

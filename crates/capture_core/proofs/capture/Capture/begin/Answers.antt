@@ -1,4 +1,4 @@
-use Rattle.std.proofs.Common.{◌≡◌, ◌∙◌, ℕ, ◌+◌, max, length, Option, Some, ap, subst}
+use Rattle.std.proofs.Common.{◌≡◌, ◌∙◌, ℕ, ◌+◌, max, length, Option, Some, ap, subst, rules}
 use Rattle.std.specs.List.{IsDistinct}
 use Rattle.std.specs.Map.{keys_of}
 use Rattle.base_core.specs.Words.{same_name}
@@ -33,3 +33,6 @@ returns-clause-begins c =
     ∙ coming-new number c.args.point c.records-left.result ts rights distinct))) in
     let some : ℕ → Image → Option InProgress = λ left coming. Some (record { left = left; coming = coming }) in
     ap (λ n. some n (coming c.new.result c.begin.new.self due)) left ∙ ap (some (records ts rights)) is
+
+pub returns-clause-lack : goal.returns-clause-lack
+returns-clause-lack c = search rules

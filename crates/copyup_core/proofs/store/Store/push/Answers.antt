@@ -1,4 +1,4 @@
-use Rattle.std.proofs.Common.{ap, sym, ◌∙◌, refl, arith}
+use Rattle.std.proofs.Common.{ap, sym, ◌∙◌, refl, arith, rules}
 use Rattle.copyup_core.specs.Holding.{Holding}
 use Rattle.copyup_core.proofs.Soundness.{sound-push, length-contents, length-rising}
 use Rattle.copyup_core.proofs.store.Store.push.Goals as goal
@@ -13,3 +13,6 @@ pub invariant_of-self : goal.invariant_of-self
 invariant_of-self g c =
     let s = c.self-2.inside in
     rw c.push.ensures.items (sound-push s.slots.items s.next s.len s.capture _ c.args.item c.self-2.invariant refl refl refl)
+
+pub returns-clause-number : goal.returns-clause-number
+returns-clause-number g c = search rules

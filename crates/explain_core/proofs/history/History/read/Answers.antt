@@ -1,58 +1,9 @@
-use Rattle.std.proofs.Common.{◌≡◌, ◌+◌, ◌<◌, List, length, get_or, map, sym, ap, ◌∙◌, subst, arith}
-use Rattle.std.proofs.lemmas.List.{length-map}
-use Rattle.grants_core.specs.declared.grant.Grant.{Grant}
+use Rattle.std.proofs.Common.{List, subst}
 use Rattle.grants_core.specs.declared.grant.Change.{Change}
-use Rattle.grants_core.specs.History.{granted, owners_after}
-use Rattle.explain_core.specs.declared.coming.Ends.{Ends}
-use Rattle.explain_core.specs.declared.life.Life.{Life}
-use Rattle.explain_core.specs.Ends.{next_ends}
-use Rattle.explain_core.specs.Supports.{AreLongest}
-use Rattle.explain_core.proofs.LongestLemmas.{longest-none}
-use Rattle.explain_core.proofs.Whole.{read-none, earlier-none, found_at, ends-at, explains-read}
+use Rattle.explain_core.specs.Kept.{Explains}
 use Rattle.explain_core.proofs.history.History.read.Goals as goal
-
-pub loop-next-init : goal.loop-next-init
-loop-next-init c =
-    let P : List Life → Type 0 = λ ls. AreLongest ls c.new-supports.result in
-    record {
-      counted = ap length c.new-lives.ensures.items;
-      read = read-none c.args.changes.items c.in_ok-made.made c.new-lives.result.items c.new-places.result.items c.requires
-          (c.in_ok-made.ensures.owners ∙ ap owners_after c.deref.ensures.value) (c.in_ok-made.ensures.grants ∙ ap granted c.deref.ensures.value)
-          c.new-lives.ensures.items c.new-places.ensures.items;
-      longest = subst P (sym c.new-lives.ensures.items) (longest-none c.new-supports.result c.new-supports.ensures.noted c.new-supports.ensures.longest);
-      early = earlier-none c.in_ok-made.made c.new-lives.result.items c.new-supports.result c.new-supports.ensures.noted;
-    }
-
-pub loop-next-preserved : goal.loop-next-preserved
-loop-next-preserved c =
-    let changes : List Change = c.args.changes.items in
-    let made : List Grant = c.in_ok-made.made.grants.items in
-    let items : List Ends = c.deref-next-items.result.now in
-    let are : items ≡ map (next_ends changes) made =
-    c.deref-next-items.ensures.value ∙ c.in_ok-ends.ensures
-    ∙ ap (λ cs. map (next_ends cs) c.deref-3.result.now) c.deref-2.ensures.value ∙ ap (map (next_ends changes)) c.deref-3.ensures.value in
-    let count : length items ≡ length made = ap length are ∙ length-map made (next_ends changes) in
-    let inside : length c.loop-next.lives.items < length made = let e = c.loop-next.invariant.counted in let t = c.loop-next-test.true in omega arith in
-    let found = found_at made (length c.loop-next.lives.items) inside in
-    let read = c.in_ok-add_life.ensures.reads changes found.0 found.1
-    (ap (λ k. get_or items k _) (sym c.loop-next.invariant.counted) ∙ ends-at changes made items (length c.loop-next.lives.items) found.0 _ are found.1)
-    c.loop-next.invariant.read in
-    record {
-      counted = c.in_ok-add_life.ensures.one ∙ ap (λ n. n + 1) c.loop-next.invariant.counted;
-      read = read;
-      longest = c.in_ok-add_life.ensures.longest;
-      early = c.in_ok-add_life.ensures.earlier changes c.loop-next.invariant.read;
-    }
 
 pub invariant_of-result : goal.invariant_of-result
 invariant_of-result c =
-    let changes : List Change = c.args.changes.items in
-    let made : List Grant = c.in_ok-made.made.grants.items in
-    let items : List Ends = c.deref-next-items.result.now in
-    let are : items ≡ map (next_ends changes) made =
-    c.deref-next-items.ensures.value ∙ c.in_ok-ends.ensures
-    ∙ ap (λ cs. map (next_ends cs) c.deref-3.result.now) c.deref-2.ensures.value ∙ ap (map (next_ends changes)) c.deref-3.ensures.value in
-    let count : length items ≡ length made = ap length are ∙ length-map made (next_ends changes) in
-    let e = c.loop-next.invariant.counted in
-    let t = c.loop-next-test.false in
-    explains-read changes c.in_ok-made.made c.loop-next.lives.items c.loop-next.places.items c.loop-next.invariant.read (omega arith)
+    let Of : List Change → Type 0 = λ cs. Explains cs c.in_ok-made.made.owners c.in-Ok.lives.items c.in-Ok.supports.items in
+    subst Of c.deref-2.ensures.value c.in-Ok.ensures

@@ -18,8 +18,8 @@ loop-change-preserved c =
     let made : length c.loop-change.made.grants.items ≡ made_by_all sofar = ap length invariant.grants ∙ length-granted sofar in
     record {
       counted = omega arith;
-      owners = c.in_ok-enter.ensures.owners ∙ ap (λ o. owners_with o change) invariant.owners ∙ sym (ap owners_after more ∙ owners-more sofar change);
-      grants = c.in_ok-enter.ensures.grants
+      owners = c.in-Ok.ensures.owners ∙ ap (λ o. owners_with o change) invariant.owners ∙ sym (ap owners_after more ∙ owners-more sofar change);
+      grants = c.in-Ok.ensures.grants
           ∙ ap (λ k. k ++ grants_of (length c.loop-change.made.grants.items) m change) invariant.grants
           ∙ ap (λ n. granted sofar ++ grants_of n m change) made
           ∙ sym (ap granted more ∙ granted-more sofar change ∙ ap (λ n. granted sofar ++ grants_of (made_by_all sofar) n change) count);

@@ -1,4 +1,4 @@
-use Rattle.std.proofs.Common.{Bool, not, sym, ◌∙◌}
+use Rattle.std.proofs.Common.{Bool, not, sym, ◌∙◌, rules}
 use Rattle.std.proofs.lemmas.List.Elements.{All-filter, All-weaker}
 use Rattle.tables_core.specs.Contents.{Contents, satisfies}
 use Rattle.tables_core.specs.Indexing.{Numbered, EachLists}
@@ -18,3 +18,6 @@ invariant_of-self c =
       c.self.invariant.1 ∙ sym (c.drop_chosen-dropped.ensures.next ∙ c.prepare-2.ensures.next),
       rw (c.drop_chosen-dropped.ensures.contents, c.prepare-2.ensures.contents) (All-filter stays (EachLists c.note_dropped.new.self.kept.items) rows still),
     )
+
+pub returns-clause-due : goal.returns-clause-due
+returns-clause-due c = search rules

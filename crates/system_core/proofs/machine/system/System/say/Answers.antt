@@ -29,11 +29,11 @@ returns-then-allowed c =
 pub returns-else-allowed : goal.returns-else-allowed
 returns-else-allowed c =
     let here = passes _ _ c.args.entry c.in-Some.allowed c.self.view_is (sym c.allowed.ensures ∙ c.in-Some.is) in
-    let By : Check → Type 0 = λ check. Responds c.args.self.now c.args.entry check c.look.result c.look.new.self in
-    subst By (sym (passed-first (verdict_at c.args.self.now.limits c.args.self.now.journal c.args.entry.user c.args.entry.statement) (checkpoint_checks c.args.self.now c.args.entry.user c.args.entry.statement) here)) c.look.ensures
+    let By : Check → Type 0 = λ check. Responds c.args.self.now c.args.entry check c.look_at.result c.look_at.new.self in
+    subst By (sym (passed-first (verdict_at c.args.self.now.limits c.args.self.now.journal c.args.entry.user c.args.entry.statement) (checkpoint_checks c.args.self.now c.args.entry.user c.args.entry.statement) here)) c.look_at.ensures
 
 pub change-requires-clause-allowed : goal.change-requires-clause-allowed
 change-requires-clause-allowed c = passes _ _ c.args.entry c.in-Some.allowed c.self.view_is (sym c.allowed.ensures ∙ c.in-Some.is)
 
-pub look-requires-clause-allowed : goal.look-requires-clause-allowed
-look-requires-clause-allowed c = passes _ _ c.args.entry c.in-Some.allowed c.self.view_is (sym c.allowed.ensures ∙ c.in-Some.is)
+pub look_at-requires-clause-allowed : goal.look_at-requires-clause-allowed
+look_at-requires-clause-allowed c = passes _ _ c.args.entry c.in-Some.allowed c.self.view_is (sym c.allowed.ensures ∙ c.in-Some.is)

@@ -1,8 +1,0 @@
-use Rattle.std.proofs.Common.{refl}
-use Rattle.grants_core.specs.Owners.{owns}
-use Rattle.acceptance.proofs.nobody.NobodyAuthority.may_grant.Goals as goal
-
--- nobody owns anything
-pub returns : goal.returns
-unfolding owns
-returns c = refl

@@ -1,0 +1,183 @@
+//! Revocations that would take a privilege from a user.
+
+use crate::answer::Answer;
+use crate::format::Format;
+use crate::past::Past;
+use crate::privileges::{push_atom, put_privilege};
+use crate::prose::Prose;
+use crate::records::Records;
+use base_core::{Atom, Name, NoMemory, User};
+use explain_core::Cut;
+use reader_core::MAX_USERS;
+use std::alloc::Global;
+use tables_core::Tables;
+
+const FIELDS: [&[u8]; 4] = [b"by", b"table", b"privilege", b"user"];
+
+/// A cut, and the atoms that it takes.
+#[derive(Drop)]
+pub struct Cuts {
+    cut: Cut,
+    atoms: Vec<Atom>,
+}
+
+fn same_cut(one: &Cut, other: &Cut) -> bool {
+    one.by == other.by && one.whom == other.whom
+}
+
+/// Adds an atom to those that are taken by the same cut, or as a further one.
+fn add_cut(alloc: Global, cuts: &mut Vec<Cuts>, atom: &Atom, cut: Cut) -> Result<(), NoMemory> {
+    for at in 0..cuts.len() {
+        if same_cut(&cuts[at].cut, &cut) {
+            return push_atom(&mut cuts[at].atoms, atom);
+        }
+    }
+    let mut atoms = Vec::new(alloc);
+    push_atom(&mut atoms, atom)?;
+    cuts.reserve(1)?;
+    cuts.push_reserved(Cuts { cut, atoms });
+    Ok(())
+}
+
+/// What takes the atoms from the user. Those that he does not hold need nothing, and nothing takes
+/// them from an owner.
+fn cuts_of(
+    alloc: Global,
+    past: &Past<'_>,
+    user: &User,
+    atoms: &[Atom],
+) -> Result<Vec<Cuts>, NoMemory> {
+    let mut cuts = Vec::new(alloc);
+    for atom in atoms {
+        if let Some(cut) = past.history.cut(alloc, user, atom)? {
+            add_cut(alloc, &mut cuts, atom, cut)?;
+        }
+    }
+    Ok(cuts)
+}
+
+fn put_users(text: &mut Prose, users: &[User]) -> Result<(), NoMemory> {
+    let mut between: &[u8] = b" ";
+    for user in users {
+        text.put_all(&[between, user.0.as_bytes()])?;
+        between = b", ";
+    }
+    Ok(())
+}
+
+/// A line that takes the atoms from so many users as a line may name.
+fn put_line(
+    text: &mut Prose,
+    tables: &Tables,
+    cuts: &Cuts,
+    table: &Name,
+    users: &[User],
+) -> Result<(), NoMemory> {
+    text.put_all(&[cuts.cut.by.0.as_bytes(), b": REVOKE "])?;
+    put_privilege(text, tables, &cuts.atoms)?;
+    text.put_all(&[b" ON ", table.as_bytes(), b" FROM"])?;
+    put_users(text, users)?;
+    text.put(b"\n")
+}
+
+fn put_lines(text: &mut Prose, tables: &Tables, cuts: &Cuts, table: &Name) -> Result<(), NoMemory> {
+    for users in cuts.cut.whom.chunks(MAX_USERS) {
+        put_line(text, tables, cuts, table, users)?;
+    }
+    Ok(())
+}
+
+/// The lines of a script that take what these cuts take.
+fn lines_of(
+    alloc: Global,
+    tables: &Tables,
+    cuts: &[Cuts],
+    table: &Name,
+) -> Result<Vec<u8>, NoMemory> {
+    let mut text = Prose::new(alloc);
+    for one in cuts {
+        put_lines(&mut text, tables, one, table)?;
+    }
+    Ok(text.bytes)
+}
+
+/// The records of what a cut names: for each atom and user one.
+fn put_records_of(records: &mut Records, cuts: &Cuts, user: &User) -> Result<(), NoMemory> {
+    for atom in &cuts.atoms {
+        records.put_name(&cuts.cut.by.0)?;
+        records.put_privilege(atom)?;
+        records.put_name(&user.0)?;
+        records.end()?;
+    }
+    Ok(())
+}
+
+fn put_all_records_of(records: &mut Records, cuts: &Cuts) -> Result<(), NoMemory> {
+    for user in &cuts.cut.whom {
+        put_records_of(records, cuts, user)?;
+    }
+    Ok(())
+}
+
+/// The records of these cuts.
+fn records_of(alloc: Global, cuts: &[Cuts]) -> Result<Vec<u8>, NoMemory> {
+    let mut records = Records::under(alloc, &FIELDS)?;
+    for one in cuts {
+        put_all_records_of(&mut records, one)?;
+    }
+    records.finish()
+}
+
+/// That the user owns the table.
+fn owner_remark(alloc: Global, user: &User, table: &Name) -> Result<Vec<u8>, NoMemory> {
+    let mut text = Prose::new(alloc);
+    text.put_all(&[user.0.as_bytes(), b" owns ", table.as_bytes()])?;
+    text.put(b": nothing takes it from an owner")?;
+    Ok(text.bytes)
+}
+
+/// That the user holds none of the atoms.
+fn lack_remark(
+    alloc: Global,
+    tables: &Tables,
+    user: &User,
+    table: &Name,
+    atoms: &[Atom],
+) -> Result<Vec<u8>, NoMemory> {
+    let mut text = Prose::new(alloc);
+    text.put_all(&[user.0.as_bytes(), b" does not hold "])?;
+    put_privilege(&mut text, tables, atoms)?;
+    text.put_all(&[b" on ", table.as_bytes(), b": there is nothing to take"])?;
+    Ok(text.bytes)
+}
+
+/// What would take the atoms from the user. It is no where he owns the table. Where nothing is
+/// taken, the remark says why.
+pub fn cut_answer(
+    alloc: Global,
+    past: &Past<'_>,
+    user: &User,
+    table: &Name,
+    atoms: &[Atom],
+    format: Format,
+) -> Result<Answer, NoMemory> {
+    let cuts = cuts_of(alloc, past, user, atoms)?;
+    let is_owner = past.tables.owner(*table) == Some(*user);
+    let remark = if is_owner {
+        Some(owner_remark(alloc, user, table)?)
+    } else if cuts.is_empty() {
+        Some(lack_remark(alloc, past.tables, user, table, atoms)?)
+    } else {
+        None
+    };
+    let text = match format {
+        Format::Csv => records_of(alloc, &cuts)?,
+        Format::Text | Format::Dot => lines_of(alloc, past.tables, &cuts, table)?,
+    };
+    let is_yes = !is_owner;
+    Ok(Answer {
+        text,
+        is_yes,
+        remark,
+    })
+}

@@ -1,0 +1,64 @@
+-- What lines or sessions leave, and where their changes are kept.
+use Rattle.std.specs.Prelude.{◌≡◌, ℕ, Bool, true, false, List, Option, None, Some, Ok, length}
+use Rattle.std.specs.Option.{is_some}
+use Rattle.system_core.specs.World.{World}
+use Rattle.system_core.specs.declared.machine.event.Entry.{Entry}
+use Rattle.journal_core.specs.Keeping.{KeepsLine, FailsLine}
+use Rattle.journal_core.specs.declared.keeper.NoKeeper.{NoKeeper}
+use Rattle.script_core.specs.Keeping.{EndsKeptFrom}
+use Rattle.desk_core.specs.Kept.{HasKept}
+use Rattle.server_core.specs.Sessions.{Leaves}
+use Rattle.program_core.specs.declared.loading.Start.{Start}
+use Rattle.program_core.specs.declared.keeping.Kept.{Kept}
+use Rattle.program_core.specs.declared.keeping.Kept.TheVariants as places
+
+-- whether the changes are kept as lines, in a journal
+abbrev pub is_in_lines : {W : Type 0} → Kept W → Bool
+is_in_lines (places.Nowhere left) = false
+is_in_lines (places.Lines left) = true
+
+-- the core that was left
+abbrev pub system_of : {W : Type 0} → Kept W → World
+system_of (places.Nowhere left) = left.system
+system_of (places.Lines left) = left.system
+
+-- the keeper that keeps nothing
+abbrev pub nobody : NoKeeper
+nobody = record {}
+
+-- Of the sink of a journal, `taken`, `handed_on` and `failed` are those of base_core's `Sink`.
+module _ {W : Type 0} (taken handed_on : W → Option (List ℕ)) (failed : W → Bool) where
+  -- From this start lines were answered, to their end. Where there is a journal, each change was kept
+  -- in it before its reply was written. Of the lines, `left` is what is to come; of what is written,
+  -- `written` is what was given to the writer.
+  abbrev pub IsAnswered : Start W → (left left' written written' : Option (List ℕ)) → Kept W → Type 0
+  IsAnswered start left left' written written' (places.Nowhere ended) =
+      (start.journal ≡ None)
+      × EndsKeptFrom (λ _ _ _. Unit {0}) (λ _ _ _. ⊥) (λ _. false)
+      start.system (Ok ended.system) nobody ended.keeper left left' written written'
+  IsAnswered start left left' written written' (places.Lines ended) =
+      (sink : W)
+      × (start.journal ≡ Some sink)
+      × EndsKeptFrom (KeepsLine taken handed_on) (FailsLine taken) failed
+      start.system (Ok ended.system) sink ended.keeper left left' written written'
+
+  -- From this start so many workers served so many sessions. The journal, if there is one and it has
+  -- not failed, kept each change since then, from the state on in which it was handed in.
+  abbrev pub IsServed : (workers sessions : ℕ) → Start W → Kept W → Type 0
+  IsServed workers sessions start (places.Nowhere ended) =
+      (start.journal ≡ None)
+      × Leaves workers sessions nobody start.system ended.system
+  IsServed workers sessions start (places.Lines ended) =
+      (sink : W)
+      × (start.journal ≡ Some sink)
+      × Leaves workers sessions sink start.system ended.system
+      × HasKept (KeepsLine taken handed_on) failed
+      (record { chunk = start.system.chunk; front = length start.system.journal; keeper = sink })
+      ended.system.journal ended.keeper
+
+  -- the same from some start, which has a journal exactly where one is named
+  abbrev pub ServesFrom : {A : Type 0} → (workers sessions : ℕ) → Option A → Kept W → Type 0
+  ServesFrom workers sessions named kept =
+      (start : Start W)
+      × (is_some start.journal ≡ is_some named)
+      × IsServed workers sessions start kept

@@ -1,0 +1,99 @@
+//! The rights that lines make, explained.
+ghost use Rattle.std.specs.Prelude.{◌≡◌, false};
+
+use crate::loading::loaded_or_empty;
+use crate::replaying::{manner_of, replayed, status_of, tell_left_out};
+use base_core::Sink;
+use command_core::Explaining;
+use explain_text::{Answered, ExplainFault, Question, explain, explain_fault_text, history_asked};
+use lines_core::{NO_MEMORY, give_up};
+use load_core::Replayed;
+use run_core::{input, output, tell};
+use std::mem::forget;
+use std::process::ExitCode;
+
+const CHUNK: usize = 16;
+
+/// The status of an answer that is no.
+const NO_STATUS: u8 = 1;
+
+/// The status of a question that has no answer.
+const NO_ANSWER_STATUS: u8 = 2;
+
+/// Tells on standard error why a question has no answer, or why the answer was not written whole.
+fn give_up_question(rt: &HostRuntime, question: &Question<'_>, fault: &ExplainFault) -> ExitCode {
+    let Ok(text) = explain_fault_text(rt.alloc(), question, fault) else {
+        return give_up(rt, NO_MEMORY);
+    };
+    tell(rt, &text);
+    if fault.is_of_the_question() {
+        ExitCode::from(NO_ANSWER_STATUS)
+    } else {
+        ExitCode::FAILURE
+    }
+}
+
+/// What the lines of standard input make, up to the moment that is asked for. The error is the
+/// status, where they cannot be read, or end before it, which is told.
+fn replayed_to(rt: &HostRuntime, asked: &Explaining<'_>) -> Result<Replayed, ExitCode> {
+    let begins = loaded_or_empty(rt, None, CHUNK)?;
+    let manner = manner_of(asked.reading, asked.at.unwrap_or(u64::MAX));
+    let replayed = replayed(rt, &mut input(rt), begins, manner)?;
+    let end = replayed.system.moment().0;
+    match asked.at {
+        Some(at) if end < at => {
+            forget(replayed);
+            let _ = eprintln!(rt; "sysr: the script ends at @{end}");
+            Err(ExitCode::from(NO_ANSWER_STATUS))
+        }
+        _ => Ok(replayed),
+    }
+}
+
+/// Writes the answer to a question about what was replayed, and says what it is.
+fn answer<W: Sink>(
+    rt: &HostRuntime,
+    replayed: &mut Replayed,
+    asked: &Explaining<'_>,
+    writer: &mut W,
+) -> Result<Answered, ExplainFault>
+    requires { W.failed writer.old ≡ false }
+{
+    let (question, format) = (&asked.question, asked.format);
+    let history = history_asked(rt.alloc(), replayed, question, format)?;
+    let answered = explain(rt.alloc(), &history, replayed, question, format, writer);
+    // The process ends behind this, and its memory goes back as a whole.
+    forget(history);
+    answered
+}
+
+/// Tells on standard error what stands beside an answer. The status is that of the reading if it is
+/// yes, and 1 if it is no.
+fn status_of_answer(rt: &HostRuntime, answered: &Answered, reading: ExitCode) -> ExitCode {
+    if let Some(remark) = &answered.remark {
+        tell(rt, remark);
+    }
+    if answered.is_yes {
+        reading
+    } else {
+        ExitCode::from(NO_STATUS)
+    }
+}
+
+/// Answers a question about the rights that the lines of standard input make, and tells of the lines
+/// left out. The status is 0 if the answer is yes, 1 if it is no, or lines were left out and that is
+/// to be strict, and 2 if the question has no answer.
+pub fn explained(rt: &HostRuntime, asked: Explaining<'_>) -> Result<ExitCode, ExitCode> {
+    let mut writer = output(rt)?;
+    let mut replayed = replayed_to(rt, &asked)?;
+    let told = tell_left_out(rt, &replayed);
+    let reading = status_of(&replayed, asked.reading);
+    let answered = answer(rt, &mut replayed, &asked, &mut writer);
+    // The process ends here, and its memory goes back as a whole.
+    forget(replayed);
+    told?;
+    match answered {
+        Ok(answered) => Ok(status_of_answer(rt, &answered, reading)),
+        Err(fault) => Err(give_up_question(rt, &asked.question, &fault)),
+    }
+}

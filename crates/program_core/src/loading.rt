@@ -1,0 +1,135 @@
+//! What a program begins with: a core, and the file of a journal.
+ghost use Rattle.std.specs.Prelude.{◌≡◌, ◌<◌, ◌≤◌, true, false, [], None, IfOk, IfErr, IfSome};
+ghost use Rattle.std.specs.Option.{is_some};
+ghost use Rattle.std.specs.List.{AllByRecursion};
+ghost use Rattle.std.specs.Process.{exit_status};
+ghost use Rattle.journal_core.specs.Text.{WasRead};
+ghost use Rattle.load_core.specs.Ready.{IsReady};
+
+use crate::files::{JournalSink, give_up_on, journal_file, journal_gone_on, reader_of};
+use crate::naming::Named;
+use base_core::NoMemory;
+use lines_core::{NO_MEMORY, SessionFault, fault_text, give_up};
+use load_core::load_or_text;
+use std::mem::forget;
+use std::process::ExitCode;
+use system_core::System;
+
+/// The core that the changes of the file make. The error is the status, where the file cannot be
+/// read or a line of it says no change that is done, which is told.
+fn loaded(rt: &HostRuntime, path: &str, chunk: usize) -> Result<System, ExitCode>
+    requires some { 0 < chunk }
+    requires small { chunk ≤ 64 }
+    ensures ready { IfOk result (IsReady chunk) }
+    ensures entries { IfOk result (λ system. AllByRecursion WasRead system.journal) }
+    ensures err { IfErr result (λ status. exit_status status ≡ 1) }
+{
+    let mut reader = reader_of(rt, path)?;
+    match load_or_text(rt.alloc(), &mut reader, chunk) {
+        Ok(system) => Ok(system),
+        Err(Ok(text)) => Err(give_up_on(rt, path, text.as_slice())),
+        Err(Err(NoMemory)) => Err(give_up(rt, NO_MEMORY)),
+    }
+}
+
+/// The core that the file makes, or an empty one, if no file is named. The error is the status, as of
+/// [`loaded`].
+pub fn loaded_or_empty(
+    rt: &HostRuntime,
+    load: Option<&str>,
+    chunk: usize,
+) -> Result<System, ExitCode>
+    requires some { 0 < chunk }
+    requires small { chunk ≤ 64 }
+    ensures ready { IfOk result (IsReady chunk) }
+    ensures empty { load.entry ≡ None → IfOk result (λ system. system.journal ≡ []) }
+    ensures entries { IfOk result (λ system. AllByRecursion WasRead system.journal) }
+    ensures err { IfErr result (λ status. exit_status status ≡ 1) }
+{
+    let Some(path) = load else {
+        return match System::new(rt.alloc(), chunk) {
+            Ok(system) => Ok(system),
+            Err(NoMemory) => Err(give_up(rt, NO_MEMORY)),
+        };
+    };
+    loaded(rt, path, chunk)
+}
+
+/// As [`loaded_or_empty`], after it was said how many changes the file says. The error is the status,
+/// also where that could not be said.
+fn loaded_and_told(rt: &HostRuntime, load: Option<&str>, chunk: usize) -> Result<System, ExitCode>
+    requires some { 0 < chunk }
+    requires small { chunk ≤ 64 }
+    ensures ready { IfOk result (IsReady chunk) }
+    ensures empty { load.entry ≡ None → IfOk result (λ system. system.journal ≡ []) }
+{
+    let system = loaded_or_empty(rt, load, chunk)?;
+    if load.is_some() && println!(rt; "loaded {} changes", system.moment().0).is_err() {
+        forget(system);
+        return Err(give_up(rt, fault_text(SessionFault::Write)));
+    }
+    Ok(system)
+}
+
+/// What a program begins with: a core, and a journal that its changes are kept in, if there is one.
+#[derive(Drop)]
+pub struct Start<W> {
+    pub system: System,
+    pub journal: Option<W>,
+}
+
+/// A writer to the file of a journal, if one is named.
+fn journal_of(rt: &HostRuntime, path: Option<&str>) -> Result<Option<JournalSink>, ExitCode>
+    ensures named { IfOk result (λ journal. is_some journal ≡ is_some path.entry) }
+    ensures works { IfOk result (λ journal. IfSome journal (λ sink. sink.failed ≡ false)) }
+{
+    match path {
+        Some(path) => Ok(Some(journal_file(rt, path)?)),
+        None => Ok(None),
+    }
+}
+
+/// What a program begins with where the file that is loaded is gone on with: it is held before it is
+/// read, so that no other program writes to it behind what was read.
+fn going_on(rt: &HostRuntime, path: &str, chunk: usize) -> Result<Start<JournalSink>, ExitCode>
+    requires some { 0 < chunk }
+    requires small { chunk ≤ 64 }
+    ensures ready { IfOk result (λ begun. IsReady chunk begun.system) }
+    ensures named { IfOk result (λ begun. is_some begun.journal ≡ true) }
+    ensures works { IfOk result (λ begun. IfSome begun.journal (λ sink. sink.failed ≡ false)) }
+{
+    let sink = journal_gone_on(rt, path)?;
+    let system = loaded_and_told(rt, Some(path), chunk)?;
+    Ok(Start {
+        system,
+        journal: Some(sink),
+    })
+}
+
+/// What a program begins with. A file is loaded before another one is opened to write to, so that
+/// none is made where it cannot be loaded. The error is the status, and the reason is told.
+pub fn begun(
+    rt: &HostRuntime,
+    named: Named<'_>,
+    chunk: usize,
+) -> Result<Start<JournalSink>, ExitCode>
+    requires some { 0 < chunk }
+    requires small { chunk ≤ 64 }
+    ensures ready { IfOk result (λ begun. IsReady chunk begun.system) }
+    ensures empty { named.entry.load ≡ None → IfOk result (λ begun. begun.system.journal ≡ []) }
+    ensures named { IfOk result (λ begun. is_some begun.journal ≡ is_some named.entry.journal) }
+    ensures works { IfOk result (λ begun. IfSome begun.journal (λ sink. sink.failed ≡ false)) }
+{
+    if let Some(path) = named.gone_on() {
+        return going_on(rt, path, chunk);
+    }
+    let system = loaded_and_told(rt, named.load, chunk)?;
+    match journal_of(rt, named.journal) {
+        Ok(journal) => Ok(Start { system, journal }),
+        Err(status) => {
+            // The process ends here, and its memory goes back as a whole.
+            forget(system);
+            Err(status)
+        }
+    }
+}

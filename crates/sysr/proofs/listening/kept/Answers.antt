@@ -1,6 +1,0 @@
-use Rattle.std.proofs.Common.{Some, ap, sym, ◌∙◌}
-use Rattle.sysr.proofs.listening.kept.Goals as goal
-
-pub returns-in_ok-left-in-Ok : goal.returns-in_ok-left-in-Ok
-returns-in_ok-left-in-Ok g c =
-    (c.in-Ok.keeper, c.in-Some.is ∙ ap Some (sym c.in-Ok.ensures), c.in_ok-left-in-Ok.ensures.leaves, c.in_ok-left-in-Ok.ensures.kept)
