@@ -21,7 +21,7 @@ DOCUMENTS = ("README.md", "docs/ARCHITECTURE.md")
 LONG = 35
 IMPORT = re.compile(r"^use Rattle\.([\w.+]+?)\.\{(.*)\}$", re.MULTILINE)
 ALIAS = re.compile(r"^use Rattle\.([\w.+]+) as (\w+)$", re.MULTILINE)
-HEAD = re.compile(r"( *)(?:abbrev )?(?:pub )?(record |data )?([^\s(){}:=]+)(?: [^:=]*)? :(?: |$)")
+HEAD = re.compile(r"( *)(?:abbrev |unfoldable )?(?:pub )?(record |data )?([^\s(){}:=]+)(?: [^:=]*)? :(?: |$)")
 WORD = re.compile(r"[^\s(){}\[\],;→×⊎≡]+")
 
 

@@ -1,9 +1,8 @@
 //! A desk with two passes.
 ghost use Rattle.std.specs.Prelude.{◌≡◌, Some, []};
 
-use base_core::{Name, User};
+use base_core::{Name, NoGate, User};
 use desk_core::{Desk, Pass, Unkept};
-use export_core::NoGate;
 use journal_core::NoKeeper;
 use reader_core::read;
 use reply_core::reply_text;

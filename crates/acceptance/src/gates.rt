@@ -2,9 +2,8 @@
 ghost use Rattle.std.specs.Prelude.{◌≡◌, Some, false};
 
 use crate::slow::Slow;
-use base_core::{Name, User};
+use base_core::{Gate, Name, NoGate, User};
 use desk_core::{Desk, Pass};
-use export_core::{Gate, NoGate};
 use journal_core::NoKeeper;
 use reply_core::ReplyBuffer;
 use session_core::{checkpointer, serve_line};

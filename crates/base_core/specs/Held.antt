@@ -9,6 +9,6 @@ held_bytes (held.Short len bytes) = take len bytes
 held_bytes (held.Long bytes) = bytes.value.items
 
 -- a short text has at most as many bytes as its place
-abbrev pub IsWithin : Held → Type 0
-IsWithin (held.Short len bytes) = len ≤ 14
-IsWithin (held.Long bytes) = Unit {0}
+abbrev pub FitsInPlace : Held → Type 0
+FitsInPlace (held.Short len bytes) = len ≤ 14
+FitsInPlace (held.Long bytes) = Unit {0}

@@ -47,6 +47,7 @@ impl<const LIMIT: usize> SeveralValues<LIMIT> {
         &self.values
     }
 
+    /// The items, in order.
     pub fn as_slice(&self) -> &[Value]
         ensures items { result.now ≡ self.now }
         ensures some { 0 < length self.now }

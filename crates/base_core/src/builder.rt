@@ -79,6 +79,7 @@ impl ValuesBuilder {
         }
     }
 
+    /// The values so far, in order.
     pub fn as_slice(&self) -> &[Value]
         ensures { result.now ≡ self.now }
     {

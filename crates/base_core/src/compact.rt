@@ -34,6 +34,7 @@ impl<T: Drop> Compact<T> {
 }
 
 impl<T> Compact<T> {
+    /// The items, in order.
     pub fn as_slice(&self) -> &[T]
         ensures { result.now ≡ self.now }
     {

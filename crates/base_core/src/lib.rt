@@ -20,7 +20,8 @@
 //!
 //! [`Source`] and [`Sink`] are the readers and writers of the whole workspace: their ghost members
 //! say which bytes are left, were taken or were handed on, and whether an error came, so that
-//! contracts above can name the bytes.
+//! contracts above can name the bytes. A [`Gate`] is told how sessions and captures go on; no contract
+//! speaks of it.
 //!
 //! A name is `Copy`, and its comparison and hash go over its bytes. A look-up by name in a row goes
 //! over the columns. Copies of rows, values and texts take no memory: the [`Values`] of a row and a
@@ -32,6 +33,7 @@ mod bounded;
 mod builder;
 mod compact;
 mod condition;
+mod gate;
 mod keyword;
 mod lack;
 mod limits;
@@ -50,6 +52,7 @@ pub use bounded::{Distinct, Limited, Named, SeveralValues};
 pub use builder::ValuesBuilder;
 pub use compact::Compact;
 pub use condition::{Assignment, Comparison, Condition, column_index};
+pub use gate::{Gate, NoGate};
 pub use keyword::Keyword;
 pub use lack::{Lack, What};
 pub use limits::Limits;

@@ -97,6 +97,7 @@ impl Name {
         }
     }
 
+    /// The bytes of the name, in small letters.
     pub fn as_bytes(&self) -> &[u8]
         ensures value { result.now ≡ self.now }
         ensures name { IsName self.now }

@@ -1,7 +1,7 @@
 //! Readers and writers whose every error is one and the same.
-ghost use Rattle.std.specs.Prelude.{◌≡◌, ◌≤◌, ◌<◌, ℕ, Bool, true, false, List, Option, length, IfOk, OnOk, OnErr, MatchResult, Ok};
-ghost use Rattle.std.specs.Io.KnownBytes.{Appends, Consumes, Keeps, IsAtEnd, ReadConsumes, WriteAppends};
-ghost use Rattle.base_core.specs.Streams.{WritesFront};
+ghost use Rattle.std.specs.Prelude.{◌≡◌, ◌≤◌, ◌<◌, ℕ, Bool, true, false, List, Option, length, IfOk, OnOk, MatchResult, Ok};
+ghost use Rattle.std.specs.Io.KnownBytes.{Keeps, IsAtEnd, ReadConsumes, WriteAppends};
+ghost use Rattle.base_core.specs.Streams.{MayWriteText};
 
 use std::io::{BufWriter, Read, Write};
 
@@ -65,6 +65,7 @@ pub struct StdSource<R> {
 }
 
 impl<R: Read> StdSource<R> {
+    /// This reader, which has not failed.
     pub fn new(reader: R) -> Self
         ensures reader { result.reader ≡ reader }
         ensures failed { result.failed ≡ false }
@@ -100,6 +101,7 @@ pub struct StdSink<W: Write + Drop> {
 impl<W: Write + Drop> StdSink<W> {
     ghost use Rattle.std.specs.Io.Buffered.{writer_buffer, writer_inner};
 
+    /// This writer, which has not failed.
     pub fn new(writer: BufWriter<W>) -> Self
         ensures writer { result.writer ≡ writer }
         ensures failed { result.failed ≡ false }
@@ -166,10 +168,7 @@ impl<W: Write + Drop> Sink for StdSink<W> {
 /// Writes all of the bytes. On an `Err` the writer took some front of them.
 pub fn write_all<W: Sink>(writer: &mut W, bytes: &[u8]) -> Result<(), Broken>
     requires { W.failed writer.old ≡ false }
-    ensures failed { MatchResult result (λ _. W.failed writer.new ≡ false)
-        (λ _. W.failed writer.new ≡ true) }
-    ensures ok { OnOk result (Appends (W.taken writer.old) (W.taken writer.new) bytes.now) }
-    ensures err { OnErr result (WritesFront (W.taken writer.old) (W.taken writer.new) bytes.now) }
+    ensures { MayWriteText W.failed W.taken bytes.now result writer.old writer.new }
 {
     let mut rest = bytes;
     while !rest.is_empty() {

@@ -1,7 +1,7 @@
 //! Texts of rows.
 ghost use Rattle.std.specs.Prelude.{◌≡◌, ◌≤◌, All, IfOk, length};
 ghost use Rattle.base_core.specs.Texts.{IsText};
-ghost use Rattle.base_core.specs.Held.{held_bytes, IsWithin};
+ghost use Rattle.base_core.specs.Held.{held_bytes, FitsInPlace};
 
 use crate::memory::{NoMemory, Twin};
 use std::alloc::{AllocError, Global};
@@ -28,20 +28,20 @@ pub struct Text {
 impl Model for Text {
     ghost use Rattle.std.specs.Prelude.{ℕ, List};
     ghost use Rattle.base_core.specs.Texts.{IsText};
-    ghost use Rattle.base_core.specs.Held.{held_bytes, IsWithin};
+    ghost use Rattle.base_core.specs.Held.{held_bytes, FitsInPlace};
 
     ghost Value = { List ℕ };
 
     ghost view = { λ t. held_bytes t.held };
 
-    ghost invariant = { λ t. IsWithin t.held × IsText (held_bytes t.held) };
+    ghost invariant = { λ t. FitsInPlace t.held × IsText (held_bytes t.held) };
 }
 
 impl Held {
     /// These bytes, in the value itself.
     fn short(text: &[u8]) -> Held
         requires { length text.now ≤ 14 }
-        ensures within { IsWithin result }
+        ensures within { FitsInPlace result }
         ensures bytes { held_bytes result ≡ text.now }
     {
         let mut bytes = [0; MAX_SHORT];
@@ -54,7 +54,7 @@ impl Held {
 
     /// These bytes, on the heap.
     fn long(alloc: Global, text: &[u8]) -> Result<Held, AllocError>
-        ensures within { IfOk result (λ held. IsWithin held) }
+        ensures within { IfOk result (λ held. FitsInPlace held) }
         ensures bytes { IfOk result (λ held. held_bytes held ≡ text.now) }
     {
         let bytes = Vec::from_slice(alloc, text)?;
@@ -62,7 +62,7 @@ impl Held {
     }
 
     fn as_bytes(&self) -> &[u8]
-        requires { IsWithin self.now }
+        requires { FitsInPlace self.now }
         ensures { result.now ≡ held_bytes self.now }
     {
         match self {
@@ -86,6 +86,7 @@ impl Text {
         Ok(Text { held })
     }
 
+    /// The text.
     pub fn as_str(&self) -> &str
         ensures value { result.now ≡ self.now }
         ensures text { IsText self.now }

@@ -12,6 +12,7 @@ pub struct Unbuffered<W> {
 }
 
 impl<W: Write> Unbuffered<W> {
+    /// This writer, which has not failed.
     pub fn new(writer: W) -> Self
         ensures writer { result.writer ≡ writer }
         ensures failed { result.failed ≡ false }

@@ -43,6 +43,7 @@ fn starts_with_letter(bytes: &[u8]) -> bool
         .is_some_and(|first| first.is_ascii_alphabetic())
 }
 
+/// Whether it begins with a letter, and has letters, digits and `_` alone.
 pub fn is_word(word: &[u8]) -> bool
     ensures { result ≡ is_word word.now }
 {

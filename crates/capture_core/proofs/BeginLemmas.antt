@@ -7,8 +7,8 @@ use Rattle.base_core.proofs.SameLemmas.{same_name-refl}
 use Rattle.base_core.specs.declared.name.Name.{Name}
 use Rattle.base_core.specs.declared.value.Row.{Row}
 use Rattle.base_core.specs.declared.value.Moment.{Moment}
-use Rattle.grants_core.specs.Content.{Content}
-use Rattle.tables_core.specs.Contents.{Contents, all_rows}
+use Rattle.grants_core.specs.Content.{Rights}
+use Rattle.tables_core.specs.Contents.{Table, all_rows}
 use Rattle.capture_core.specs.declared.image.TableImage.{TableImage}
 use Rattle.capture_core.specs.Capturing.{ActiveCapture, coming}
 use Rattle.std.proofs.lemmas.List.Sums.{sum_by-cons}
@@ -26,7 +26,7 @@ first : (h : Head) (name : Name) (rows : List (ℕ × Row)) (items : List (Name 
 first h name [] items other rest = rest
 first h name (r ∷ rs) items other rest = other
 
-elsewhere : (h : Head) (ts : List (Name × Contents)) → AllByRecursion (λ name. same_name h.name name ≡ false) (keys_of ts) → StartsElsewhere h (all_rows ts)
+elsewhere : (h : Head) (ts : List (Name × Table)) → AllByRecursion (λ name. same_name h.name name ≡ false) (keys_of ts) → StartsElsewhere h (all_rows ts)
 elsewhere h [] other = tt
 elsewhere h (t ∷ ts) other = first h t.0 t.1.rows (all_rows ts) other.0 (elsewhere h ts other.1)
 
@@ -47,7 +47,7 @@ left : (name : Name) (rows : List (ℕ × Row)) (items : List (Name × (ℕ × R
 left name [] items = refl
 left name (r ∷ rs) items = left name rs items
 
-pub images_under-all : (ts : List (Name × Contents)) → IsDistinct same_name (keys_of ts) → images_under (map head ts) [] (all_rows ts) ≡ map table_image ts
+pub images_under-all : (ts : List (Name × Table)) → IsDistinct same_name (keys_of ts) → images_under (map head ts) [] (all_rows ts) ≡ map table_image ts
 unfolding IsDistinct
 images_under-all [] distinct = refl
 images_under-all (t ∷ ts) distinct =
@@ -60,10 +60,10 @@ images_under-all (t ∷ ts) distinct =
     ∙ ap (λ l. table_image t ∷ l) (images_under-all ts distinct.1)))
 
 -- there are as many rows of all tables as they have, all together
-pub length_all_rows : (ts : List (Name × Contents)) → length (all_rows ts) ≡ row_total ts
+pub length_all_rows : (ts : List (Name × Table)) → length (all_rows ts) ≡ row_total ts
 length_all_rows [] = refl
 length_all_rows (t ∷ ts) =
-    let rows_in : Name × Contents → ℕ = λ u. length u.1.rows in
+    let rows_in : Name × Table → ℕ = λ u. length u.1.rows in
     let number : ℕ × Row → Name × (ℕ × Row) = λ numbered. (t.0, numbered) in
     length-append (own t.0 t.1.rows) (all_rows ts)
     ∙ (ap (λ n. n + length (all_rows ts)) (length-map t.1.rows number)
@@ -82,7 +82,7 @@ new_capture number point left count = record {
 }
 
 -- of a new capture the image of the tables and rights is to come
-pub coming-new : (number : ℕ) (point : Moment) (left : ℕ) (ts : List (Name × Contents)) (rights : Content) → IsDistinct same_name (keys_of ts)
+pub coming-new : (number : ℕ) (point : Moment) (left : ℕ) (ts : List (Name × Table)) (rights : Rights) → IsDistinct same_name (keys_of ts)
     → coming (new_capture number point left (length ts)) (record { tables = ts; rest = all_rows ts }) rights.in_force ≡ image number point ts rights
 coming-new number point left ts rights distinct =
     let all : take (length ts) (map head ts) ≡ map head ts = take_all (length ts) (map head ts) (omega (arith, length-map ts head)) in

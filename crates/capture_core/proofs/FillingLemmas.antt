@@ -7,7 +7,7 @@ use Rattle.std.proofs.lemmas.Option.{slice_get-map}
 use Rattle.base_core.specs.Words.{same_name}
 use Rattle.base_core.specs.declared.name.Name.{Name}
 use Rattle.base_core.specs.declared.value.Row.{Row}
-use Rattle.tables_core.specs.Contents.{Contents}
+use Rattle.tables_core.specs.Contents.{Table}
 use Rattle.tables_core.specs.declared.tables.TableView.{TableView}
 use Rattle.capture_core.specs.Filling.{Head, head, heads, image_under, is_of, rows_of, images_under, Filled, completed, IsNext}
 
@@ -42,10 +42,10 @@ slice_get-past (x ∷ xs) (suc count) zero past = absurd (omega (arith, past))
 slice_get-past (x ∷ xs) (suc count) (suc n) past = slice_get-past xs count n (omega (arith, past))
 
 -- ---- the head that comes next
-pub heads-within : (tables : List (Name × Contents)) (count n : ℕ) → n < count → slice_get (heads count tables) n ≡ option_map head (slice_get tables n)
+pub heads-within : (tables : List (Name × Table)) (count n : ℕ) → n < count → slice_get (heads count tables) n ≡ option_map head (slice_get tables n)
 heads-within tables count n within = slice_get-take (map head tables) count n within ∙ slice_get-map head tables n
 
-pub heads-past : (tables : List (Name × Contents)) (count n : ℕ) → count ≤ n → slice_get (heads count tables) n ≡ None
+pub heads-past : (tables : List (Name × Table)) (count n : ℕ) → count ≤ n → slice_get (heads count tables) n ≡ None
 heads-past tables count n past = slice_get-past (map head tables) count n past
 
 pub heads-some : {X : Type 0} (xs : List X) (count n : ℕ) (x : X) → slice_get (take count xs) n ≡ Some x → n < count

@@ -6,11 +6,11 @@ use Rattle.base_core.specs.Words.{same_name}
 use Rattle.base_core.specs.Users.{same_user}
 use Rattle.base_core.specs.declared.name.Name.{Name}
 use Rattle.base_core.specs.declared.name.User.{User}
-use Rattle.tables_core.specs.Contents.{Contents, table_of}
+use Rattle.tables_core.specs.Contents.{Table, table_of}
 use Rattle.capture_core.specs.Image.{table_image}
 
 -- an image has the names of the tables
-pub has-table_image : (tables : List (Name × Contents)) (name : Name)
+pub has-table_image : (tables : List (Name × Table)) (name : Name)
     → list_any (λ t. same_name name t.name) (map table_image tables) ≡ is_some (table_of tables name)
 has-table_image [] name = refl
 has-table_image (t ∷ ts) name = by (same_name name t.0) (has-table_image ts name)
@@ -21,7 +21,7 @@ has-table_image (t ∷ ts) name = by (same_name name t.0) (has-table_image ts na
     by false rest = rest
 
 -- and their owners
-pub owns-table_image : (tables : List (Name × Contents)) (name : Name) (user : User)
+pub owns-table_image : (tables : List (Name × Table)) (name : Name) (user : User)
     → option_map_or (λ t. same_user t.owner user) (find (λ t. same_name name t.name) (map table_image tables)) false
     ≡ option_map_or (λ t. same_user t.owner user) (table_of tables name) false
 owns-table_image [] name user = refl

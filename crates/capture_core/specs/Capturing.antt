@@ -7,8 +7,8 @@ use Rattle.base_core.specs.declared.value.Row.{Row}
 use Rattle.base_core.specs.declared.lack.Lack.{Lack}
 use Rattle.base_core.specs.declared.lack.Lack.TheVariants.{Full, Busy}
 use Rattle.base_core.specs.declared.lack.What.TheVariants.{Checkpoints}
-use Rattle.tables_core.specs.Contents.{Contents, Database}
-use Rattle.grants_core.specs.Content.{Content}
+use Rattle.tables_core.specs.Contents.{Table, Database}
+use Rattle.grants_core.specs.Content.{Rights}
 use Rattle.grants_core.specs.declared.grant.Grant.{Grant}
 use Rattle.capture_core.specs.declared.image.Image.{Image}
 use Rattle.capture_core.specs.declared.progress.Progress.{Progress}
@@ -67,7 +67,7 @@ begin_lack c limit =
     else (if nat_le limit c.begun then Some (Full Checkpoints) else None)
 
 -- a checkpoint of these tables and rights, with no record taken yet
-abbrev pub newly_begun : ℕ → Moment → List (Name × Contents) → Content → InProgress
+abbrev pub newly_begun : ℕ → Moment → List (Name × Table) → Rights → InProgress
 newly_begun number point tables rights =
     record { left = records tables rights; coming = image number point tables rights }
 

@@ -6,7 +6,7 @@ use Rattle.base_core.specs.declared.name.Name.{Name}
 use Rattle.base_core.specs.declared.name.User.{User}
 use Rattle.base_core.specs.declared.value.Row.{Row}
 use Rattle.base_core.specs.declared.value.Column.{Column}
-use Rattle.tables_core.specs.Contents.{Contents}
+use Rattle.tables_core.specs.Contents.{Table}
 use Rattle.capture_core.specs.declared.image.TableImage.{TableImage}
 
 -- a table but for its rows
@@ -15,11 +15,11 @@ pub record Head : Type 0 where
   pub owner : User
   pub columns : List Column
 
-abbrev pub head : Name × Contents → Head
+abbrev pub head : Name × Table → Head
 head t = record { name = t.0; owner = t.1.owner; columns = t.1.columns }
 
 -- the heads of the first tables, so many
-abbrev pub heads : ℕ → List (Name × Contents) → List Head
+abbrev pub heads : ℕ → List (Name × Table) → List Head
 heads count tables = take count (map head tables)
 
 -- the image of the table of this head, with these rows

@@ -11,14 +11,14 @@ use Rattle.base_core.specs.declared.privilege.Atom.{Atom}
 use Rattle.base_core.specs.declared.value.Column.{Column}
 use Rattle.base_core.specs.Privileges.{to_select}
 use Rattle.base_core.specs.declared.value.Moment.{Moment}
-use Rattle.tables_core.specs.Contents.{Contents}
-use Rattle.grants_core.specs.Content.{Content, gives}
+use Rattle.tables_core.specs.Contents.{Table}
+use Rattle.grants_core.specs.Content.{Rights, gives}
 use Rattle.grants_core.specs.declared.grant.Grant.{Grant}
 use Rattle.capture_core.specs.declared.image.Image.{Image}
 use Rattle.capture_core.specs.declared.image.TableImage.{TableImage}
 
 -- a table as it is: its name, owner and columns, and its rows in order
-abbrev pub table_image : Name × Contents → TableImage
+abbrev pub table_image : Name × Table → TableImage
 table_image t =
     record {
       name = t.0;
@@ -29,7 +29,7 @@ table_image t =
 
 -- Cao et al. 2011: the state at the point of consistency. All tables in order of creation, and the
 -- grants in force.
-abbrev pub image : ℕ → Moment → List (Name × Contents) → Content → Image
+abbrev pub image : ℕ → Moment → List (Name × Table) → Rights → Image
 image number point tables rights =
     record {
       number = number;
@@ -39,12 +39,12 @@ image number point tables rights =
     }
 
 -- how many rows the tables have, all together
-abbrev pub row_total : List (Name × Contents) → ℕ
+abbrev pub row_total : List (Name × Table) → ℕ
 row_total tables = sum_by (λ t. length t.1.rows) tables
 
 -- how many records a checkpoint of them has: one for each row and each grant in force, and never
 -- none
-abbrev pub records : List (Name × Contents) → Content → ℕ
+abbrev pub records : List (Name × Table) → Rights → ℕ
 records tables rights = max (row_total tables + length rights.in_force) 1
 
 -- whether a table of this name stands in the image

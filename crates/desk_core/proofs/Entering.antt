@@ -17,7 +17,8 @@ use Rattle.system_core.specs.Step.{Step, Advances, GivesUp}
 use Rattle.system_core.specs.World.{World, ActiveCheckpoint, entry}
 use Rattle.system_core.proofs.Entered.{step_enters}
 use Rattle.journal_core.specs.Keeping.{KeepsAll}
-use Rattle.desk_core.specs.Saying.{IsSpelled, is_done}
+use Rattle.desk_core.specs.Saying.{IsSpelledEvent}
+use Rattle.system_core.specs.Replies.{is_done}
 use Rattle.desk_core.specs.Guarded.{Origin}
 use Rattle.desk_core.specs.Kept.{KeepsEntered, kept, lost, past, HasKept}
 
@@ -70,7 +71,7 @@ first_or e [] = e
 first_or e (x ∷ xs) = x
 
 -- what is entered is spelled by some line
-pub entered_spelled : (event : Event) (reply : Reply) (e : Entry) → is_done reply ≡ true → IsSpelled event → entered event reply ≡ e ∷ [] → (line : List ℕ) × Spells line e.statement
+pub entered_spelled : (event : Event) (reply : Reply) (e : Entry) → is_done reply ≡ true → IsSpelledEvent event → entered event reply ≡ e ∷ [] → (line : List ℕ) × Spells line e.statement
 unfolding first_or
 entered_spelled (events.Say pass user asked) (replies.Done at) e d s is = (s.0, subst (λ (x : Entry). Spells s.0 x.statement) (ap (first_or e) is) s.1)
 entered_spelled events.Step reply e d s is = absurd (let long : length (entered events.Step reply) ≡ 1 = ap length is in omega arith)

@@ -20,7 +20,7 @@ use Rattle.system_core.specs.Step.{Step}
 use Rattle.system_core.specs.World.{World, IsLawfulWorld}
 use Rattle.system_core.proofs.Entered.{step_enters}
 use Rattle.journal_core.specs.Keeping.{KeepsAll}
-use Rattle.desk_core.specs.Guarded.{Origin, Guarded, Spoken, DeskLock, DeskPass, origin_of, snapshot}
+use Rattle.desk_core.specs.Guarded.{Origin, CoreState, AnswerState, DeskLock, DeskPass, origin_of, snapshot}
 use Rattle.desk_core.specs.Kept.{KeepsEntered, HasKept, IsKept}
 use Rattle.desk_core.specs.Acting.{event_of, basis, Acts}
 use Rattle.desk_core.specs.Turns.{asked_by, journal_of, begun_of, basis_of, Took, Answered, took, Ended}
@@ -46,8 +46,8 @@ module _ {K : Type 0} (keeps fails : K → Entry → K → Type 0) (failed : K �
     keeps_on keeps fails failed origin old.journal (entered event reply) new.journal k k' told low m.journal had keeping,
   )
 
-  module _ (desk : DeskLock K) (ask : Ask) (answer : Spoken) (old new : DeskPass K)
-      (t : Turned {O = Guarded K} (λ c. c.world.journal) asked_by (λ c. c.world.begun) basis (Acts keeps fails failed) desk ask answer old new) where
+  module _ (desk : DeskLock K) (ask : Ask) (answer : AnswerState) (old new : DeskPass K)
+      (t : Turned {O = CoreState K} (λ c. c.world.journal) asked_by (λ c. c.world.begun) basis (Acts keeps fails failed) desk ask answer old new) where
     pub turn_taken : (old.drawn < new.drawn) × (new.drawn ≤ 2 ^ 62) → new.turns ≡ old.turns + 1 → Took desk ask answer.reply old new
     turn_taken drawn counted =
         let m = step_enters t.before.world t.after.world (event_of old.number ask) answer.reply t.acted.step in
@@ -80,15 +80,15 @@ module _ {K : Type 0} (keeps fails : K → Entry → K → Type 0) (failed : K �
         }
 
   -- the core that comes out of the turn lock
-  pub closed_ended : (desk : DeskLock K) (passes : List (DeskPass K)) (core : Guarded K) (w : World) → core.world ≡ w → IsLawfulWorld w → IsFull w.limits
-      → Closed {O = Guarded K} (λ c. c.world.journal) asked_by (λ c. c.world.begun) basis desk passes core → Ended desk passes w
+  pub closed_ended : (desk : DeskLock K) (passes : List (DeskPass K)) (core : CoreState K) (w : World) → core.world ≡ w → IsLawfulWorld w → IsFull w.limits
+      → Closed {O = CoreState K} (λ c. c.world.journal) asked_by (λ c. c.world.begun) basis desk passes core → Ended desk passes w
   closed_ended desk passes core w is lawful full c = record {
     lawful = lawful;
     full = full;
     closed = subst (Closed journal_of asked_by begun_of (basis_of (origin_of desk)) desk passes) is record {
       fixed_is = ap (λ (s : Snapshot (Origin K)). snapshot (record (origin_of desk) { chunk = s.value.chunk })) c.fixed_is;
       bears = c.bears;
-      kept = All-weaker (Kept {O = Guarded K} (λ c. c.world.journal) asked_by (λ c. c.world.begun) core) (Kept journal_of asked_by begun_of core.world)
+      kept = All-weaker (Kept {O = CoreState K} (λ c. c.world.journal) asked_by (λ c. c.world.begun) core) (Kept journal_of asked_by begun_of core.world)
           (λ p k. record { seen = k.seen; made = k.made; marked = k.marked }) passes c.kept;
       drawn = c.drawn;
       bound = c.bound;

@@ -13,7 +13,7 @@ use Rattle.system_core.specs.Entering.{entered}
 use Rattle.system_core.specs.World.{IsLawfulWorld}
 use Rattle.system_core.specs.Step.{Step}
 use Rattle.system_core.proofs.Entered.{step_enters, one_at_most}
-use Rattle.desk_core.specs.Guarded.{Origin, snapshot, Guarded, Spoken}
+use Rattle.desk_core.specs.Guarded.{Origin, snapshot, CoreState, AnswerState}
 use Rattle.desk_core.specs.Kept.{KeepsEntered, HasKept}
 
 -- what is asked through a pass, as an event
@@ -23,13 +23,14 @@ event_of pass asks.Step = events.Step
 event_of pass asks.Abandon = events.Abandon
 
 -- what no act changes: what the desk was built on, whose chunk the core still has
-abbrev pub basis : {K : Type 0} → Guarded K → Snapshot (Origin K)
+abbrev pub basis : {K : Type 0} → CoreState K → Snapshot (Origin K)
 basis c = snapshot (record c.origin { chunk = c.world.chunk })
 
 module _ {K : Type 0} (keeps fails : K → Entry → K → Type 0) (failed : K → Bool) where
   -- A step of the machine from a lawful world with full limits, asked through a pass. What it entered
   -- is kept before the reply may be told.
-  pub record Acts (old : Guarded K) (pass : ℕ) (ask : Ask) (answer : Spoken) (new : Guarded K)
+  pub record Acts
+      (old : CoreState K) (pass : ℕ) (ask : Ask) (answer : AnswerState) (new : CoreState K)
       : Type 0 where
     pub lawful : IsLawfulWorld old.world
     pub full : IsFull old.world.limits
@@ -42,9 +43,10 @@ module _ {K : Type 0} (keeps fails : K → Entry → K → Type 0) (failed : K �
     pub has_kept : HasKept keeps failed new.origin new.world.journal new.keeper
 
   -- it enters one entry of the pass at most, no checkpoint is unbegun, and the basis stays
-  pub acts_grow : (old : Guarded K) (pass : ℕ) (ask : Ask) (answer : Spoken) (new : Guarded K)
+  pub acts_grow :
+      (old : CoreState K) (pass : ℕ) (ask : Ask) (answer : AnswerState) (new : CoreState K)
       → Acts old pass ask answer new
-      → Grown {O = Guarded K} (λ c. c.world.journal) (λ (e : Entry). e.pass) (λ c. c.world.begun)
+      → Grown {O = CoreState K} (λ c. c.world.journal) (λ (e : Entry). e.pass) (λ c. c.world.begun)
       basis pass old new
   acts_grow old pass (asks.Say said) answer new h =
       let m =

@@ -1,7 +1,7 @@
 -- What contracts see of the core as threads share it, of its answer, and of a desk with its passes.
 use Rattle.std.specs.Prelude.{ℕ, Bool}
 use Rattle.std.specs.declared.snapshot.Snapshot.{Snapshot}
-use Rattle.turnstile.specs.Passes.{Lock, Held, Told}
+use Rattle.turnstile.specs.Passes.{TurnstileState, PassState, Told}
 use Rattle.system_core.specs.World.{World}
 use Rattle.system_core.specs.declared.machine.event.Entry.{Entry}
 use Rattle.system_core.specs.declared.machine.event.Reply.{Reply}
@@ -14,13 +14,13 @@ pub record Origin (K : Type 0) : Type 0 where
   pub keeper : K
 
 -- A world, what its desk was built on, and the keeper of its changes as it is now.
-pub record Guarded (K : Type 0) : Type 0 where
+pub record CoreState (K : Type 0) : Type 0 where
   pub world : World
   pub origin : Origin K
   pub keeper : K
 
 -- a reply, and whether it may be told
-pub record Spoken : Type 0 where
+pub record AnswerState : Type 0 where
   pub reply : Reply
   pub told : Bool
 
@@ -29,11 +29,11 @@ snapshot x = record { marker = record {}; value = x }
 
 -- a turn lock round a core, whose fixed part is what it was built on
 abbrev pub DeskLock : Type 0 → Type 0
-DeskLock K = Lock (Snapshot (Origin K))
+DeskLock K = TurnstileState (Snapshot (Origin K))
 
 -- a pass of a desk, and a note
 abbrev pub DeskPass : Type 0 → Type 0
-DeskPass K = Held Entry (Snapshot (Origin K))
+DeskPass K = PassState Entry (Snapshot (Origin K))
 
 abbrev pub DeskNote : Type 0 → Type 0
 DeskNote K = Told Entry (Snapshot (Origin K))

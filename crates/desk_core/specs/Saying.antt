@@ -14,11 +14,7 @@ pub record Saying : Type 0 where
   pub statement : Statement
 
 -- some line spells the statement that is said
-abbrev pub IsSpelled : Event → Type 0
-IsSpelled (events.Say pass user asked) = (line : List ℕ) × Spells line asked
-IsSpelled _ = Unit {0}
+abbrev pub IsSpelledEvent : Event → Type 0
+IsSpelledEvent (events.Say pass user asked) = (line : List ℕ) × Spells line asked
+IsSpelledEvent _ = Unit {0}
 
--- a change was done
-abbrev pub is_done : Reply → Bool
-is_done (replies.Done at) = true
-is_done _ = false

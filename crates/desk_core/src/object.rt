@@ -9,7 +9,7 @@ ghost use Rattle.system_core.specs.World.{World};
 ghost use Rattle.desk_core.specs.Acting.{event_of};
 ghost use Rattle.system_core.specs.declared.machine.event.Event.{Event};
 ghost use Rattle.desk_core.specs.Kept.{KeepsEntered};
-ghost use Rattle.desk_core.specs.Saying.{IsSpelled, is_done};
+ghost use Rattle.desk_core.specs.Saying.{IsSpelledEvent};
 
 use base_core::{Broken, NoMemory, User};
 use journal_core::{Keeper, keep_last};
@@ -40,6 +40,7 @@ impl Model for Said {
 }
 
 impl Said {
+    /// What the user says. Some line has to spell it.
     pub fn new(user: User, statement: Statement) -> Said
         requires spelled { (line : List ℕ) × Spells line statement }
         ensures { result ≡ record { user = user; statement = statement } }
@@ -62,7 +63,7 @@ impl Ask {
     /// What is asked, as an event of the pass of this number.
     fn event(self, pass: u64) -> Event
         ensures event { result ≡ event_of pass self }
-        ensures spelled { IsSpelled result }
+        ensures spelled { IsSpelledEvent result }
     {
         match self {
             Ask::Say(said) => {
@@ -93,9 +94,9 @@ pub struct Answer {
 }
 
 impl Model for Answer {
-    ghost use Rattle.desk_core.specs.Guarded.{Spoken};
+    ghost use Rattle.desk_core.specs.Guarded.{AnswerState};
 
-    ghost Value = { Spoken };
+    ghost Value = { AnswerState };
 
     ghost view = { λ a. record { reply = a.reply; told = a.told } };
 }
@@ -145,10 +146,10 @@ pub struct Core<K: Keeper> {
 impl<K: Keeper> Model for Core<K> {
     ghost use Rattle.std.specs.Prelude.{◌≡◌, ◌≤◌, length};
     ghost use Rattle.base_core.specs.Full.{IsFull};
-    ghost use Rattle.desk_core.specs.Guarded.{Guarded};
+    ghost use Rattle.desk_core.specs.Guarded.{CoreState};
     ghost use Rattle.desk_core.specs.Kept.{HasKept};
 
-    ghost Value = { Guarded K };
+    ghost Value = { CoreState K };
 
     ghost view = { λ c. record {
       world = c.system.value;
@@ -188,26 +189,17 @@ impl<K: Keeper + Drop> Core<K> {
     }
 }
 
-fn is_done(reply: &Reply) -> bool
-    ensures { result ≡ is_done reply.now }
-{
-    match reply {
-        Reply::Done { .. } => true,
-        _ => false,
-    }
-}
-
 /// Keeps what a step entered, by its reply, and says whether the reply may be told.
 fn keep_entered<K: Keeper>(system: &System, keeper: &mut K, reply: &Reply) -> bool
     requires stepped { (old : World) × (event : Event)
-        × Step old event reply.now system.now × IsSpelled event }
+        × Step old event reply.now system.now × IsSpelledEvent event }
     ensures { (old : World) (event : Event) → Step old event reply.now system.now
         → KeepsEntered K.keeps K.fails K.failed keeper.old (entered event reply.now) result keeper.new }
 {
     if keeper.has_failed() {
         return false;
     }
-    if is_done(reply) {
+    if reply.is_done() {
         return keep_last(system, keeper).is_ok();
     }
     true

@@ -24,21 +24,21 @@ use Rattle.reader_core.specs.declared.statement.Statement.{Statement}
 use Rattle.reader_core.specs.declared.statement.Statement.TheVariants as statements
 use Rattle.reader_core.specs.Forming.{AreNamed, IsSelection, IsWellFormedPrivilege, IsWellFormed}
 use Rattle.reader_core.specs.Privileges.{same_word, are_different}
-use Rattle.tables_core.specs.Contents.{Contents, empty_table, with_row, without_chosen_rows, with_updated_rows, table_of}
+use Rattle.tables_core.specs.Contents.{Table, empty_table, with_row, without_chosen_rows, with_updated_rows, table_of}
 use Rattle.tables_core.specs.Fitting.{ColumnsDiffer}
 use Rattle.tables_core.proofs.ContentsLemmas.{table_of-append}
 use Rattle.grants_core.specs.declared.grant.Grant.{Grant}
 use Rattle.grants_core.specs.declared.grant.Change.{Change}
 use Rattle.grants_core.specs.declared.grant.Change.TheVariants as change
 use Rattle.grants_core.specs.Valid.{valid, IsPart, nothing, with_first, without_first}
-use Rattle.grants_core.specs.Content.{Content, count_of, to_each, singles, names, without, option_off, options_off}
+use Rattle.grants_core.specs.Content.{Rights, count_of, to_each, singles, names, without, option_off, options_off}
 use Rattle.grants_core.specs.History.{grants_of}
 use Rattle.grants_core.proofs.ValidLemmas.{valid-part}
 use Rattle.monitor_core.specs.Atoms.{columns_given, atoms_of_one, atoms_of}
 use Rattle.monitor_core.specs.Verdict.{State, checks, verdict, columns_of, atoms_at, has_room, room_for_grants}
 use Rattle.monitor_core.proofs.Passing.{require-Ok, passed, each-Ok}
 use Rattle.system_core.specs.declared.machine.event.Entry.{Entry}
-use Rattle.system_core.specs.Journal.{contents, tables_after, change_of, rights_at, state_of, verdict_at, IsLawful}
+use Rattle.system_core.specs.Journal.{tables_at, tables_after, change_of, rights_at, state_of, verdict_at, IsLawful}
 use Rattle.system_core.specs.Carrying.{rights_after}
 use Rattle.system_core.proofs.TableLemmas.{IsNew, changed}
 use Rattle.system_core.proofs.Keeping.{new, contents-more}
@@ -238,7 +238,7 @@ count-part atom _ _ (with_first {g = g} {xs = xs} {ys = ys} rest) =
 count-part atom part _ (without_first {g = g} {ys = ys} rest) =
     omega (arith, count-cons (λ (h : Grant). same_atom h.atom atom) g ys, count-part atom part ys rest)
 
-few-after : (c : Content) (m : ℕ) (ch : Change) (atom : Atom) (n : ℕ) → count_of c.in_force atom + count_of (grants_of c.made (m + 1) ch) atom ≤ n → count_of (rights_after c m ch).in_force atom ≤ n
+few-after : (c : Rights) (m : ℕ) (ch : Change) (atom : Atom) (n : ℕ) → count_of c.in_force atom + count_of (grants_of c.made (m + 1) ch) atom ≤ n → count_of (rights_after c m ch).in_force atom ≤ n
 few-after c m (change.Create table owner) atom n h = omega (arith, h)
 few-after c m (change.Grant by atoms whom option) atom n h = omega (arith, h, sum_by-append (λ (g : Grant). cond (same_atom g.atom atom) 1 0) c.in_force (singles c.made (record { 0 = m + 1 }) by atoms whom option))
 few-after c m (change.Revoke by atoms whom) atom n h =
@@ -251,19 +251,19 @@ few-after c m (change.RevokeOption by atoms whom) atom n h =
 few-after c m change.Other atom n h = omega (arith, h)
 
 -- ---- columns stay as a statement may have them
-abbrev pub IsFormed : Option Contents → Type 0
+abbrev pub IsFormed : Option Table → Type 0
 IsFormed None = Unit {0}
 IsFormed (Some t) = AreNamed 32 (λ c. c.name) t.columns
 
-formed-differ : (o : Option Contents) → IsFormed o → ColumnsDiffer (option_map_or (λ t. t.columns) o [])
+formed-differ : (o : Option Table) → IsFormed o → ColumnsDiffer (option_map_or (λ t. t.columns) o [])
 formed-differ None h = refl
 formed-differ (Some t) h = h.1
 
-formed-kept : (f : Contents → Contents) → ((t : Contents) → (f t).columns ≡ t.columns) → (o : Option Contents) → IsFormed o → IsFormed (option_map f o)
+formed-kept : (f : Table → Table) → ((t : Table) → (f t).columns ≡ t.columns) → (o : Option Table) → IsFormed o → IsFormed (option_map f o)
 formed-kept f same None h = h
 formed-kept f same (Some t) h = let P : List Column → Type 0 = AreNamed 32 (λ c. c.name) in subst P (sym (same t)) h
 
-formed-after : (tables : List (Name × Contents)) (user : User) (s : Statement) (name : Name) → IsWellFormed s → IsNew tables s → IsFormed (table_of tables name) → IsFormed (table_of (tables_after tables user s) name)
+formed-after : (tables : List (Name × Table)) (user : User) (s : Statement) (name : Name) → IsWellFormed s → IsNew tables s → IsFormed (table_of tables name) → IsFormed (table_of (tables_after tables user s) name)
 formed-after tables user (statements.CreateTable table columns) name form fresh h =
     subst IsFormed (sym (table_of-append tables table name (empty_table user columns) fresh))
     (elim (same_name table name) as (λ b. IsFormed (cond b (Some (empty_table user columns)) (table_of tables name))) [ true ↦ form | false ↦ h ])
@@ -274,21 +274,21 @@ formed-after tables user _ name form fresh h = h
 
 -- ---- all together
 pub record IsWithin (l : Limits) (journal : List Entry) : Type 0 where
-  pub formed : (name : Name) → IsFormed (table_of (contents journal) name)
+  pub formed : (name : Name) → IsFormed (table_of (tables_at journal) name)
   pub few : (atom : Atom) → count_of (rights_at journal).in_force atom ≤ l.grants
 
 within-more : (l : Limits) (journal : List Entry) (e : Entry) → IsLawful l journal → IsWithin l journal → IsWellFormed e.statement → verdict_at l journal e.user e.statement ≡ Ok tt → IsWithin l (journal ++ e ∷ [])
 within-more l journal e lawful h form ok =
     let at : State = state_of l journal in
-    let ch : Change = change_of (contents journal) e.user e.statement in
+    let ch : Change = change_of (tables_at journal) e.user e.statement in
     let rights = rights-more l journal e.user e.statement (known l journal lawful).on ok e.pass in
     record {
       formed = λ name.
-          let P : List (Name × Contents) → Type 0 = λ ts. IsFormed (table_of ts name) in
-          subst P (sym (contents-more journal e)) (formed-after (contents journal) e.user e.statement name form (new at e.user e.statement ok) (h.formed name));
+          let P : List (Name × Table) → Type 0 = λ ts. IsFormed (table_of ts name) in
+          subst P (sym (contents-more journal e)) (formed-after (tables_at journal) e.user e.statement name form (new at e.user e.statement ok) (h.formed name));
       few = λ atom.
-          let Q : Content → Type 0 = λ c. count_of c.in_force atom ≤ l.grants in
-          subst Q (sym rights) (few-after (rights_at journal) (length journal) ch atom l.grants (new-few at (rights_at journal).made (length journal + 1) e.user e.statement form (λ name. formed-differ (table_of (contents journal) name) (h.formed name)) ok atom (h.few atom)));
+          let Q : Rights → Type 0 = λ c. count_of c.in_force atom ≤ l.grants in
+          subst Q (sym rights) (few-after (rights_at journal) (length journal) ch atom l.grants (new-few at (rights_at journal).made (length journal + 1) e.user e.statement form (λ name. formed-differ (table_of (tables_at journal) name) (h.formed name)) ok atom (h.few atom)));
     }
 
 -- **no more than the limit**

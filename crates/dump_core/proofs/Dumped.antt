@@ -10,7 +10,7 @@ use Rattle.base_core.specs.declared.limits.Limits.{Limits}
 use Rattle.base_core.specs.declared.value.Column.{Column}
 use Rattle.base_core.specs.declared.value.Row.{Row}
 use Rattle.base_core.specs.declared.privilege.Atom.{Atom}
-use Rattle.tables_core.specs.Contents.{Contents, with_row, all_rows}
+use Rattle.tables_core.specs.Contents.{Table, with_row, all_rows}
 use Rattle.tables_core.specs.Fitting.{RowsFit}
 use Rattle.grants_core.specs.declared.grant.Grant.{Grant}
 use Rattle.grants_core.specs.History.{owners_after, left_after}
@@ -19,7 +19,7 @@ use Rattle.grants_core.proofs.ValidLemmas.{valid-supported}
 use Rattle.grants_core.proofs.GrantLemmas.{All-implied}
 use Rattle.monitor_core.specs.Atoms.{columns_listed}
 use Rattle.system_core.specs.declared.machine.event.Entry.{Entry}
-use Rattle.system_core.specs.Journal.{contents, changes, rights_at, IsLawful}
+use Rattle.system_core.specs.Journal.{tables_at, changes, rights_at, IsLawful}
 use Rattle.system_core.proofs.Agreeing.{owns-alike}
 use Rattle.system_core.proofs.Owning.{owner_in}
 use Rattle.system_core.proofs.Sound.{rows-at, names-at}
@@ -37,7 +37,7 @@ use Rattle.dump_core.proofs.Together.{grants_of_group, together-same, together-e
 use Rattle.dump_core.proofs.Granted.{granted_in}
 
 -- ---- how many statements there are
-length-insertions : (ts : List (Name × Contents)) → length (flat_map insertions ts) ≡ length (all_rows ts)
+length-insertions : (ts : List (Name × Table)) → length (flat_map insertions ts) ≡ length (all_rows ts)
 length-insertions [] = refl
 length-insertions (t ∷ ts) =
     let named : List (Name × (ℕ × Row)) = map (λ numbered. (t.0, numbered)) t.1.rows in
@@ -47,30 +47,30 @@ length-insertions (t ∷ ts) =
     omega (arith, one, other, here, length-insertions ts)
 
 -- **one for each table, each row and all grants in force that are together**
-pub length-dump : (journal : List Entry) → length (dump journal) ≡ length (contents journal) + length (all_rows (contents journal)) + length (grants_together (rights_at journal).in_force)
+pub length-dump : (journal : List Entry) → length (dump journal) ≡ length (tables_at journal) + length (all_rows (tables_at journal)) + length (grants_together (rights_at journal).in_force)
 length-dump journal =
-    let ts : List (Name × Contents) = contents journal in
+    let ts : List (Name × Table) = tables_at journal in
     let gs : List (Group (Group Grant)) = grants_together (rights_at journal).in_force in
     let all = length-append (map creation ts) (flat_map insertions ts ++ map granting gs) in
     let rest = length-append (flat_map insertions ts) (map granting gs) in
     omega (arith, all, rest, length-map ts creation, length-insertions ts, length-map gs granting)
 
 -- ---- the rows are the same once they are inserted
-inserted-plain : (t : Contents) (rows : List (ℕ × Row)) → unnumbered (inserted t rows) ≡ record t { inserted = 0; rows = plain_rows t.rows ++ plain_rows rows }
+inserted-plain : (t : Table) (rows : List (ℕ × Row)) → unnumbered (inserted t rows) ≡ record t { inserted = 0; rows = plain_rows t.rows ++ plain_rows rows }
 inserted-plain t [] = ap (λ k. record t { inserted = 0; rows = k }) (sym (append-nil (plain_rows t.rows)))
 inserted-plain t (r ∷ rs) =
     inserted-plain (with_row r.1 t) rs
     ∙ ap (λ k. record t { inserted = 0; rows = k })
     (ap (λ k. k ++ plain_rows rs) (map-append (λ n. (0, n.1)) t.rows ((t.inserted, r.1) ∷ [])) ∙ append_assoc (plain_rows t.rows) ((0, r.1) ∷ []) (plain_rows rs))
 
-filled-plain : (ts : List (Name × Contents)) → plain_tables (filled ts) ≡ plain_tables ts
+filled-plain : (ts : List (Name × Table)) → plain_tables (filled ts) ≡ plain_tables ts
 filled-plain [] = refl
 filled-plain (t ∷ ts) =
     ap (λ k. (t.0, k) ∷ plain_tables (filled ts)) (inserted-plain (record { owner = t.1.owner; columns = t.1.columns; inserted = 0; rows = [] }) t.1.rows)
     ∙ ap (λ k. (t.0, unnumbered t.1) ∷ k) (filled-plain ts)
 
 -- an atom that stands does so where the tables are the same but for their numbers
-stands-alike : (ts us : List (Name × Contents)) (e : plain_tables ts ≡ plain_tables us) (a : Atom) → AtomStands ts a → AtomStands us a
+stands-alike : (ts us : List (Name × Table)) (e : plain_tables ts ≡ plain_tables us) (a : Atom) → AtomStands ts a → AtomStands us a
 stands-alike ts us e a h = record {
   table = sym (is_table-alike ts us e a.table) ∙ h.table;
   columns =
@@ -79,13 +79,13 @@ stands-alike ts us e a h = record {
 }
 
 -- the rows of each table fit it
-pub each-fits : (ts : List (Name × Contents)) → AllByRecursion RowsFit (values_of ts) → AllByRecursion (λ t. RowsFit t.1) ts
+pub each-fits : (ts : List (Name × Table)) → AllByRecursion RowsFit (values_of ts) → AllByRecursion (λ t. RowsFit t.1) ts
 each-fits [] h = tt
 each-fits (t ∷ ts) h = (h.0, each-fits ts h.1)
 
 module _ (l : Limits) (journal : List Entry) (h : MayBeDumped l journal) where
-  abbrev ts : List (Name × Contents)
-  ts = contents journal
+  abbrev ts : List (Name × Table)
+  ts = tables_at journal
 
   abbrev grants : List Grant
   grants = (rights_at journal).in_force

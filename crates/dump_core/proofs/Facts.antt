@@ -20,14 +20,14 @@ use Rattle.reader_core.specs.declared.privilege.Privilege.{Privilege}
 use Rattle.reader_core.specs.declared.privilege.Privilege.TheVariants as privileges
 use Rattle.reader_core.specs.declared.statement.Statement.{Statement}
 use Rattle.reader_core.specs.declared.statement.Statement.TheVariants as statements
-use Rattle.tables_core.specs.Contents.{Contents, with_change, with_row, without_chosen_rows, with_updated_rows}
+use Rattle.tables_core.specs.Contents.{Table, with_change, with_row, without_chosen_rows, with_updated_rows}
 use Rattle.tables_core.proofs.ContentsLemmas.{names-with_change}
 use Rattle.grants_core.specs.declared.grant.Grant.{Grant}
 use Rattle.grants_core.specs.declared.grant.Change.{Change}
 use Rattle.grants_core.specs.declared.grant.Change.TheVariants as change
 use Rattle.grants_core.specs.Valid.{valid}
 use Rattle.grants_core.specs.Content as rights_of
-use Rattle.grants_core.specs.Content.{Content, names, without, option_off, options_off, singles, after_grant}
+use Rattle.grants_core.specs.Content.{Rights, names, without, option_off, options_off, singles, after_grant}
 use Rattle.grants_core.specs.History.{grants_of, granted, content_after, owners_after, in_force_after, left_after}
 use Rattle.grants_core.proofs.ValidLemmas.{valid-part}
 use Rattle.grants_core.proofs.GrantLemmas.{All-implied, All-valid}
@@ -39,7 +39,7 @@ use Rattle.monitor_core.specs.Verdict.{State, checks, verdict, each, column_stan
 use Rattle.monitor_core.proofs.Passing.{require-Ok, passed, each-Ok}
 use Rattle.monitor_core.proofs.Columns.{column_of_columns}
 use Rattle.system_core.specs.declared.machine.event.Entry.{Entry}
-use Rattle.system_core.specs.Journal.{contents, tables_after, change_of, changes, rights_at, state_of, verdict_at, IsLawfulFrom, IsLawful}
+use Rattle.system_core.specs.Journal.{tables_at, tables_after, change_of, changes, rights_at, state_of, verdict_at, IsLawfulFrom, IsLawful}
 use Rattle.system_core.specs.Carrying.{rights_after}
 use Rattle.system_core.proofs.TableLemmas.{IsNew, is_table-after, columns-after}
 use Rattle.system_core.proofs.Agreeing.{atoms-table, All-atoms}
@@ -76,23 +76,23 @@ may at user asked table users option ok =
     (each-Ok (holds_grant_option at user) (atoms_at at.tables table asked) (passed (checks at user (statements.Grant asked table users option)) ok).1.1.0)
 
 module _ (l : Limits) (journal : List Entry) (user : User) where
-  made : (s : Statement) → On (contents journal) (granted (changes journal)) → verdict_at l journal user s ≡ Ok tt
-      → content_after (changes journal ++ change_of (contents journal) user s ∷ []) ≡ rights_after (rights_at journal) (length journal) (change_of (contents journal) user s)
+  made : (s : Statement) → On (tables_at journal) (granted (changes journal)) → verdict_at l journal user s ≡ Ok tt
+      → content_after (changes journal ++ change_of (tables_at journal) user s ∷ []) ≡ rights_after (rights_at journal) (length journal) (change_of (tables_at journal) user s)
   made (statements.CreateTable table columns) on ok =
-      content-create (changes journal) table user (never_granted (contents journal) table (granted (changes journal)) on (ap is_some (new (state_of l journal) user (statements.CreateTable table columns) ok)))
+      content-create (changes journal) table user (never_granted (tables_at journal) table (granted (changes journal)) on (ap is_some (new (state_of l journal) user (statements.CreateTable table columns) ok)))
   made (statements.Grant asked table users option) on ok =
       let at : State = state_of l journal in
-      let atoms : List Atom = atoms_at (contents journal) table asked in
+      let atoms : List Atom = atoms_at (tables_at journal) table asked in
       let May : Atom → Type 0 = λ atom. rights_of.may_grant at.rights.owners at.rights.in_force user atom ≡ true in
       let count : 1 + length (changes journal) ≡ length journal + 1 = omega (arith, length-changes journal) in
       content-grant (changes journal) user atoms users option (All-from_recursion May atoms (may at user asked table users option ok))
       ∙ ap (λ m. after_grant (rights_at journal) user atoms users option (record { 0 = m })) count
-  made (statements.Revoke asked table users) on ok = content-revoke (changes journal) user (atoms_at (contents journal) table asked) users
-  made (statements.RevokeOption asked table users) on ok = content-revoke_option (changes journal) user (atoms_at (contents journal) table asked) users
+  made (statements.Revoke asked table users) on ok = content-revoke (changes journal) user (atoms_at (tables_at journal) table asked) users
+  made (statements.RevokeOption asked table users) on ok = content-revoke_option (changes journal) user (atoms_at (tables_at journal) table asked) users
   made _ on ok = content-other (changes journal)
 
-  pub rights-more : (s : Statement) → On (contents journal) (granted (changes journal)) → verdict_at l journal user s ≡ Ok tt → (p : ℕ)
-      → rights_at (journal ++ record { pass = p; user = user; statement = s } ∷ []) ≡ rights_after (rights_at journal) (length journal) (change_of (contents journal) user s)
+  pub rights-more : (s : Statement) → On (tables_at journal) (granted (changes journal)) → verdict_at l journal user s ≡ Ok tt → (p : ℕ)
+      → rights_at (journal ++ record { pass = p; user = user; statement = s } ∷ []) ≡ rights_after (rights_at journal) (length journal) (change_of (tables_at journal) user s)
   rights-more s on ok p = ap content_after (changes-more journal (record { pass = p; user = user; statement = s })) ∙ made s on ok
 
 -- all in force are earlier
@@ -103,7 +103,7 @@ early journal =
     (All-valid (λ g. g.moment.0 < 1 + length cs) (owners_after cs) (left_after cs) (left-early cs))
 
 -- ---- what holds of all grants in force, after a change
-pub all-after : (P : Grant → Type 0) (c : Content) (m : ℕ) (ch : Change) → ((test : Grant → Bool) (g : Grant) → P g → P (option_off test g)) → AllByRecursion P c.in_force → AllByRecursion P (grants_of c.made (m + 1) ch) → AllByRecursion P (rights_after c m ch).in_force
+pub all-after : (P : Grant → Type 0) (c : Rights) (m : ℕ) (ch : Change) → ((test : Grant → Bool) (g : Grant) → P g → P (option_off test g)) → AllByRecursion P c.in_force → AllByRecursion P (grants_of c.made (m + 1) ch) → AllByRecursion P (rights_after c m ch).in_force
 all-after P c m (change.Create table owner) off h fresh = h
 all-after P c m (change.Grant by atoms whom option) off h fresh = AllByRecursion-append P c.in_force (singles c.made (record { 0 = m + 1 }) by atoms whom option) h fresh
 all-after P c m (change.Revoke by atoms whom) off h fresh =
@@ -118,7 +118,7 @@ all_units : {A : Type 0} (xs : List A) → AllByRecursion (λ _. Unit {0}) xs
 all_units [] = tt
 all_units (x ∷ xs) = (tt, all_units xs)
 
-turn-after : (c : Content) (m : ℕ) (ch : Change) → AreInTurn c.in_force → AllByRecursion (λ g. g.moment.0 < m + 1) c.in_force → AreInTurn (rights_after c m ch).in_force
+turn-after : (c : Rights) (m : ℕ) (ch : Change) → AreInTurn c.in_force → AllByRecursion (λ g. g.moment.0 < m + 1) c.in_force → AreInTurn (rights_after c m ch).in_force
 turn-after c m (change.Create table owner) t e = t
 turn-after c m (change.Grant by atoms whom option) t e =
     let at : Moment = record { 0 = m + 1 } in
@@ -154,7 +154,7 @@ found-some (x ∷ xs) name h =
     ∙ ap is_some (slice_get-get_or (x ∷ xs) (position_or_len p (x ∷ xs)) x lt)
 
 -- the columns that an atom names, of which there is one at most, are the table's
-pub record AtomStands (tables : List (Name × Contents)) (a : Atom) : Type 0 where
+pub record AtomStands (tables : List (Name × Table)) (a : Atom) : Type 0 where
   pub table : is_table tables a.table ≡ true
   pub columns : AllByRecursion (λ name. is_some (found (columns_of tables a.table) name) ≡ true) (columns_listed (privilege_of a.kind))
 
@@ -166,7 +166,7 @@ given : (columns : List Column) (list : Option (List Name)) → AllByRecursion (
 given columns None h = own columns columns (λ name k. k)
 given columns (Some names) h = h
 
-module _ (tables : List (Name × Contents)) (table : Name) (here : is_table tables table ≡ true) where
+module _ (tables : List (Name × Table)) (table : Name) (here : is_table tables table ≡ true) where
   named : (f : Name → Atom) → ((name : Name) → is_some (found (columns_of tables table) name) ≡ true → AtomStands tables (f name)) → (list : List Name) → AllByRecursion (λ name. is_some (found (columns_of tables table) name) ≡ true) list → AllByRecursion (AtomStands tables) (map f list)
   named f g [] h = tt
   named f g (name ∷ list) h = (g name h.0, named f g list h.1)
@@ -199,7 +199,7 @@ new-stand at n m user (statements.Grant asked table users option) ok =
 new-stand at n m user _ ok = tt
 
 -- and they stand from then on
-still : (tables : List (Name × Contents)) (user : User) (s : Statement) → IsNew tables s → (a : Atom) → AtomStands tables a → AtomStands (tables_after tables user s) a
+still : (tables : List (Name × Table)) (user : User) (s : Statement) → IsNew tables s → (a : Atom) → AtomStands tables a → AtomStands (tables_after tables user s) a
 still tables user s fresh a h = record {
   table = is_table-after tables user s a.table fresh h.table;
   columns =
@@ -208,7 +208,7 @@ still tables user s fresh a h = record {
 }
 
 -- ---- tables are few
-length-with_change : (table : Name) (f : Contents → Contents) (tables : List (Name × Contents)) → length (with_change table f tables) ≡ length tables
+length-with_change : (table : Name) (f : Table → Table) (tables : List (Name × Table)) → length (with_change table f tables) ≡ length tables
 length-with_change table f tables = sym (length-map (with_change table f tables) (λ e. e.0)) ∙ ap length (names-with_change tables table f) ∙ length-map tables (λ e. e.0)
 
 few-after : (at : State) (user : User) (s : Statement) → verdict at user s ≡ Ok tt → length at.tables ≤ at.limits.tables → length (tables_after at.tables user s) ≤ at.limits.tables
@@ -223,26 +223,26 @@ few-after at user _ ok h = h
 
 -- ---- all together
 pub record IsKnown (l : Limits) (journal : List Entry) : Type 0 where
-  pub on : On (contents journal) (granted (changes journal))
+  pub on : On (tables_at journal) (granted (changes journal))
   pub turn : AreInTurn (rights_at journal).in_force
-  pub stand : AllByRecursion (λ g. AtomStands (contents journal) g.atom) (rights_at journal).in_force
-  pub few : length (contents journal) ≤ l.tables
+  pub stand : AllByRecursion (λ g. AtomStands (tables_at journal) g.atom) (rights_at journal).in_force
+  pub few : length (tables_at journal) ≤ l.tables
 
 pub known-more : (l : Limits) (journal : List Entry) (e : Entry) → IsKnown l journal → verdict_at l journal e.user e.statement ≡ Ok tt → IsKnown l (journal ++ e ∷ [])
 known-more l journal e h ok =
     let at : State = state_of l journal in
-    let ts : List (Name × Contents) = contents journal in
-    let after : List (Name × Contents) = tables_after ts e.user e.statement in
+    let ts : List (Name × Table) = tables_at journal in
+    let after : List (Name × Table) = tables_after ts e.user e.statement in
     let ch : Change = change_of ts e.user e.statement in
-    let c : Content = rights_at journal in
+    let c : Rights = rights_at journal in
     let m : ℕ = length journal in
     let fresh = new at e.user e.statement ok in
-    let tables : contents (journal ++ e ∷ []) ≡ after = contents-more journal e in
+    let tables : tables_at (journal ++ e ∷ []) ≡ after = contents-more journal e in
     let rights : rights_at (journal ++ e ∷ []) ≡ rights_after c m ch = rights-more l journal e.user e.statement h.on ok e.pass in
-    let OnAll : List (Name × Contents) → List Change → Type 0 = λ k cs. On k (granted cs) in
-    let Turn : Content → Type 0 = λ k. AreInTurn k.in_force in
-    let StandAll : List (Name × Contents) → Content → Type 0 = λ k d. AllByRecursion (λ g. AtomStands k g.atom) d.in_force in
-    let Few : List (Name × Contents) → Type 0 = λ k. length k ≤ l.tables in
+    let OnAll : List (Name × Table) → List Change → Type 0 = λ k cs. On k (granted cs) in
+    let Turn : Rights → Type 0 = λ k. AreInTurn k.in_force in
+    let StandAll : List (Name × Table) → Rights → Type 0 = λ k d. AllByRecursion (λ g. AtomStands k g.atom) d.in_force in
+    let Few : List (Name × Table) → Type 0 = λ k. length k ≤ l.tables in
     record {
       on = subst (λ k. OnAll k (changes (journal ++ e ∷ []))) (sym tables) (subst (λ cs. OnAll after cs) (sym (changes-more journal e))
           (granted_on ts after (changes journal) ch h.on (on_tables at e.user e.statement ok) (λ name here. is_table-after ts e.user e.statement name fresh here)));

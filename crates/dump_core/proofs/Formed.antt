@@ -9,12 +9,12 @@ use Rattle.base_core.specs.declared.limits.Limits.{Limits}
 use Rattle.base_core.specs.declared.value.Column.{Column}
 use Rattle.base_core.specs.declared.value.Row.{Row}
 use Rattle.reader_core.specs.Forming.{AreNamed, IsWellFormed}
-use Rattle.tables_core.specs.Contents.{Contents, table_of}
+use Rattle.tables_core.specs.Contents.{Table, table_of}
 use Rattle.tables_core.specs.Fitting.{ValuesFit, RowsFit}
 use Rattle.grants_core.specs.declared.grant.Grant.{Grant}
 use Rattle.grants_core.proofs.OwnersLemmas.{AllByRecursion-append}
 use Rattle.system_core.specs.declared.machine.event.Entry.{Entry}
-use Rattle.system_core.specs.Journal.{contents, rights_at, IsLawful}
+use Rattle.system_core.specs.Journal.{tables_at, rights_at, IsLawful}
 use Rattle.system_core.proofs.Sound.{rows-at, names-at}
 use Rattle.dump_core.specs.Grouped.{Group}
 use Rattle.dump_core.specs.Dump.{creation, insertion, insertions, grants_together, granting, dump}
@@ -24,21 +24,21 @@ use Rattle.dump_core.proofs.Counted.{IsFormed, within}
 use Rattle.dump_core.proofs.Dumped.{each-fits}
 use Rattle.dump_core.proofs.Together.{AreOfOneStatement, together-each}
 
-abbrev pub HasColumns : Name × Contents → Type 0
+abbrev pub HasColumns : Name × Table → Type 0
 HasColumns t = AreNamed 32 (λ (c : Column). c.name) t.1.columns
 
 -- what holds by name holds table by table
-each-formed : (done ts : List (Name × Contents)) → Apart (done ++ ts) → ((name : Name) → IsFormed (table_of (done ++ ts) name)) → AllByRecursion HasColumns ts
+each-formed : (done ts : List (Name × Table)) → Apart (done ++ ts) → ((name : Name) → IsFormed (table_of (done ++ ts) name)) → AllByRecursion HasColumns ts
 each-formed done [] apart h = tt
 each-formed done (t ∷ ts) apart h =
     let same : (done ++ t ∷ []) ++ ts ≡ done ++ t ∷ ts = append_assoc done (t ∷ []) ts in
-    let Tables : List (Name × Contents) → Type 0 = Apart in
-    let Formed : List (Name × Contents) → Type 0 = λ k. (name : Name) → IsFormed (table_of k name) in (
+    let Tables : List (Name × Table) → Type 0 = Apart in
+    let Formed : List (Name × Table) → Type 0 = λ k. (name : Name) → IsFormed (table_of k name) in (
       subst IsFormed (there t.0 t.1 done ts (new_to done t ts apart)) (h t.0),
       each-formed (done ++ t ∷ []) ts (subst Tables (sym same) apart) (subst Formed (sym same) h),
     )
 
-formed-creations : (ts : List (Name × Contents)) → AllByRecursion HasColumns ts → AreWellFormed (map creation ts)
+formed-creations : (ts : List (Name × Table)) → AllByRecursion HasColumns ts → AreWellFormed (map creation ts)
 formed-creations [] h = tt
 formed-creations (t ∷ ts) h = (h.0, formed-creations ts h.1)
 
@@ -52,7 +52,7 @@ module _ (l : Limits) where
       let few : length columns ≤ 32 = named.0.1 in
       ((omega (arith, same, some), omega (arith, same, few)), formed-rows name owner columns rows named h.1)
 
-  formed-insertions : (ts : List (Name × Contents)) → AllByRecursion HasColumns ts → AllByRecursion (λ t. RowsFit t.1) ts → AreWellFormed (flat_map insertions ts)
+  formed-insertions : (ts : List (Name × Table)) → AllByRecursion HasColumns ts → AllByRecursion (λ t. RowsFit t.1) ts → AreWellFormed (flat_map insertions ts)
   formed-insertions [] named fit = tt
   formed-insertions (t ∷ ts) named fit =
       AllByRecursion-append (λ e. IsWellFormed e.statement) (insertions t) (flat_map insertions ts) (formed-rows t.0 t.1.owner t.1.columns t.1.rows named.0 fit.0) (formed-insertions ts named.1 fit.1)
@@ -62,22 +62,22 @@ module _ (l : Limits) where
   formed-grants (g ∷ groups) h = (h.0.formed, formed-grants groups h.1)
 
   -- **the columns of each table are as a statement may have them**
-  pub columns-formed : (journal : List Entry) → IsLawful l journal → AreWellFormed journal → AllByRecursion HasColumns (contents journal)
-  columns-formed journal lawful formed = each-formed [] (contents journal) (apart-from_distinct (contents journal) (names-at l journal lawful)) (within l journal lawful formed).formed
+  pub columns-formed : (journal : List Entry) → IsLawful l journal → AreWellFormed journal → AllByRecursion HasColumns (tables_at journal)
+  columns-formed journal lawful formed = each-formed [] (tables_at journal) (apart-from_distinct (tables_at journal) (names-at l journal lawful)) (within l journal lawful formed).formed
 
-  pub creations-formed : (journal : List Entry) → IsLawful l journal → AreWellFormed journal → AreWellFormed (map creation (contents journal))
-  creations-formed journal lawful formed = formed-creations (contents journal) (columns-formed journal lawful formed)
+  pub creations-formed : (journal : List Entry) → IsLawful l journal → AreWellFormed journal → AreWellFormed (map creation (tables_at journal))
+  creations-formed journal lawful formed = formed-creations (tables_at journal) (columns-formed journal lawful formed)
 
-  pub insertions-formed : (journal : List Entry) → IsLawful l journal → AreWellFormed journal → AreWellFormed (flat_map insertions (contents journal))
+  pub insertions-formed : (journal : List Entry) → IsLawful l journal → AreWellFormed journal → AreWellFormed (flat_map insertions (tables_at journal))
   insertions-formed journal lawful formed =
-      let ts : List (Name × Contents) = contents journal in
+      let ts : List (Name × Table) = tables_at journal in
       let fit = each-fits ts (recursion_from_All RowsFit (values_of ts) (rows-at l journal lawful)) in
       formed-insertions ts (columns-formed journal lawful formed) fit
 
   -- **each is as a statement may be**
   pub dump-formed : (journal : List Entry) → MayBeDumped l journal → AreWellFormed (dump journal)
   dump-formed journal h =
-      let ts : List (Name × Contents) = contents journal in
+      let ts : List (Name × Table) = tables_at journal in
       let groups : List (Group (Group Grant)) = grants_together (rights_at journal).in_force in
       let Formed : Entry → Type 0 = λ e. IsWellFormed e.statement in
       AllByRecursion-append Formed (map creation ts) (flat_map insertions ts ++ map granting groups) (creations-formed journal h.lawful h.well_formed)

@@ -16,7 +16,7 @@ use Rattle.base_core.specs.declared.lack.Lack.TheVariants as lacks
 use Rattle.base_core.specs.declared.lack.What.TheVariants as whats
 use Rattle.base_core.proofs.SameLemmas.{same_atom-refl}
 use Rattle.reader_core.specs.declared.privilege.Privilege.{Privilege}
-use Rattle.tables_core.specs.Contents.{Contents}
+use Rattle.tables_core.specs.Contents.{Table}
 use Rattle.grants_core.specs.declared.grant.Grant.{Grant}
 use Rattle.grants_core.specs.declared.grant.Ownership.{Ownership}
 use Rattle.grants_core.specs.Valid.{is_supported, AreSupported}
@@ -26,7 +26,7 @@ use Rattle.monitor_core.specs.Atoms.{atoms_of, columns_listed}
 use Rattle.monitor_core.specs.Verdict.{State, Check, each, is_table, columns_of, column_stands, holds_grant_option, room_for_grants, has_room, checks}
 use Rattle.monitor_core.proofs.Columns.{column_of_columns}
 use Rattle.system_core.specs.declared.machine.event.Entry.{Entry}
-use Rattle.system_core.specs.Journal.{contents, change_of, rights_at, state_of, verdict_at}
+use Rattle.system_core.specs.Journal.{tables_at, change_of, rights_at, state_of, verdict_at}
 use Rattle.system_core.specs.Carrying.{rights_after}
 use Rattle.dump_core.specs.Grouped.{Group, members}
 use Rattle.dump_core.specs.Dump.{grantees, privilege_of, privileges_given, granting}
@@ -83,16 +83,16 @@ module _ (l : Limits) (j : List Entry) (by : User) (table : Name) (users : List 
   each-check check (grants ∷ parts) h k = (ap (λ t. check (of_table t grants.first.atom.kind)) (sym h.0.on_it) ∙ k.0, each-check check parts h.1 k.1)
 
   abbrev Stands : Name → Type 0
-  Stands name = is_some (found (columns_of (contents j) table) name) ≡ true
+  Stands name = is_some (found (columns_of (tables_at j) table) name) ≡ true
 
-  each-stands : (parts : List (Group Grant)) → AllByRecursion Part parts → AllByRecursion (λ grants. AtomStands (contents j) grants.first.atom) parts → AllByRecursion (λ k. AllByRecursion Stands (columns_listed (privilege_of k))) (kinds_of parts)
+  each-stands : (parts : List (Group Grant)) → AllByRecursion Part parts → AllByRecursion (λ grants. AtomStands (tables_at j) grants.first.atom) parts → AllByRecursion (λ k. AllByRecursion Stands (columns_listed (privilege_of k))) (kinds_of parts)
   each-stands [] h s = tt
   each-stands (grants ∷ parts) h s =
-      let Here : Name → Type 0 = λ t. AllByRecursion (λ name. is_some (found (columns_of (contents j) t) name) ≡ true) (columns_listed (privilege_of grants.first.atom.kind)) in
+      let Here : Name → Type 0 = λ t. AllByRecursion (λ name. is_some (found (columns_of (tables_at j) t) name) ≡ true) (columns_listed (privilege_of grants.first.atom.kind)) in
       (subst Here h.0.on_it s.0.columns, each-stands parts h.1 s.1)
 
   columns-pass : (names : List Name) → AllByRecursion Stands names → AllByRecursion (λ name. column_stands at table name ≡ Ok tt) names
-  columns-pass names h = all-implied Stands (λ name. column_stands at table name ≡ Ok tt) names (λ name s. pass _ (lacks.NoColumn table name) (ap is_some (column_of_columns (contents j) table name) ∙ s)) h
+  columns-pass names h = all-implied Stands (λ name. column_stands at table name ≡ Ok tt) names (λ name s. pass _ (lacks.NoColumn table name) (ap is_some (column_of_columns (tables_at j) table name) ∙ s)) h
 
   lists-pass : (ps : List Privilege) → AllByRecursion (λ p. AllByRecursion Stands (columns_listed p)) ps → AllByRecursion (λ p. each (columns_listed p) (column_stands at table) ≡ Ok tt) ps
   lists-pass ps h = all-implied (λ p. AllByRecursion Stands (columns_listed p)) (λ p. each (columns_listed p) (column_stands at table) ≡ Ok tt) ps (λ p s. each_pass (column_stands at table) (columns_listed p) (columns-pass (columns_listed p) s)) h
@@ -105,10 +105,10 @@ module _ (l : Limits) (j : List Entry) (atoms : Group (Group Grant)) (h : AreOfO
   users = grantees atoms.first
 
   abbrev of_parts : List Atom
-  of_parts = atoms_of f.atom.table (columns_of (contents j) f.atom.table) (privileges_given atoms)
+  of_parts = atoms_of f.atom.table (columns_of (tables_at j) f.atom.table) (privileges_given atoms)
 
   of_all : of_parts ≡ map (of_table f.atom.table) (map (λ grants. grants.first.atom.kind) (members atoms))
-  of_all = atoms-listed f.atom.table (columns_of (contents j) f.atom.table) (map (λ grants. grants.first.atom.kind) (members atoms))
+  of_all = atoms-listed f.atom.table (columns_of (tables_at j) f.atom.table) (map (λ grants. grants.first.atom.kind) (members atoms))
 
   -- a check of its atoms passes where it does for each part
   all-check : (check : Atom → Check) → AllByRecursion (λ grants. check grants.first.atom ≡ Ok tt) (members atoms) → each of_parts check ≡ Ok tt
@@ -116,7 +116,7 @@ module _ (l : Limits) (j : List Entry) (atoms : Group (Group Grant)) (h : AreOfO
       ap (λ (k : List Atom). each k check) of_all
       ∙ each_pass check (map (of_table f.atom.table) (map (λ grants. grants.first.atom.kind) (members atoms))) (each-check l j f.grantor f.atom.table users f.option check (members atoms) h.parts k)
 
-  grant-allowed : AllByRecursion (λ grants. AtomStands (contents j) grants.first.atom) (members atoms)
+  grant-allowed : AllByRecursion (λ grants. AtomStands (tables_at j) grants.first.atom) (members atoms)
       → AllByRecursion (λ grants. rights.may_grant (rights_at j).owners (rights_at j).in_force f.grantor grants.first.atom ≡ true) (members atoms)
       → length j < l.changes
       → AllByRecursion (λ grants. count_of (rights_at j).in_force grants.first.atom + length users ≤ l.grants) (members atoms)
@@ -126,11 +126,11 @@ module _ (l : Limits) (j : List Entry) (atoms : Group (Group Grant)) (h : AreOfO
       let now : State = state_of l j in
       let lists : AllByRecursion (λ p. each (columns_listed p) (column_stands now f.atom.table) ≡ Ok tt) (privileges_given atoms) =
       lists-pass l j f.grantor f.atom.table users f.option (privileges_given atoms)
-      (columns-hold (λ name. is_some (found (columns_of (contents j) f.atom.table) name) ≡ true) (map (λ grants. grants.first.atom.kind) (members atoms)) (each-stands l j f.grantor f.atom.table users f.option (members atoms) h.parts stands)) in
+      (columns-hold (λ name. is_some (found (columns_of (tables_at j) f.atom.table) name) ≡ true) (map (λ grants. grants.first.atom.kind) (members atoms)) (each-stands l j f.grantor f.atom.table users f.option (members atoms) h.parts stands)) in
       let Option : Atom → Type 0 = λ atom. holds_grant_option now f.grantor atom ≡ Ok tt in
       let Room : Atom → Type 0 = λ atom. room_for_grants now users atom ≡ Ok tt in
       all_pass (checks now f.grantor (granting atoms).statement) (
-        pass (is_table (contents j) f.atom.table) (lacks.NoTable f.atom.table) stands.0.table,
+        pass (is_table (tables_at j) f.atom.table) (lacks.NoTable f.atom.table) stands.0.table,
         (
           each_pass (λ p. each (columns_listed p) (column_stands now f.atom.table)) (privileges_given atoms) lists,
           (
@@ -150,7 +150,7 @@ module _ (l : Limits) (j : List Entry) (atoms : Group (Group Grant)) (h : AreOfO
 
   -- what it makes
   made : (gs : List Grant) → plain_grants (rights_at j).in_force ≡ plain_grants gs
-      → plain_grants (rights_after (rights_at j) (length j) (change_of (contents j) f.grantor (granting atoms).statement)).in_force ≡ plain_grants (gs ++ grants_of_group atoms)
+      → plain_grants (rights_after (rights_at j) (length j) (change_of (tables_at j) f.grantor (granting atoms).statement)).in_force ≡ plain_grants (gs ++ grants_of_group atoms)
   made gs e =
       let fs : List Grant = (rights_at j).in_force in
       let moment : Moment = record { 0 = length j + 1 } in
@@ -174,7 +174,7 @@ by_one by table users option parts h =
     (all-implied (IsPartOf by table users option) (λ grants. AllByRecursion (λ g. g.grantor ≡ by) (members grants)) parts
     (λ grants p. all-implied (IsMade by grants.first.atom option) (λ g. g.grantor ≡ by) (members grants) (λ g m. m.by_him) p.made) h)
 
-module _ (l : Limits) (os : List Ownership) (ts : List (Name × Contents)) (all : List Grant) (turn : AreInTurn all) (few : (atom : Atom) → count_of all atom ≤ l.grants)
+module _ (l : Limits) (os : List Ownership) (ts : List (Name × Table)) (all : List Grant) (turn : AreInTurn all) (few : (atom : Atom) → count_of all atom ≤ l.grants)
     (owners : (j : List Entry) (gs : List Grant) → Reaches l j ts gs → OwnAlike (rights_at j).owners os) where
   -- one statement more
   one_more : (j : List Entry) (before after : List Grant) (atoms : Group (Group Grant)) → AreOfOneStatement atoms → before ++ (grants_of_group atoms ++ after) ≡ all → Reaches l j ts before
@@ -189,8 +189,8 @@ module _ (l : Limits) (os : List Ownership) (ts : List (Name × Contents)) (all 
       let MayThen : Atom → Type 0 = λ atom. rights.may_grant os before f.grantor atom ≡ true in
       let MayNow : Atom → Type 0 = λ atom. rights.may_grant (rights_at j).owners fs f.grantor atom ≡ true in
       let Now : Atom → Type 0 = λ atom. count_of fs atom + length users ≤ l.grants in
-      let here : AllByRecursion (λ g. AtomStands (contents j) g.first.atom) parts =
-      (let Here : List (Name × Contents) → Type 0 = λ k. AllByRecursion (λ g. AtomStands k g.first.atom) parts in subst Here (sym r.tables) (firsts (λ g. AtomStands ts g.atom) parts stand)) in
+      let here : AllByRecursion (λ g. AtomStands (tables_at j) g.first.atom) parts =
+      (let Here : List (Name × Table) → Type 0 = λ k. AllByRecursion (λ g. AtomStands k g.first.atom) parts in subst Here (sym r.tables) (firsts (λ g. AtomStands ts g.atom) parts stand)) in
       let may : AllByRecursion (λ g. MayNow g.first.atom) parts =
       all-implied (λ g. MayThen g.first.atom) (λ g. MayNow g.first.atom) parts
       (λ g m.

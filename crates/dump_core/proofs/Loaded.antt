@@ -6,8 +6,8 @@ use Rattle.std.proofs.lemmas.List.{map-append}
 use Rattle.base_core.specs.declared.name.Name.{Name}
 use Rattle.base_core.specs.declared.limits.Limits.{Limits}
 use Rattle.printer_core.specs.Printing.{minified}
-use Rattle.tables_core.specs.Contents.{Contents}
-use Rattle.system_core.specs.Journal.{contents, rights_at}
+use Rattle.tables_core.specs.Contents.{Table}
+use Rattle.system_core.specs.Journal.{tables_at, rights_at}
 use Rattle.system_core.specs.declared.machine.event.Entry.{Entry}
 use Rattle.journal_core.specs.Text.{journal_lines, journal_text, WasRead}
 use Rattle.load_core.specs.Kept.{CanBeLoaded}
@@ -29,7 +29,7 @@ same_passes : {A : Type 0} (f : A → Entry) (xs : List A) → ((x : A) → with
 same_passes f [] h = refl
 same_passes f (x ∷ xs) h = ap (λ (e : Entry). e ∷ map without_pass (map f xs)) (h x) ∙ ap (λ (es : List Entry). f x ∷ es) (same_passes f xs h)
 
-same_insertions : (ts : List (Name × Contents)) → map without_pass (flat_map insertions ts) ≡ flat_map insertions ts
+same_insertions : (ts : List (Name × Table)) → map without_pass (flat_map insertions ts) ≡ flat_map insertions ts
 same_insertions [] = refl
 same_insertions (t ∷ ts) =
     map-append without_pass (insertions t) (flat_map insertions ts)
@@ -38,7 +38,7 @@ same_insertions (t ∷ ts) =
 
 passes : (journal : List Entry) → map without_pass (dump journal) ≡ dump journal
 passes journal =
-    let ts = contents journal in
+    let ts = tables_at journal in
     let made = map granting (grants_together (rights_at journal).in_force) in
     map-append without_pass (map creation ts) (flat_map insertions ts ++ made)
     ∙ ap (λ (es : List Entry). es ++ map without_pass (flat_map insertions ts ++ made)) (same_passes creation ts (λ t. refl))

@@ -10,12 +10,12 @@ use Rattle.base_core.specs.declared.value.Row.{Row}
 use Rattle.base_core.specs.declared.condition.Condition.{Condition}
 use Rattle.reader_core.specs.declared.statement.Statement.{Statement}
 use Rattle.reader_core.specs.declared.statement.Statement.TheVariants as statements
-use Rattle.tables_core.specs.Contents.{Contents, satisfies, projected_values, selected_rows, table_of}
+use Rattle.tables_core.specs.Contents.{Table, satisfies, projected_values, selected_rows, table_of}
 use Rattle.monitor_core.specs.Atoms.{columns_given}
 use Rattle.monitor_core.specs.Verdict.{columns_of}
 use Rattle.grants_core.specs.declared.grant.Grant.{Grant}
 use Rattle.system_core.specs.declared.machine.event.Entry.{Entry}
-use Rattle.system_core.specs.Journal.{contents, rights_at}
+use Rattle.system_core.specs.Journal.{tables_at, rights_at}
 use Rattle.system_core.specs.Step.{IsAnswer}
 use Rattle.dump_core.specs.Dump.{creation, insertion, insertions, grants_together, granting, dump_of, dump}
 use Rattle.dump_core.specs.Alike.{unnumbered, plain_tables, plain_grants, AreAlike}
@@ -25,7 +25,7 @@ use Rattle.dump_core.proofs.PlainTables.{plain_rows, found-alike, columns-alike}
 use Rattle.dump_core.proofs.Dumped.{dump-alike}
 
 -- ---- dumps
-creations-plain : (ts : List (Name × Contents)) → map creation (plain_tables ts) ≡ map creation ts
+creations-plain : (ts : List (Name × Table)) → map creation (plain_tables ts) ≡ map creation ts
 creations-plain [] = refl
 creations-plain (t ∷ ts) = ap (λ k. creation t ∷ k) (creations-plain ts)
 
@@ -33,11 +33,11 @@ rows-plain : (table : Name) (owner : User) (rows : List (ℕ × Row)) → map (i
 rows-plain table owner [] = refl
 rows-plain table owner (r ∷ rs) = ap (λ k. insertion table owner r ∷ k) (rows-plain table owner rs)
 
-insertions-plain : (ts : List (Name × Contents)) → flat_map insertions (plain_tables ts) ≡ flat_map insertions ts
+insertions-plain : (ts : List (Name × Table)) → flat_map insertions (plain_tables ts) ≡ flat_map insertions ts
 insertions-plain [] = refl
 insertions-plain (t ∷ ts) = ap (λ k. k ++ flat_map insertions (plain_tables ts)) (rows-plain t.0 t.1.owner t.1.rows) ∙ ap (λ k. insertions t ++ k) (insertions-plain ts)
 
-dump-plain : (ts : List (Name × Contents)) (gs : List Grant) → dump_of (plain_tables ts) (plain_grants gs) ≡ dump_of ts gs
+dump-plain : (ts : List (Name × Table)) (gs : List Grant) → dump_of (plain_tables ts) (plain_grants gs) ≡ dump_of ts gs
 dump-plain ts gs =
     ap (λ k. k ++ (flat_map insertions (plain_tables ts) ++ map granting (grants_together (plain_grants gs)))) (creations-plain ts)
     ∙ ap (λ k. map creation ts ++ (k ++ map granting (grants_together (plain_grants gs)))) (insertions-plain ts)
@@ -45,10 +45,10 @@ dump-plain ts gs =
 
 same-dump : (a b : List Entry) → AreAlike a b → dump a ≡ dump b
 same-dump a b h =
-    sym (dump-plain (contents a) (rights_at a).in_force)
+    sym (dump-plain (tables_at a) (rights_at a).in_force)
     ∙ ap (λ ts. dump_of ts (plain_grants (rights_at a).in_force)) h.tables
-    ∙ ap (dump_of (plain_tables (contents b))) h.grants
-    ∙ dump-plain (contents b) (rights_at b).in_force
+    ∙ ap (dump_of (plain_tables (tables_at b))) h.grants
+    ∙ dump-plain (tables_at b) (rights_at b).in_force
 
 -- **journals leave the same exactly where they have one dump**
 pub one-dump : (l : Limits) (a b : List Entry) → MayBeDumped l a → MayBeDumped l b → AreAlike a b ↔ (dump a ≡ dump b)
@@ -59,7 +59,7 @@ one-dump l a b h k = (same-dump a b, back)
         let of_a = dump-alike l a h in
         let of_b = dump-alike l b k in
         record {
-          tables = of_a.tables ∙ ap (λ j. plain_tables (contents j)) same ∙ sym of_b.tables;
+          tables = of_a.tables ∙ ap (λ j. plain_tables (tables_at j)) same ∙ sym of_b.tables;
           grants = of_a.grants ∙ ap (λ j. plain_grants (rights_at j).in_force) same ∙ sym of_b.grants;
         }
 
@@ -82,14 +82,14 @@ module _ (columns : List Column) (names : List Name) (conditions : List Conditio
       by true rest = ap (λ k. record { values = projected_values columns names r.1.values } ∷ k) rest
       by false rest = rest
 
-selected-plain : (names : List Name) (conditions : List Condition) (o : Option Contents) → option_map (selected_rows names conditions) (option_map unnumbered o) ≡ option_map (selected_rows names conditions) o
+selected-plain : (names : List Name) (conditions : List Condition) (o : Option Table) → option_map (selected_rows names conditions) (option_map unnumbered o) ≡ option_map (selected_rows names conditions) o
 selected-plain names conditions None = refl
 selected-plain names conditions (Some t) = ap Some (cut-plain t.columns names conditions t.rows)
 
 -- **the same rows answer a query**
 pub same-answer : (a b : List Entry) (asked : Statement) (rows : List Row) → AreAlike a b → IsAnswer a asked rows → IsAnswer b asked rows
 same-answer a b (statements.Select list table filter) rows h answer =
-    sym (found-alike (option_map (selected_rows (columns_given (columns_of (contents b) table) list) filter)) (selected-plain (columns_given (columns_of (contents b) table) list) filter) (contents a) (contents b) h.tables table)
-    ∙ ap (λ (columns : List Column). option_map (selected_rows (columns_given columns list) filter) (table_of (contents a) table)) (sym (columns-alike (contents a) (contents b) h.tables table))
+    sym (found-alike (option_map (selected_rows (columns_given (columns_of (tables_at b) table) list) filter)) (selected-plain (columns_given (columns_of (tables_at b) table) list) filter) (tables_at a) (tables_at b) h.tables table)
+    ∙ ap (λ (columns : List Column). option_map (selected_rows (columns_given columns list) filter) (table_of (tables_at a) table)) (sym (columns-alike (tables_at a) (tables_at b) h.tables table))
     ∙ answer
 same-answer a b _ rows h answer = absurd answer

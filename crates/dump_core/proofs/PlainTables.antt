@@ -14,7 +14,7 @@ use Rattle.base_core.specs.declared.condition.Condition.{Condition}
 use Rattle.base_core.specs.declared.condition.Assignment.{Assignment}
 use Rattle.reader_core.specs.declared.statement.Statement.{Statement}
 use Rattle.reader_core.specs.declared.statement.Statement.TheVariants as statements
-use Rattle.tables_core.specs.Contents.{Contents, empty_table, satisfies, assigned_row, updated_row, with_row, without_chosen_rows, with_updated_rows, with_change, table_of}
+use Rattle.tables_core.specs.Contents.{Table, empty_table, satisfies, assigned_row, updated_row, with_row, without_chosen_rows, with_updated_rows, with_change, table_of}
 use Rattle.tables_core.proofs.ContentsLemmas.{with_change-some, with_change-none}
 use Rattle.grants_core.specs.declared.grant.Change.TheVariants as change
 use Rattle.monitor_core.specs.Atoms.{atoms_of}
@@ -24,27 +24,27 @@ use Rattle.system_core.proofs.Owning.{owner_in}
 use Rattle.dump_core.specs.Alike.{unnumbered, plain_tables}
 
 -- ---- look-ups
-module _ {X : Type 0} (f : Option Contents → X) (same : (o : Option Contents) → f (option_map unnumbered o) ≡ f o) where
-  looked_up : (ts : List (Name × Contents)) (name : Name) → f (table_of (plain_tables ts) name) ≡ f (table_of ts name)
+module _ {X : Type 0} (f : Option Table → X) (same : (o : Option Table) → f (option_map unnumbered o) ≡ f o) where
+  looked_up : (ts : List (Name × Table)) (name : Name) → f (table_of (plain_tables ts) name) ≡ f (table_of ts name)
   looked_up ts name = ap f (lookup-map_values unnumbered (same_name name) ts) ∙ same (table_of ts name)
 
   -- what asks for no number finds the same
-  pub found-alike : (ts us : List (Name × Contents)) → plain_tables ts ≡ plain_tables us → (name : Name) → f (table_of ts name) ≡ f (table_of us name)
+  pub found-alike : (ts us : List (Name × Table)) → plain_tables ts ≡ plain_tables us → (name : Name) → f (table_of ts name) ≡ f (table_of us name)
   found-alike ts us e name = sym (looked_up ts name) ∙ ap (λ k. f (table_of k name)) e ∙ looked_up us name
 
-some-plain : (o : Option Contents) → is_some (option_map unnumbered o) ≡ is_some o
+some-plain : (o : Option Table) → is_some (option_map unnumbered o) ≡ is_some o
 some-plain None = refl
 some-plain (Some t) = refl
 
-columns-plain : (o : Option Contents) → option_map_or (λ (t : Contents). t.columns) (option_map unnumbered o) [] ≡ option_map_or (λ t. t.columns) o []
+columns-plain : (o : Option Table) → option_map_or (λ (t : Table). t.columns) (option_map unnumbered o) [] ≡ option_map_or (λ t. t.columns) o []
 columns-plain None = refl
 columns-plain (Some t) = refl
 
-owner-plain : (o : Option Contents) → option_map (λ (t : Contents). t.owner) (option_map unnumbered o) ≡ option_map (λ t. t.owner) o
+owner-plain : (o : Option Table) → option_map (λ (t : Table). t.owner) (option_map unnumbered o) ≡ option_map (λ t. t.owner) o
 owner-plain None = refl
 owner-plain (Some t) = refl
 
-module _ (ts us : List (Name × Contents)) (e : plain_tables ts ≡ plain_tables us) where
+module _ (ts us : List (Name × Table)) (e : plain_tables ts ≡ plain_tables us) where
   pub is_table-alike : (name : Name) → is_table ts name ≡ is_table us name
   is_table-alike = found-alike is_some some-plain ts us e
 
@@ -77,10 +77,10 @@ plain_rows-twice [] = refl
 plain_rows-twice (r ∷ rs) = ap (λ k. plain_row r ∷ k) (plain_rows-twice rs)
 
 -- the numbers don't matter to the change
-abbrev IsBlind : (Contents → Contents) → Type 0
-IsBlind f = (t : Contents) → unnumbered (f t) ≡ unnumbered (f (unnumbered t))
+abbrev IsBlind : (Table → Table) → Type 0
+IsBlind f = (t : Table) → unnumbered (f t) ≡ unnumbered (f (unnumbered t))
 
-plain-set_value : (p : Name → Bool) (ts : List (Name × Contents)) (t : Contents) → plain_tables (set_value p ts t) ≡ set_value p (plain_tables ts) (unnumbered t)
+plain-set_value : (p : Name → Bool) (ts : List (Name × Table)) (t : Table) → plain_tables (set_value p ts t) ≡ set_value p (plain_tables ts) (unnumbered t)
 plain-set_value p [] t = refl
 plain-set_value p (e ∷ es) t =
     by (p e.0)
@@ -90,13 +90,13 @@ plain-set_value p (e ∷ es) t =
     by true = refl
     by false = refl
 
-plain-change : (table : Name) (f : Contents → Contents) (ts : List (Name × Contents)) → IsBlind f → plain_tables (with_change table f ts) ≡ with_change table (λ t. unnumbered (f t)) (plain_tables ts)
+plain-change : (table : Name) (f : Table → Table) (ts : List (Name × Table)) → IsBlind f → plain_tables (with_change table f ts) ≡ with_change table (λ t. unnumbered (f t)) (plain_tables ts)
 plain-change table f ts blind = by (table_of ts table) refl
   where
     plain : table_of (plain_tables ts) table ≡ option_map unnumbered (table_of ts table)
     plain = lookup-map_values unnumbered (same_name table) ts
 
-    by : (o : Option Contents) → table_of ts table ≡ o → plain_tables (with_change table f ts) ≡ with_change table (λ t. unnumbered (f t)) (plain_tables ts)
+    by : (o : Option Table) → table_of ts table ≡ o → plain_tables (with_change table f ts) ≡ with_change table (λ t. unnumbered (f t)) (plain_tables ts)
     by None none =
         ap plain_tables (with_change-none table f ts none)
         ∙ sym (with_change-none table (λ t. unnumbered (f t)) (plain_tables ts) (plain ∙ ap (option_map unnumbered) none))
@@ -106,11 +106,11 @@ plain-change table f ts blind = by (table_of ts table) refl
         ∙ ap (set_value (same_name table) (plain_tables ts)) (blind t)
         ∙ sym (with_change-some table (λ u. unnumbered (f u)) (plain_tables ts) (unnumbered t) (plain ∙ ap (option_map unnumbered) there))
 
-change-both : (table : Name) (f : Contents → Contents) (ts us : List (Name × Contents)) → IsBlind f → plain_tables ts ≡ plain_tables us → plain_tables (with_change table f ts) ≡ plain_tables (with_change table f us)
+change-both : (table : Name) (f : Table → Table) (ts us : List (Name × Table)) → IsBlind f → plain_tables ts ≡ plain_tables us → plain_tables (with_change table f ts) ≡ plain_tables (with_change table f us)
 change-both table f ts us blind e = plain-change table f ts blind ∙ ap (with_change table (λ t. unnumbered (f t))) e ∙ sym (plain-change table f us blind)
 
 -- equal rows make equal tables
-with_rows : (t : Contents) (rows others : List (ℕ × Row)) → rows ≡ others → ◌≡◌ {A = Contents} (record t { inserted = 0; rows = rows }) (record t { inserted = 0; rows = others })
+with_rows : (t : Table) (rows others : List (ℕ × Row)) → rows ≡ others → ◌≡◌ {A = Table} (record t { inserted = 0; rows = rows }) (record t { inserted = 0; rows = others })
 with_rows t rows others e = ap (λ k. record t { inserted = 0; rows = k }) e
 
 insert-blind : (row : Row) → IsBlind (with_row row)
@@ -145,9 +145,9 @@ update-blind sets conditions t = with_rows t _ _ (made t.rows)
     made (r ∷ rs) = ap (λ k. k ∷ plain_rows (map (updated_row t.columns sets conditions) rs)) (one (satisfies t.columns conditions r) r) ∙ ap (λ k. plain_row (updated_row t.columns sets conditions (plain_row r)) ∷ k) (made rs)
 
 -- **a statement makes the same of the same tables**
-pub plain-after : (ts us : List (Name × Contents)) (user : User) (s : Statement) → plain_tables ts ≡ plain_tables us → plain_tables (tables_after ts user s) ≡ plain_tables (tables_after us user s)
+pub plain-after : (ts us : List (Name × Table)) (user : User) (s : Statement) → plain_tables ts ≡ plain_tables us → plain_tables (tables_after ts user s) ≡ plain_tables (tables_after us user s)
 plain-after ts us user (statements.CreateTable table columns) e =
-    let fresh : List (Name × Contents) = (table, empty_table user columns) ∷ [] in
+    let fresh : List (Name × Table) = (table, empty_table user columns) ∷ [] in
     map-append (λ t. (t.0, unnumbered t.1)) ts fresh
     ∙ ap (λ k. k ++ plain_tables fresh) e
     ∙ sym (map-append (λ t. (t.0, unnumbered t.1)) us fresh)

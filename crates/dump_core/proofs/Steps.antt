@@ -13,11 +13,11 @@ use Rattle.grants_core.specs.declared.grant.Grant.{Grant}
 use Rattle.grants_core.specs.declared.grant.Change.{Change}
 use Rattle.grants_core.specs.declared.grant.Change.TheVariants as change
 use Rattle.grants_core.specs.Content as rights
-use Rattle.grants_core.specs.Content.{Content, gives, singles}
+use Rattle.grants_core.specs.Content.{Rights, gives, singles}
 use Rattle.monitor_core.specs.Verdict.{State, require, checks, verdict, room_for_change, is_change}
 use Rattle.monitor_core.proofs.Passing.{passed}
 use Rattle.system_core.specs.declared.machine.event.Entry.{Entry}
-use Rattle.system_core.specs.Journal.{contents, change_of, rights_at, state_of, verdict_at, IsLawfulFrom, IsLawful}
+use Rattle.system_core.specs.Journal.{tables_at, change_of, rights_at, state_of, verdict_at, IsLawfulFrom, IsLawful}
 use Rattle.system_core.specs.Carrying.{rights_after}
 use Rattle.system_core.proofs.Agreeing.{owns-alike}
 use Rattle.system_core.proofs.Owning.{OwnersStand, owners-at}
@@ -38,7 +38,7 @@ module _ (l : Limits) (a b : List Entry) (h : AreLawfulAlike l a b) where
   own : OwnAlike (rights_at a).owners (rights_at b).owners
   own user atom =
       owns-alike (rights_at a).owners (rights_at b).owners user atom
-      (owners-stand l a h.first atom.table ∙ owner-alike (contents a) (contents b) h.alike.tables atom.table ∙ sym (owners-stand l b h.second atom.table))
+      (owners-stand l a h.first atom.table ∙ owner-alike (tables_at a) (tables_at b) h.alike.tables atom.table ∙ sym (owners-stand l b h.second atom.table))
 
   ask-alike : AskAlike (state_of l a) (state_of l b)
   ask-alike =
@@ -48,9 +48,9 @@ module _ (l : Limits) (a b : List Entry) (h : AreLawfulAlike l a b) where
       let ps = (rights_at b).owners in
       record {
         limits = refl;
-        tables = is_table-alike (contents a) (contents b) h.alike.tables;
-        columns = columns-alike (contents a) (contents b) h.alike.tables;
-        many = length-alike (contents a) (contents b) h.alike.tables;
+        tables = is_table-alike (tables_at a) (tables_at b) h.alike.tables;
+        columns = columns-alike (tables_at a) (tables_at b) h.alike.tables;
+        many = length-alike (tables_at a) (tables_at b) h.alike.tables;
         holds = λ user atom. sym (holds-undated os f user atom) ∙ ap (λ k. rights.holds os k user atom) h.alike.grants
             ∙ ap (λ o. o || list_any (gives user atom) (plain_grants g)) (own user atom) ∙ holds-undated ps g user atom;
         may_grant = λ user atom. sym (may_grant-undated os f user atom) ∙ ap (λ k. rights.may_grant os k user atom) h.alike.grants
@@ -79,7 +79,7 @@ had_room at user (statements.RevokeOption asked table users) c ok = (passed (che
 had_room at user _ c ok = cc
 
 -- ---- one more change
-plain-rights : (c d : Content) (m n : ℕ) (ch : Change) → OwnAlike c.owners d.owners → AreInTurn c.in_force → AreInTurn d.in_force → plain_grants c.in_force ≡ plain_grants d.in_force
+plain-rights : (c d : Rights) (m n : ℕ) (ch : Change) → OwnAlike c.owners d.owners → AreInTurn c.in_force → AreInTurn d.in_force → plain_grants c.in_force ≡ plain_grants d.in_force
     → plain_grants (rights_after c m ch).in_force ≡ plain_grants (rights_after d n ch).in_force
 plain-rights c d m n (change.Create table owner) owned t u e = e
 plain-rights c d m n (change.Grant by atoms whom option) owned t u e =
@@ -97,14 +97,14 @@ alike-more : (l : Limits) (a b : List Entry) (e : Entry) → AreLawfulAlike l a 
 alike-more l a b e h ok_a ok_b =
     let of_a = known l a h.first in
     let of_b = known l b h.second in
-    let ch : Change = change_of (contents a) e.user e.statement in
+    let ch : Change = change_of (tables_at a) e.user e.statement in
     record {
-      tables = ap plain_tables (contents-more a e) ∙ plain-after (contents a) (contents b) e.user e.statement h.alike.tables ∙ ap plain_tables (sym (contents-more b e));
+      tables = ap plain_tables (contents-more a e) ∙ plain-after (tables_at a) (tables_at b) e.user e.statement h.alike.tables ∙ ap plain_tables (sym (contents-more b e));
       grants =
-          ap (λ (c : Content). plain_grants c.in_force) (rights-more l a e.user e.statement of_a.on ok_a e.pass)
+          ap (λ (c : Rights). plain_grants c.in_force) (rights-more l a e.user e.statement of_a.on ok_a e.pass)
           ∙ plain-rights (rights_at a) (rights_at b) (length a) (length b) ch (own l a b h) of_a.turn of_b.turn h.alike.grants
-          ∙ ap (λ c. plain_grants (rights_after (rights_at b) (length b) c).in_force) (change-alike (contents a) (contents b) h.alike.tables e.user e.statement)
-          ∙ ap (λ (c : Content). plain_grants c.in_force) (sym (rights-more l b e.user e.statement of_b.on ok_b e.pass));
+          ∙ ap (λ c. plain_grants (rights_after (rights_at b) (length b) c).in_force) (change-alike (tables_at a) (tables_at b) h.alike.tables e.user e.statement)
+          ∙ ap (λ (c : Rights). plain_grants c.in_force) (sym (rights-more l b e.user e.statement of_b.on ok_b e.pass));
     }
 
 both-more : (l : Limits) (a b : List Entry) (e : Entry) → AreLawfulAlike l a b → is_change e.statement ≡ true → verdict_at l a e.user e.statement ≡ Ok tt → length b < l.changes → AreLawfulAlike l (a ++ e ∷ []) (b ++ e ∷ [])

@@ -13,14 +13,14 @@ use Rattle.base_core.specs.declared.name.Name.{Name}
 use Rattle.base_core.specs.declared.name.User.{User}
 use Rattle.base_core.specs.declared.value.Row.{Row}
 use Rattle.reader_core.specs.Forming.{IsWellFormed}
-use Rattle.tables_core.specs.Contents.{Contents}
+use Rattle.tables_core.specs.Contents.{Table}
 use Rattle.grants_core.proofs.OwnersLemmas.{AllByRecursion-append}
 use Rattle.journal_core.specs.Text.{journal_text}
-use Rattle.journal_core.proofs.Fronts.{front-before, front-after}
+use Rattle.base_core.proofs.Fronts.{front-first, front-second}
 use Rattle.journal_core.proofs.Lines.{text-append}
 use Rattle.printer_core.specs.Printing.{ended_line, has_literals}
 use Rattle.grants_core.specs.declared.grant.Grant.{Grant}
-use Rattle.system_core.specs.Journal.{contents, rights_at}
+use Rattle.system_core.specs.Journal.{tables_at, rights_at}
 use Rattle.system_core.specs.declared.machine.event.Entry.{Entry}
 use Rattle.dump_core.specs.declared.fault.DumpFault.{DumpFault}
 use Rattle.dump_core.specs.declared.fault.DumpFault.TheVariants as faults
@@ -43,7 +43,7 @@ module _ (xs ys : List Entry) (a b c : Option (List ℕ)) where
   pub front-behind : (zs : List Entry) → WritesLines xs a b → WritesFront b c (journal_text ys) → WritesFront a c (journal_text (xs ++ (ys ++ zs)))
   front-behind zs v w =
       let text = text-append xs (ys ++ zs) ∙ ap (λ t. journal_text xs ++ t) (text-append ys zs) in
-      subst (λ t. WritesFront a c t) (sym text) (front-after a b c (journal_text xs) (journal_text ys ++ journal_text zs) v.wrote (front-before b c (journal_text ys) (journal_text zs) w))
+      subst (λ t. WritesFront a c t) (sym text) (front-second a b c (journal_text xs) (journal_text ys ++ journal_text zs) v.wrote (front-first b c (journal_text ys) (journal_text zs) w))
 
 -- the line of one entry
 module _ (e : Entry) (line : List ℕ) (a b : Option (List ℕ)) (is : line ≡ ended_line e.user e.statement) where
@@ -135,7 +135,7 @@ module _ {A : Type 0} (f : A → List Entry) (xs : List A) (i : ℕ) (x : A) (e 
 
 -- ---- the endings
 -- a row without a line among those of a table is one of the tables
-pub in_table : (tables : List (Name × Contents)) (i : ℕ) (t : Name × Contents) → slice_get tables i ≡ Some t
+pub in_table : (tables : List (Name × Table)) (i : ℕ) (t : Name × Table) → slice_get tables i ≡ Some t
     → (name : Name) (number : ℕ) (before : List Entry) → IsLongAmong t.0 t.1.owner t.1.rows name number before
     → IsLongIn tables name number (flat_map insertions (take i tables) ++ before)
 in_table tables i t e name number before h = record {
@@ -204,8 +204,8 @@ granting-plain (group ∷ groups) e more is = let same : e ≡ granting group = 
 
 -- ---- the three parts of a dump
 module _ (journal : List Entry) (a b c d : Option (List ℕ)) where
-  abbrev tables : List (Name × Contents)
-  tables = contents journal
+  abbrev tables : List (Name × Table)
+  tables = tables_at journal
 
   abbrev creations : List Entry
   creations = map creation tables

@@ -17,17 +17,17 @@ use Rattle.reader_core.specs.Privileges.{are_different}
 use Rattle.reader_core.specs.declared.privilege.Privilege.{Privilege}
 use Rattle.reader_core.specs.declared.privilege.Privilege.TheVariants as privileges
 use Rattle.reader_core.specs.declared.statement.Statement.TheVariants as statements
-use Rattle.tables_core.specs.Contents.{Contents}
+use Rattle.tables_core.specs.Contents.{Table}
 use Rattle.grants_core.specs.declared.grant.Grant.{Grant}
 use Rattle.monitor_core.specs.Atoms.{columns_listed}
 use Rattle.system_core.specs.declared.machine.event.Entry.{Entry}
-use Rattle.system_core.specs.Journal.{contents, rights_at}
+use Rattle.system_core.specs.Journal.{tables_at, rights_at}
 use Rattle.system_core.specs.World.{entry}
 use Rattle.dump_core.specs.Grouped.{Group, members, grouped}
 
 -- ---- tables and rows
 -- a table, created by its owner
-abbrev pub creation : Name × Contents → Entry
+abbrev pub creation : Name × Table → Entry
 creation t = entry 0 t.1.owner (statements.CreateTable t.0 t.1.columns)
 
 -- a row of the table, inserted by the owner
@@ -35,7 +35,7 @@ abbrev pub insertion : Name → User → ℕ × Row → Entry
 insertion table owner numbered = entry 0 owner (statements.Insert table numbered.1.values)
 
 -- the rows of a table, in their order
-abbrev pub insertions : Name × Contents → List Entry
+abbrev pub insertions : Name × Table → List Entry
 insertions t = map (insertion t.0 t.1.owner) t.1.rows
 
 -- ---- grants that one statement makes
@@ -115,10 +115,10 @@ granting atoms =
 -- ---- the dump
 -- the tables in order, then their rows, then the grants in order, neighbours of one statement
 -- together
-abbrev pub dump_of : List (Name × Contents) → List Grant → List Entry
+abbrev pub dump_of : List (Name × Table) → List Grant → List Entry
 dump_of tables grants =
     map creation tables ++ (flat_map insertions tables ++ map granting (grants_together grants))
 
 -- what a journal leaves: its tables with their rows, and the grants in force
 abbrev pub dump : List Entry → List Entry
-dump journal = dump_of (contents journal) (rights_at journal).in_force
+dump journal = dump_of (tables_at journal) (rights_at journal).in_force

@@ -7,11 +7,11 @@ use Rattle.base_core.specs.Words.{IsName}
 use Rattle.base_core.specs.declared.name.Name.{Name}
 use Rattle.base_core.specs.declared.name.User.{User}
 use Rattle.base_core.specs.declared.value.Row.{Row}
-use Rattle.tables_core.specs.Contents.{Contents}
+use Rattle.tables_core.specs.Contents.{Table}
 use Rattle.reader_core.specs.Language.{Spells}
 use Rattle.printer_core.specs.Printing.{minified}
 use Rattle.system_core.specs.declared.machine.event.Entry.{Entry}
-use Rattle.system_core.specs.Journal.{contents}
+use Rattle.system_core.specs.Journal.{tables_at}
 use Rattle.journal_core.specs.Text.{journal_text}
 use Rattle.dump_core.specs.declared.fault.DumpFault.{DumpFault}
 use Rattle.dump_core.specs.declared.fault.DumpFault.TheVariants as faults
@@ -52,18 +52,18 @@ pub record IsLongAmong (table : Name) (owner : User) (rows : List (ℕ × Row))
 
 -- the row of this number in the table of this name is such a one; the INSERTs before it, of all
 -- tables before and of its own, are these entries
-pub record IsLongIn (tables : List (Name × Contents)) (name : Name) (number : ℕ)
+pub record IsLongIn (tables : List (Name × Table)) (name : Name) (number : ℕ)
     (before : List Entry) : Type 0 where
-  pub tables_before : List (Name × Contents)
-  pub table : Contents
-  pub tables_behind : List (Name × Contents)
+  pub tables_before : List (Name × Table)
+  pub table : Table
+  pub tables_behind : List (Name × Table)
   pub tables_are : tables ≡ tables_before ++ (name, table) ∷ tables_behind
   pub inserted : List Entry
   pub among : IsLongAmong name table.owner table.rows name number inserted
   pub before_are : before ≡ flat_map insertions tables_before ++ inserted
 
 -- the same, and these entries are all that stands before its INSERT in a dump of the tables
-pub record IsLongRow (tables : List (Name × Contents)) (name : Name) (number : ℕ)
+pub record IsLongRow (tables : List (Name × Table)) (name : Name) (number : ℕ)
     (before : List Entry) : Type 0 where
   pub inserted : List Entry
   pub row : IsLongIn tables name number inserted
@@ -94,4 +94,4 @@ IsNowhere table row before = ⊥
 -- how the writing of the dump of a journal ends
 abbrev pub EndsDump : List Entry
     → Result (Unit {0}) DumpFault → Option (List ℕ) → Option (List ℕ) → Type 0
-EndsDump journal = EndsLines (IsLongRow (contents journal)) (dump journal)
+EndsDump journal = EndsLines (IsLongRow (tables_at journal)) (dump journal)

@@ -9,7 +9,7 @@ use Rattle.reader_core.specs.Forming.{IsWellFormed}
 use Rattle.tables_core.specs.Contents.{all_rows}
 use Rattle.monitor_core.specs.Verdict.{is_change}
 use Rattle.system_core.specs.declared.machine.event.Entry.{Entry}
-use Rattle.system_core.specs.Journal.{contents, rights_at, verdict_at, IsLawful}
+use Rattle.system_core.specs.Journal.{tables_at, rights_at, verdict_at, IsLawful}
 use Rattle.system_core.specs.Step.{IsAnswer}
 use Rattle.dump_core.specs.Dump.{dump, grants_together}
 use Rattle.dump_core.specs.Alike.{AreAlike}
@@ -32,7 +32,7 @@ abbrev pub LengthOfDump : Type 0
 LengthOfDump =
     (journal : List Entry)
     → length (dump journal)
-    ≡ length (contents journal) + length (all_rows (contents journal))
+    ≡ length (tables_at journal) + length (all_rows (tables_at journal))
     + length (grants_together (rights_at journal).in_force)
 
 -- these are no more statements than grants in force

@@ -20,14 +20,14 @@ use Rattle.explain_core.specs.declared.supports.Support.{Support}
 use Rattle.grants_core.specs.Lawful.{AreLawful}
 use Rattle.explain_core.specs.Ends.{is_before, earlier, next_ends, upheld_until, fall_by, life_until}
 use Rattle.explain_core.specs.Supports.{IsLongest}
-use Rattle.explain_core.specs.Reading.{left_at, standing_at, EndsRight, IsWithin, AreLives}
+use Rattle.explain_core.specs.Reading.{left_at, standing_at, EndsRight, EndsWithin, AreLives}
 use Rattle.explain_core.proofs.EndLemmas.{before-earlier, earlier-either, before-struck, before-unoptioned, within-struck, within-unoptioned}
 use Rattle.explain_core.proofs.MadeLemmas.{in_order-granted, moment-granted, moment-positive, filter-none, in_force-left, WasGrantable, grantable-granted, supported-before}
 use Rattle.explain_core.proofs.Standing.{grant_of, upholds, supported-standing, FallsRight, stand-push}
 use Rattle.explain_core.proofs.ListLemmas.{all_at}
 use Rattle.explain_core.proofs.LongestLemmas.{upholds-none, upholds-longest}
 
-within-later : (low high before : ℕ) (end : Option Moment) → IsWithin before high end → is_before (low - 1) end ≡ true → IsWithin low high end
+within-later : (low high before : ℕ) (end : Option Moment) → EndsWithin before high end → is_before (low - 1) end ≡ true → EndsWithin low high end
 within-later low high before None h k = tt
 within-later low high before (Some e) h k = let lt : low - 1 < e.0 = ltb-true (low - 1) e.0 k in (omega arith, h.1)
 
@@ -136,14 +136,14 @@ module _ (changes : List Change) (lives : List Life) (g : Grant) (lawful : AreLa
     upheld-right true f h was m = refl
     upheld-right false f h was m = by_found f h was m
 
-    within_found : (f : Option Support) → IsLongest lives noted (needed_by g) f → is_before just_before (upheld_until g false f) ≡ true → IsWithin g.moment.0 (length changes) (upheld_until g false f)
+    within_found : (f : Option Support) → IsLongest lives noted (needed_by g) f → is_before just_before (upheld_until g false f) ≡ true → EndsWithin g.moment.0 (length changes) (upheld_until g false f)
     within_found (Some s) h lasts =
-        let P : Option Moment → Type 0 = λ e. IsWithin h.1.grant.moment.0 (length changes) e in
+        let P : Option Moment → Type 0 = λ e. EndsWithin h.1.grant.moment.0 (length changes) e in
         within-later g.moment.0 (length changes) h.1.grant.moment.0 s.until
-        (subst P h.4 (all_at (λ l. IsWithin l.grant.moment.0 (length changes) l.option_end) lives s.place h.1 h.2 read.ends)) lasts
+        (subst P h.4 (all_at (λ l. EndsWithin l.grant.moment.0 (length changes) l.option_end) lives s.place h.1 h.2 read.ends)) lasts
     within_found None h lasts = let q = early_enough in (omega arith, q)
 
-    upheld-within : (b : Bool) (f : Option Support) → IsLongest lives noted (needed_by g) f → is_before just_before (upheld_until g b (cond b None f)) ≡ true → IsWithin g.moment.0 (length changes) (upheld_until g b (cond b None f))
+    upheld-within : (b : Bool) (f : Option Support) → IsLongest lives noted (needed_by g) f → is_before just_before (upheld_until g b (cond b None f)) ≡ true → EndsWithin g.moment.0 (length changes) (upheld_until g b (cond b None f))
     upheld-within true f h lasts = tt
     upheld-within false f h lasts = within_found f h lasts
 
@@ -171,15 +171,15 @@ module _ (changes : List Change) (lives : List Life) (g : Grant) (lawful : AreLa
             | false ↦ le-ltb m g.moment.0 le
           ]
 
-      fell-within : IsWithin g.moment.0 (length changes) next_life.fell
+      fell-within : EndsWithin g.moment.0 (length changes) next_life.fell
       fell-within =
-          let P : Option Moment → Type 0 = λ e. IsWithin g.moment.0 (length changes) e in
+          let P : Option Moment → Type 0 = λ e. EndsWithin g.moment.0 (length changes) e in
           earlier-either P ends.struck until (within-struck changes g early_enough)
           (upheld-within owned found longest (upheld-right owned found longest was_upheld just_before ∙ was_upheld))
 
-      end-within : IsWithin g.moment.0 (length changes) next_life.option_end
+      end-within : EndsWithin g.moment.0 (length changes) next_life.option_end
       end-within =
-          let P : Option Moment → Type 0 = λ e. IsWithin g.moment.0 (length changes) e in
+          let P : Option Moment → Type 0 = λ e. EndsWithin g.moment.0 (length changes) e in
           let q = early_enough in
           elim (g.option) as (λ b. P (cond b (earlier ends.unoptioned (fall_by ends until)) (Some g.moment))) [
             | true ↦ earlier-either P ends.unoptioned (fall_by ends until) (within-unoptioned changes g q) fell-within
@@ -199,6 +199,6 @@ module _ (changes : List Change) (lives : List Life) (g : Grant) (lawful : AreLa
                 ∙ sym (ap (λ n. take n gs) count ∙ take_more gs k g there ∙ ap (λ h. take k gs ++ h ∷ []) last);
             stand = λ m. stand-push changes o m lives next_life (read.stand m) read.options falls-right;
             options = All-push (EndsRight changes) lives next_life read.options ends-right;
-            falls = All-push (λ l. IsWithin l.grant.moment.0 (length changes) l.fell) lives next_life read.falls fell-within;
-            ends = All-push (λ l. IsWithin l.grant.moment.0 (length changes) l.option_end) lives next_life read.ends end-within;
+            falls = All-push (λ l. EndsWithin l.grant.moment.0 (length changes) l.fell) lives next_life read.falls fell-within;
+            ends = All-push (λ l. EndsWithin l.grant.moment.0 (length changes) l.option_end) lives next_life read.ends end-within;
           }

@@ -13,7 +13,7 @@ use Rattle.explain_core.specs.declared.life.Life.{Life}
 use Rattle.explain_core.specs.Life.{left}
 use Rattle.grants_core.specs.Lawful.{AreLawful}
 use Rattle.explain_core.specs.Lives.{lives_of}
-use Rattle.explain_core.specs.Chains.{IsLinked, IsChain}
+use Rattle.explain_core.specs.Chains.{EachSupportsNext, IsChain}
 use Rattle.explain_core.specs.Kept.{SupportsLife, IsByOwner}
 use Rattle.explain_core.proofs.LifeLemmas.{life-in_force, life-standing}
 
@@ -24,7 +24,7 @@ pub record StandsFrom (changes : List Change) (place : ℕ) (last : Life) (line 
   pub stands : top.fell ≡ None
   pub first : (more : List Grant) × (line ≡ left top ∷ more)
   pub in_force : All (λ g. Contains (in_force_after changes) g) line
-  pub linked : IsLinked line
+  pub linked : EachSupportsNext line
   pub ends : (front : List Grant) × (line ≡ front ++ left last ∷ [])
 
 pub supports-option : (h g : Grant) → supports h g ≡ true → h.option ≡ true
@@ -60,7 +60,7 @@ module _ (changes : List Change) (lawful : AreLawful changes) where
   stands_above place support last above line from at is =
       let kept : above.option_end ≡ None = is.stands from.stands in
       let stands : above.fell ≡ None = life-standing changes support above lawful at kept in
-      let Linked : List Grant → Type 0 = λ k. IsLinked k → IsLinked (left above ∷ k) in
+      let Linked : List Grant → Type 0 = λ k. EachSupportsNext k → EachSupportsNext (left above ∷ k) in
       record {
         top = above;
         at = at;

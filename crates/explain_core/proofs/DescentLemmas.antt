@@ -8,7 +8,7 @@ use Rattle.grants_core.specs.declared.grant.Change.{Change}
 use Rattle.grants_core.specs.History.{owners_after}
 use Rattle.explain_core.specs.declared.life.Life.{Life}
 use Rattle.explain_core.specs.Lives.{lives_of}
-use Rattle.explain_core.specs.Chains.{IsLinked}
+use Rattle.explain_core.specs.Chains.{EachSupportsNext}
 use Rattle.explain_core.specs.Falls.{strikes, takes_option, IsChangeAt, IsDescent}
 use Rattle.explain_core.specs.Kept.{SupportsLife, IsByOwner, IsSupported}
 use Rattle.explain_core.specs.Branches.{is_named_in_line, IsAbove}
@@ -31,7 +31,7 @@ pub record FallsFrom (changes : List Change) (at : Moment) (number place : ℕ) 
   pub still : ((place ≡ number) × (top ≡ last))
       ⊎ ((place < number) × (top.option_end ≡ Some at) × (top.grant.option ≡ true) × (more ≡ [] → ⊥))
   pub made : All (λ life. Contains (lives_of changes) life) line
-  pub linked : IsLinked (map (λ (life : Life). life.grant) line)
+  pub linked : EachSupportsNext (map (λ (life : Life). life.grant) line)
   pub until : All (λ life. (life.option_end ≡ Some at) ⊎ (life ≡ last)) line
   pub ends : (front : List Life) × (line ≡ front ++ last ∷ [])
 
@@ -77,7 +77,7 @@ module _ (changes : List Change) (at : Moment) (number : ℕ) (last : Life) wher
         let above : Life = is.2 in
         let end = ended_above above is.4 is.0 in
         let Until : Life → Type 0 = λ life. (life.option_end ≡ Some at) ⊎ (life ≡ last) in
-        let Linked : List Life → Type 0 = λ k. IsLinked (map (λ (life : Life). life.grant) k) → IsLinked (map (λ (life : Life). life.grant) (above ∷ k)) in
+        let Linked : List Life → Type 0 = λ k. EachSupportsNext (map (λ (life : Life). life.grant) k) → EachSupportsNext (map (λ (life : Life). life.grant) (above ∷ k)) in
         let before : support < place = is.1 in
         let highest = at_most in
         record {

@@ -15,7 +15,7 @@ use Rattle.explain_core.specs.declared.coming.Coming.{Coming}
 use Rattle.explain_core.specs.declared.coming.Ends.{Ends}
 use Rattle.explain_core.specs.Falls.{strikes, takes_option, IsChangeAt}
 use Rattle.explain_core.specs.Ends.{is_before, is_later, earlier, end_at, next_struck, next_unoptioned, next_ends, AreNoted}
-use Rattle.explain_core.specs.Reading.{IsWithin}
+use Rattle.explain_core.specs.Reading.{EndsWithin}
 
 before-both : (m a b : ℕ) → a ≤ b → ltb m a ≡ (ltb m b && ltb m a)
 before-both m a b le =
@@ -117,12 +117,12 @@ module _ (test : Change → Bool) where
         | false ↦ ap (λ n. is_before n (end_at (first_from ((a + 1) + 1) cs))) (sym next) ∙ first_from-before (a + 1) k cs
       ]
 
-  first_from-within : (low high j : ℕ) (cs : List Change) → low ≤ j → 0 < j → j + length cs ≤ high + 1 → IsWithin low high (end_at (first_from j cs))
+  first_from-within : (low high j : ℕ) (cs : List Change) → low ≤ j → 0 < j → j + length cs ≤ high + 1 → EndsWithin low high (end_at (first_from j cs))
   first_from-within low high j [] h p k = tt
   first_from-within low high j (c ∷ cs) h p k =
-      let P : Option Moment → Type 0 = λ e. IsWithin low high e in
+      let P : Option Moment → Type 0 = λ e. EndsWithin low high e in
       let le : j ≤ high = omega arith in
-      elim (test c) as (λ b. IsWithin low high (end_at (cond b j (first_from (j + 1) cs)))) [
+      elim (test c) as (λ b. EndsWithin low high (end_at (cond b j (first_from (j + 1) cs)))) [
         | true ↦ subst P (sym (end_at-some j p)) (h, le)
         | false ↦ first_from-within low high (j + 1) cs (omega arith) (omega arith) (omega arith)
       ]
@@ -225,9 +225,9 @@ before-struck changes g m h =
     ∙ before-first (strikes_it g) g.moment.0 (λ n c. is_struck_by n c g) (struck-by g) changes m h
     ∙ ap not (sym (struck-any g 1 (take m changes)))
 
-pub within-struck : (changes : List Change) (g : Grant) → g.moment.0 ≤ length changes → IsWithin g.moment.0 (length changes) (next_ends changes g).struck
+pub within-struck : (changes : List Change) (g : Grant) → g.moment.0 ≤ length changes → EndsWithin g.moment.0 (length changes) (next_ends changes g).struck
 within-struck changes g h =
-    let P : ℕ → Type 0 = λ n. IsWithin g.moment.0 (length changes) (end_at n) in
+    let P : ℕ → Type 0 = λ n. EndsWithin g.moment.0 (length changes) (end_at n) in
     let rest : length (drop g.moment.0 changes) ≡ length changes - g.moment.0 = length-drop g.moment.0 changes in
     subst P (sym (struck-first g (g.moment.0 + 1) (drop g.moment.0 changes)))
     (first_from-within (strikes_it g) g.moment.0 (length changes) (g.moment.0 + 1) (drop g.moment.0 changes) (omega arith) (omega arith) (omega arith))
@@ -271,9 +271,9 @@ before-unoptioned changes g m h =
     ∙ before-first (unoptions_it g) g.moment.0 (λ n c. is_unoptioned_by n c g) (unoptioned-by g) changes m h
     ∙ ap not (sym (unoptioned-any g 1 (take m changes)))
 
-pub within-unoptioned : (changes : List Change) (g : Grant) → g.moment.0 ≤ length changes → IsWithin g.moment.0 (length changes) (next_ends changes g).unoptioned
+pub within-unoptioned : (changes : List Change) (g : Grant) → g.moment.0 ≤ length changes → EndsWithin g.moment.0 (length changes) (next_ends changes g).unoptioned
 within-unoptioned changes g h =
-    let P : ℕ → Type 0 = λ n. IsWithin g.moment.0 (length changes) (end_at n) in
+    let P : ℕ → Type 0 = λ n. EndsWithin g.moment.0 (length changes) (end_at n) in
     let rest : length (drop g.moment.0 changes) ≡ length changes - g.moment.0 = length-drop g.moment.0 changes in
     subst P (sym (unoptioned-first g (g.moment.0 + 1) (drop g.moment.0 changes)))
     (first_from-within (unoptions_it g) g.moment.0 (length changes) (g.moment.0 + 1) (drop g.moment.0 changes) (omega arith) (omega arith) (omega arith))

@@ -11,7 +11,7 @@ use Rattle.base_core.specs.declared.value.Moment.{Moment}
 use Rattle.grants_core.specs.declared.grant.Grant.{Grant}
 use Rattle.grants_core.specs.declared.grant.Change.{Change}
 use Rattle.grants_core.specs.declared.grant.Change.TheVariants as change
-use Rattle.grants_core.specs.Content.{Content}
+use Rattle.grants_core.specs.Content.{Rights}
 use Rattle.grants_core.specs.History.{made_by, made_by_all, grants_of, granted_from, granted, in_force_after}
 use Rattle.grants_core.proofs.GrantLemmas.{All-implied}
 use Rattle.grants_core.proofs.OwnersLemmas.{AllByRecursion-append}
@@ -27,14 +27,14 @@ use Rattle.explain_core.proofs.Whole.{found_at}
 -- a change that is no revocation adds what it makes
 in_force-more : (before after : List Change) (c : Change) → AreLawful (before ++ c ∷ after) → is_revocation c ≡ false → in_force_after (before ++ c ∷ []) ≡ in_force_after before ++ grants_of (made_by_all before) (1 + length before) c
 in_force-more before after (change.Create table owner) lawful h =
-    ap (λ (k : Content). k.in_force) (content-create before table owner (lawful.created before after table owner refl).1)
+    ap (λ (k : Rights). k.in_force) (content-create before table owner (lawful.created before after table owner refl).1)
     ∙ sym (append-nil (in_force_after before))
 in_force-more before after (change.Grant by atoms whom option) lawful h =
-    ap (λ (k : Content). k.in_force) (content-grant before by atoms whom option (lawful.grantable before after by atoms whom option refl))
+    ap (λ (k : Rights). k.in_force) (content-grant before by atoms whom option (lawful.grantable before after by atoms whom option refl))
 in_force-more before after (change.Revoke by atoms whom) lawful h = cc
 in_force-more before after (change.RevokeOption by atoms whom) lawful h = cc
 in_force-more before after (change.Other) lawful h =
-    ap (λ (k : Content). k.in_force) (content-other before) ∙ sym (append-nil (in_force_after before))
+    ap (λ (k : Rights). k.in_force) (content-other before) ∙ sym (append-nil (in_force_after before))
 
 abbrev moment_at : ℕ → Moment
 moment_at m = record { 0 = m }

@@ -17,7 +17,7 @@ use Rattle.explain_core.specs.declared.life.Life.{Life}
 use Rattle.grants_core.specs.Lawful.{AreLawful}
 use Rattle.explain_core.specs.Lives.{stands_at, has_option_at, first_failure, life_of, lives_of}
 use Rattle.explain_core.specs.Ends.{is_before}
-use Rattle.explain_core.specs.Reading.{left_at, stands, standing_at, EndsRight, IsWithin, AreLives}
+use Rattle.explain_core.specs.Reading.{left_at, stands, standing_at, EndsRight, EndsWithin, AreLives}
 use Rattle.explain_core.proofs.MadeLemmas.{in_force-left, moment-granted}
 use Rattle.explain_core.proofs.ListLemmas.{all_at}
 use Rattle.explain_core.proofs.Standing.{grant_of, list_any-standing}
@@ -93,7 +93,7 @@ abbrev moment_at : ℕ → Moment
 moment_at m = record { 0 = m }
 
 -- the first moment at which a test fails that passes up to an end
-first-end : (test : ℕ → Bool) (end : Option Moment) (len a high : ℕ) → high + 1 ≡ a + len → ((m : ℕ) → a ≤ m → m ≤ high → test m ≡ is_before m end) → IsWithin a high end → option_map moment_at (find (λ m. not (test m)) (range_with_len a len)) ≡ end
+first-end : (test : ℕ → Bool) (end : Option Moment) (len a high : ℕ) → high + 1 ≡ a + len → ((m : ℕ) → a ≤ m → m ≤ high → test m ≡ is_before m end) → EndsWithin a high end → option_map moment_at (find (λ m. not (test m)) (range_with_len a len)) ≡ end
 first-end test None zero a high count same within = refl
 first-end test (Some e) zero a high count same within = let low = within.0 in let up = within.1 in absurd (omega (arith, low, up, count))
 first-end test None (suc len) a high count same within =
@@ -179,9 +179,9 @@ module _ (changes : List Change) (lives : List Life) (lawful : AreLawful changes
       let a : ℕ = l.grant.moment.0 in
       let count : length changes + 1 ≡ a + (length changes + 1 - a) = let h = early_enough in omega arith in
       let fell : first_failure (stands_at changes l.grant) changes l.grant ≡ l.fell =
-      first-end (stands_at changes l.grant) l.fell (length changes + 1 - a) a (length changes) count same_fall (all_at (λ h. IsWithin h.grant.moment.0 (length changes) h.fell) lives k l at read.falls) in
+      first-end (stands_at changes l.grant) l.fell (length changes + 1 - a) a (length changes) count same_fall (all_at (λ h. EndsWithin h.grant.moment.0 (length changes) h.fell) lives k l at read.falls) in
       let end : first_failure (has_option_at changes l.grant) changes l.grant ≡ l.option_end =
-      first-end (has_option_at changes l.grant) l.option_end (length changes + 1 - a) a (length changes) count same_end (all_at (λ h. IsWithin h.grant.moment.0 (length changes) h.option_end) lives k l at read.ends) in
+      first-end (has_option_at changes l.grant) l.option_end (length changes + 1 - a) a (length changes) count same_end (all_at (λ h. EndsWithin h.grant.moment.0 (length changes) h.option_end) lives k l at read.ends) in
       let With_fell : Option Moment → Life = λ f. record { grant = l.grant; fell = f; option_end = first_failure (has_option_at changes l.grant) changes l.grant } in
       let With_end : Option Moment → Life = λ e. record { grant = l.grant; fell = l.fell; option_end = e } in
       ap With_fell fell ∙ ap With_end end

@@ -12,7 +12,7 @@ use Rattle.grants_core.specs.declared.grant.Grant.{Grant}
 use Rattle.grants_core.specs.declared.grant.Change.{Change}
 use Rattle.grants_core.specs.declared.grant.Change.TheVariants as change
 use Rattle.grants_core.specs.Valid.{valid}
-use Rattle.grants_core.specs.Content.{Content, names, without, singles, option_off, options_off}
+use Rattle.grants_core.specs.Content.{Rights, names, without, singles, option_off, options_off}
 use Rattle.grants_core.specs.History.{made_by, made_by_all, grants_of, granted_from, granted, owners_after, in_force_after}
 use Rattle.grants_core.proofs.GrantLemmas.{All-implied}
 use Rattle.grants_core.proofs.OwnersLemmas.{AllByRecursion-append, singles-all}
@@ -88,12 +88,12 @@ any-options_off test p (g ∷ gs) sees h =
 earlier_by_one : (test : Grant → Bool) (cs : List Change) (c : Change) (rest : List Change) → AreLawful (cs ++ c ∷ rest) → SeesOptions test → ((h : Grant) → test h ≡ true → h.number < made_by_all cs) → list_any test (in_force_after (cs ++ c ∷ [])) ≡ true → list_any test (in_force_after cs) ≡ true
 earlier_by_one test cs (change.Create table owner) rest lawful sees old h =
     let first = lawful.created cs rest table owner refl in
-    ap (λ (k : Content). list_any test k.in_force) (sym (content-create cs table owner first.1)) ∙ h
+    ap (λ (k : Rights). list_any test k.in_force) (sym (content-create cs table owner first.1)) ∙ h
 earlier_by_one test cs (change.Grant by atoms whom option) rest lawful sees old h =
     let new : List Grant = singles (made_by_all cs) (record { 0 = 1 + length cs }) by atoms whom option in
     let is = content-grant cs by atoms whom option (lawful.grantable cs rest by atoms whom option refl) in
     let both : (list_any test (in_force_after cs) || list_any test new) ≡ true =
-    sym (list_any-append test (in_force_after cs) new) ∙ ap (λ (k : Content). list_any test k.in_force) (sym is) ∙ h in
+    sym (list_any-append test (in_force_after cs) new) ∙ ap (λ (k : Rights). list_any test k.in_force) (sym is) ∙ h in
     ⊎_elim (λ (kept : list_any test (in_force_after cs) ≡ true). kept)
     (λ (made : list_any test new ≡ true). absurd (none_of_above test (made_by_all cs) new old (above-singles (made_by_all cs) (record { 0 = 1 + length cs }) by atoms whom option) made))
     (or_cases (list_any test (in_force_after cs)) (list_any test new) both)
@@ -106,7 +106,7 @@ earlier_by_one test cs (change.RevokeOption by atoms whom) rest lawful sees old 
     any-options_off test (names by atoms whom) (in_force_after cs) sees
     (list_any-part test (valid (owners_after cs) left) left (valid-part (owners_after cs) left) (ap (list_any test) (sym (in_force-revoke_option cs by atoms whom)) ∙ h))
 earlier_by_one test cs (change.Other) rest lawful sees old h =
-    ap (λ (k : Content). list_any test k.in_force) (sym (content-other cs)) ∙ h
+    ap (λ (k : Rights). list_any test k.in_force) (sym (content-other cs)) ∙ h
 
 -- nor do several
 earlier_by_all : (test : Grant → Bool) (cs mid rest : List Change) → AreLawful (cs ++ (mid ++ rest)) → SeesOptions test → ((h : Grant) → test h ≡ true → h.number < made_by_all cs) → list_any test (in_force_after (cs ++ mid)) ≡ true → list_any test (in_force_after cs) ≡ true

@@ -14,7 +14,7 @@ use Rattle.grants_core.specs.History.{made_by_all, granted, is_struck, is_unopti
 use Rattle.grants_core.proofs.ValidLemmas.{valid-part}
 use Rattle.explain_core.specs.declared.life.Life.{Life}
 use Rattle.explain_core.specs.Life.{left}
-use Rattle.explain_core.specs.Losses.{is_of}
+use Rattle.explain_core.specs.Losses.{is_of_atom}
 use Rattle.grants_core.specs.Lawful.{AreLawful}
 use Rattle.explain_core.specs.Lives.{stands_at, first_failure, fall_of, option_end_of, life_of, lives_of}
 use Rattle.explain_core.proofs.ListLemmas.{filter_alike, filter_both, map_alike, filter-map, map-map, list_any-map, list_any-weaker, list_any-both, at_place, from_places, Contains-at, filter-at, find_none, none_found, found, All-range, range-All}
@@ -184,8 +184,8 @@ gives-lives cs user atom lawful =
     ∙ list_any-both (λ life. is_none life.fell) (λ life. gives user atom (left life)) (lives_of cs)
 
 -- **the grants of an atom in force, told by the lives**
-pub left-of : (cs : List Change) (atom : Atom) → AreLawful cs → map left (filter (λ life. is_none life.fell && is_of atom life.grant) (lives_of cs)) ≡ filter (is_of atom) (in_force_after cs)
+pub left-of : (cs : List Change) (atom : Atom) → AreLawful cs → map left (filter (λ life. is_none life.fell && is_of_atom atom life.grant) (lives_of cs)) ≡ filter (is_of_atom atom) (in_force_after cs)
 left-of cs atom lawful =
-    ap (map left) (filter_both (λ life. is_none life.fell) (λ life. is_of atom life.grant) (lives_of cs))
-    ∙ sym (filter-map (is_of atom) left (filter (λ life. is_none life.fell) (lives_of cs)))
-    ∙ ap (filter (is_of atom)) (sym (in_force-left cs lawful))
+    ap (map left) (filter_both (λ life. is_none life.fell) (λ life. is_of_atom atom life.grant) (lives_of cs))
+    ∙ sym (filter-map (is_of_atom atom) left (filter (λ life. is_none life.fell) (lives_of cs)))
+    ∙ ap (filter (is_of_atom atom)) (sym (in_force-left cs lawful))

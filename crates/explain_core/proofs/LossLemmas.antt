@@ -16,13 +16,13 @@ use Rattle.grants_core.specs.declared.grant.Ownership.{Ownership}
 use Rattle.grants_core.specs.Owners.{owns}
 use Rattle.grants_core.specs.Valid.{kept_with, valid}
 use Rattle.grants_core.specs.Content.{gives, has_made, names, without}
-use Rattle.explain_core.specs.Losses.{is_of, holds_without, AreAllOf}
+use Rattle.explain_core.specs.Losses.{is_of_atom, holds_without, AreAllOf}
 use Rattle.explain_core.proofs.ListLemmas.{list_any-at}
 use Rattle.explain_core.proofs.CreationLemmas.{owns-once}
 
 -- the next of the grants of an atom
 module _ (grants : List Grant) (atom : Atom) (by : User) (place : ℕ) (g : Grant) (within : place < length grants) (is : g ≡ get_or grants place g) where
-  pub made_there : All (λ h. is_of atom h ≡ true) grants → same_user g.grantor by ≡ true → has_made grants by g.grantee atom ≡ true
+  pub made_there : All (λ h. is_of_atom atom h ≡ true) grants → same_user g.grantor by ≡ true → has_made grants by g.grantee atom ≡ true
   unfolding gives
   made_there all by_him =
       let of_it : same_atom g.atom atom ≡ true = ap (λ (h : Grant). same_atom h.atom atom) is ∙ all place g within in
@@ -49,7 +49,7 @@ nothing_valid o (g ∷ gs) none =
 
 -- what the owner leaves who revokes from all to whom he granted
 module _ (o : List Ownership) (atom : Atom) (by : User) (whom : List User) (owned : owns o by atom ≡ true) where
-  unnamed_unowned : (g : Grant) → is_of atom g ≡ true → (same_user g.grantor by ≡ true → list_any (λ v. same_user v g.grantee) whom ≡ true) → names by (atom ∷ []) whom g ≡ false → owns o g.grantor g.atom ≡ false
+  unnamed_unowned : (g : Grant) → is_of_atom atom g ≡ true → (same_user g.grantor by ≡ true → list_any (λ v. same_user v g.grantee) whom ≡ true) → names by (atom ∷ []) whom g ≡ false → owns o g.grantor g.atom ≡ false
   unfolding names
   unnamed_unowned g of_it listed unnamed =
       false_from_ne_true (owns o g.grantor g.atom)
@@ -65,7 +65,7 @@ module _ (o : List Ownership) (atom : Atom) (by : User) (whom : List User) (owne
       (and_from (same_user by g.grantor) (same_atom atom g.atom || false) (subst SameBy same_by (same_user-refl by)) (or_left (same_atom atom g.atom) false (subst SameOf (sym same_of) (same_atom-refl atom))))
       (listed (subst Same same_by (same_user-refl by)))))
 
-  all_unowned : (gs : List Grant) → AllByRecursion (λ g. is_of atom g ≡ true) gs → AllByRecursion (λ g. same_user g.grantor by ≡ true → list_any (λ v. same_user v g.grantee) whom ≡ true) gs → AllByRecursion (λ g. owns o g.grantor g.atom ≡ false) (without by (atom ∷ []) whom gs)
+  all_unowned : (gs : List Grant) → AllByRecursion (λ g. is_of_atom atom g ≡ true) gs → AllByRecursion (λ g. same_user g.grantor by ≡ true → list_any (λ v. same_user v g.grantee) whom ≡ true) gs → AllByRecursion (λ g. owns o g.grantor g.atom ≡ false) (without by (atom ∷ []) whom gs)
   all_unowned [] of_it listed = tt
   all_unowned (g ∷ gs) of_it listed =
       let rest : List Grant = without by (atom ∷ []) whom gs in
@@ -78,13 +78,13 @@ module _ (o : List Ownership) (atom : Atom) (by : User) (whom : List User) (owne
       (cases_Bool (names by (atom ∷ []) whom g))
 
   -- **it leaves no grant of the atom**
-  pub owner-leaves_none : (grants : List Grant) (user : User) → All (λ g. is_of atom g ≡ true) grants → AreAllOf by grants whom → holds_without o grants atom user by whom ≡ false
+  pub owner-leaves_none : (grants : List Grant) (user : User) → All (λ g. is_of_atom atom g ≡ true) grants → AreAllOf by grants whom → holds_without o grants atom user by whom ≡ false
   owner-leaves_none grants user of_it listed =
       ap (list_any (gives user atom))
       (nothing_valid o (without by (atom ∷ []) whom grants)
-      (all_unowned grants (recursion_from_All (λ g. is_of atom g ≡ true) grants of_it) (recursion_from_All (λ g. same_user g.grantor by ≡ true → list_any (λ v. same_user v g.grantee) whom ≡ true) grants listed)))
+      (all_unowned grants (recursion_from_All (λ g. is_of_atom atom g ≡ true) grants of_it) (recursion_from_All (λ g. same_user g.grantor by ≡ true → list_any (λ v. same_user v g.grantee) whom ≡ true) grants listed)))
 
 -- **so who still holds the atom then, not by the owner's revocation**
-pub unowned-holds : (o : List Ownership) (grants : List Grant) (atom : Atom) (user by : User) (whom : List User) → All (λ g. is_of atom g ≡ true) grants → AreAllOf by grants whom → holds_without o grants atom user by whom ≡ true → owns o by atom ≡ false
+pub unowned-holds : (o : List Ownership) (grants : List Grant) (atom : Atom) (user by : User) (whom : List User) → All (λ g. is_of_atom atom g ≡ true) grants → AreAllOf by grants whom → holds_without o grants atom user by whom ≡ true → owns o by atom ≡ false
 unowned-holds o grants atom user by whom of_it listed holds =
     false_from_ne_true (owns o by atom) (λ owned. both_ways (holds_without o grants atom user by whom) (owner-leaves_none o atom by whom owned grants user of_it listed) holds)

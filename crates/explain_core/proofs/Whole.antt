@@ -14,7 +14,7 @@ use Rattle.explain_core.specs.declared.supports.Supports.{Supports}
 use Rattle.grants_core.specs.Lawful.{AreLawful}
 use Rattle.explain_core.specs.Kept.{Explains, IsSupported}
 use Rattle.explain_core.specs.Ends.{next_ends}
-use Rattle.explain_core.specs.Reading.{EndsRight, IsWithin, AreLives, IsRead, AreEarlier}
+use Rattle.explain_core.specs.Reading.{EndsRight, EndsWithin, AreLives, IsRead, AreEarlier}
 use Rattle.explain_core.proofs.Standing.{grant_of}
 use Rattle.explain_core.proofs.Falling.{lives-right}
 
@@ -26,8 +26,8 @@ lives-none changes = record {
   made = refl;
   stand = λ m. refl;
   options = All-nothing (EndsRight changes);
-  falls = All-nothing (λ l. IsWithin l.grant.moment.0 (length changes) l.fell);
-  ends = All-nothing (λ l. IsWithin l.grant.moment.0 (length changes) l.option_end);
+  falls = All-nothing (λ l. EndsWithin l.grant.moment.0 (length changes) l.fell);
+  ends = All-nothing (λ l. EndsWithin l.grant.moment.0 (length changes) l.option_end);
 }
 
 -- at the beginning no life is read

@@ -22,15 +22,15 @@ holds_after changes user atom =
 
 -- each grant was made by the grantee of the one before, who had the privilege with the option from
 -- an earlier moment
-abbrev pub IsLinked : List Grant → Type 0
-IsLinked [] = Unit {0}
-IsLinked (g ∷ []) = Unit {0}
-IsLinked (g ∷ h ∷ more) = (supports g h ≡ true) × IsLinked (h ∷ more)
+abbrev pub EachSupportsNext : List Grant → Type 0
+EachSupportsNext [] = Unit {0}
+EachSupportsNext (g ∷ []) = Unit {0}
+EachSupportsNext (g ∷ h ∷ more) = (supports g h ≡ true) × EachSupportsNext (h ∷ more)
 
 -- A chain of grants in force, from the owner down to the last.
 pub record IsChain (changes : List Change) (chain : List Grant) (last : Grant) : Type 0 where
   pub in_force : All (λ g. Contains (in_force_after changes) g) chain
-  pub linked : IsLinked chain
+  pub linked : EachSupportsNext chain
   pub begins : (first : Grant) × (more : List Grant)
       × (chain ≡ first ∷ more) × (owns (owners_after changes) first.grantor first.atom ≡ true)
   pub ends : (front : List Grant) × (chain ≡ front ++ last ∷ [])

@@ -31,7 +31,8 @@ IsNearest changes user atom grantor =
 
 -- A revocation that its user may say, after which the other no longer holds the atom: from no one
 -- who could be left out, and by the nearest grantor whose revocation takes it.
-pub record Takes (changes : List Change) (user : User) (atom : Atom) (cut : Cut) : Type 0 where
+pub record TakesPrivilege (changes : List Change) (user : User) (atom : Atom) (cut : Cut)
+    : Type 0 where
   pub held : holds_after changes user atom ≡ true
   pub made : All (λ v. has_made (in_force_after changes) cut.by v atom ≡ true) cut.whom.items
   pub lost : holds_after (with_revoked changes cut.by atom cut.whom.items) user atom ≡ false
@@ -41,6 +42,6 @@ pub record Takes (changes : List Change) (user : User) (atom : Atom) (cut : Cut)
 
 -- nothing can take it from an owner, and nothing has to from who does not hold it
 abbrev pub IsCut : List Change → User → Atom → Option Cut → Type 0
-IsCut changes user atom (Some cut) = Takes changes user atom cut
+IsCut changes user atom (Some cut) = TakesPrivilege changes user atom cut
 IsCut changes user atom None =
     (owns (owners_after changes) user atom ≡ true) ⊎ (holds_after changes user atom ≡ false)

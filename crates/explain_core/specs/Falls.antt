@@ -9,7 +9,7 @@ use Rattle.grants_core.specs.declared.grant.Change.TheVariants as change
 use Rattle.grants_core.specs.Content.{names}
 use Rattle.explain_core.specs.declared.life.Life.{Life}
 use Rattle.explain_core.specs.Lives.{lives_of}
-use Rattle.explain_core.specs.Chains.{IsLinked}
+use Rattle.explain_core.specs.Chains.{EachSupportsNext}
 
 -- whether the change revokes the grant itself
 abbrev pub strikes : Change → Grant → Bool
@@ -36,7 +36,7 @@ IsChangeAt changes at c = (m : ℕ) × (at.0 ≡ m + 1) × (slice_get changes m 
 -- first was revoked, it is another grant.
 pub record IsDescent (changes : List Change) (at : Moment) (line : List Life) (last : Life) : Type 0 where
   pub made : All (λ life. Contains (lives_of changes) life) line
-  pub linked : IsLinked (map (λ life. life.grant) line)
+  pub linked : EachSupportsNext (map (λ life. life.grant) line)
   pub until : All (λ life. (life.option_end ≡ Some at) ⊎ (life ≡ last)) line
   pub fell : last.fell ≡ Some at
   pub begins : (first : Life) × (more : List Life) × (c : Change)

@@ -13,8 +13,8 @@ use Rattle.grants_core.specs.Content.{gives, has_made, without}
 use Rattle.explain_core.specs.declared.cut.Cut.{Cut}
 
 -- whether a grant is of the atom
-abbrev pub is_of : Atom → Grant → Bool
-is_of atom g = same_atom g.atom atom
+abbrev pub is_of_atom : Atom → Grant → Bool
+is_of_atom atom g = same_atom g.atom atom
 
 -- whether a grant gives the user the atom once this one has revoked it from these
 abbrev pub holds_without : List Ownership → List Grant → Atom → User → User → List User → Bool

@@ -38,9 +38,9 @@ EndsRight changes life =
     && (not (is_unoptioned (take m changes) life.grant) && is_before m life.fell))
 
 -- the end, if there is one, is between these moments
-abbrev pub IsWithin : ℕ → ℕ → Option Moment → Type 0
-IsWithin low high None = Unit {0}
-IsWithin low high (Some end) = (low ≤ end.0) × (end.0 ≤ high)
+abbrev pub EndsWithin : ℕ → ℕ → Option Moment → Type 0
+EndsWithin low high None = Unit {0}
+EndsWithin low high (Some end) = (low ≤ end.0) × (end.0 ≤ high)
 
 -- the lives of the first grants
 pub record AreLives (changes : List Change) (lives : List Life) : Type 0 where
@@ -49,8 +49,8 @@ pub record AreLives (changes : List Change) (lives : List Life) : Type 0 where
       → valid (owners_after changes) (left_at changes m (map (λ life. life.grant) lives))
       ≡ standing_at changes m lives
   pub options : All (EndsRight changes) lives
-  pub falls : All (λ life. IsWithin life.grant.moment.0 (length changes) life.fell) lives
-  pub ends : All (λ life. IsWithin life.grant.moment.0 (length changes) life.option_end) lives
+  pub falls : All (λ life. EndsWithin life.grant.moment.0 (length changes) life.fell) lives
+  pub ends : All (λ life. EndsWithin life.grant.moment.0 (length changes) life.option_end) lives
 
 -- the lives and supports of the first grants
 pub record IsRead (changes : List Change) (made : Made) (lives : List Life)

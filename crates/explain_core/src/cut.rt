@@ -3,7 +3,7 @@ ghost use Rattle.std.specs.Prelude.{◌≡◌, ◌&&◌, true, is_none, IfOk, Al
 ghost use Rattle.std.specs.List.{list_any};
 ghost use Rattle.grants_core.specs.Content.{gives, has_made};
 ghost use Rattle.grants_core.specs.History.{in_force_after};
-ghost use Rattle.explain_core.specs.Losses.{is_of, holds_without, IsLoss, AreNeeded, AreAllOf};
+ghost use Rattle.explain_core.specs.Losses.{is_of_atom, holds_without, IsLoss, AreNeeded, AreAllOf};
 ghost use Rattle.explain_core.specs.Losses.{IsLossBy, IsLossAlong};
 ghost use Rattle.explain_core.specs.Cuts.{IsCut};
 
@@ -33,7 +33,7 @@ struct Standing<'a> {
 impl<'a> Standing<'a> {
     /// To whom the grants by this user are, each once.
     fn grantees(&self, alloc: Global, by: &User) -> Result<Vec<User>, NoMemory>
-        requires { All (λ g. is_of self.now.atom.now g ≡ true) self.now.grants.now }
+        requires { All (λ g. is_of_atom self.now.atom.now g ≡ true) self.now.grants.now }
         ensures made { IfOk result (λ whom. All
             (λ v. has_made self.now.grants.now by.now v self.now.atom.now ≡ true) whom.items) }
         ensures all { IfOk result (λ whom. AreAllOf by.now self.now.grants.now whom.items) }
@@ -103,7 +103,7 @@ impl<'a> Standing<'a> {
     /// A revocation by this user that takes the atom from the other, if one does. One by the
     /// owner does.
     fn cut_by(&self, alloc: Global, user: &User, by: &User) -> Result<Option<Cut>, NoMemory>
-        requires { All (λ g. is_of self.now.atom.now g ≡ true) self.now.grants.now }
+        requires { All (λ g. is_of_atom self.now.atom.now g ≡ true) self.now.grants.now }
         ensures { IfOk result (λ cut. IsLossBy self.now.owners.now self.now.grants.now
             self.now.atom.now user.now by.now cut) }
     {
@@ -117,7 +117,7 @@ impl<'a> Standing<'a> {
 
     /// The first that takes it from him, by the grantors of the chain, from the last to the owner.
     fn cut(&self, alloc: Global, user: &User, chain: &[Grant]) -> Result<Option<Cut>, NoMemory>
-        requires { All (λ g. is_of self.now.atom.now g ≡ true) self.now.grants.now }
+        requires { All (λ g. is_of_atom self.now.atom.now g ≡ true) self.now.grants.now }
         ensures { IfOk result (λ cut. IsLossAlong self.now.owners.now self.now.grants.now
             self.now.atom.now user.now chain.now cut) }
     {
@@ -139,7 +139,7 @@ fn gives_any(grants: &[Grant], user: &User, atom: &Atom) -> bool
 
 /// Whether the grant stands, and is of the atom.
 fn stands_of(life: &Life, atom: &Atom) -> bool
-    ensures { result ≡ (is_none life.now.fell && is_of atom.now life.now.grant) }
+    ensures { result ≡ (is_none life.now.fell && is_of_atom atom.now life.now.grant) }
 {
     life.fell.is_none() && life.grant.atom == *atom
 }
@@ -148,7 +148,7 @@ impl History {
     /// The grants of the atom in force, in order.
     fn standing_of(&self, alloc: Global, atom: &Atom) -> Result<Vec<Grant>, NoMemory>
         ensures { IfOk result (λ grants. grants.items
-            ≡ filter (is_of atom.now) (in_force_after self.now)) }
+            ≡ filter (is_of_atom atom.now) (in_force_after self.now)) }
     {
         let mut grants = Vec::new(alloc);
         for life in &self.lives {

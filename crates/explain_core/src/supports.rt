@@ -47,6 +47,7 @@ pub struct Supports {
 }
 
 impl Supports {
+    /// Nothing was noted yet.
     pub fn new(alloc: Global) -> Supports
         ensures noted { result.noted ≡ 0 }
         ensures longest { result.longest.entries ≡ [] }

@@ -12,11 +12,11 @@ use Rattle.explain_text.specs.declared.fault.ExplainFault.TheVariants as faults
 use Rattle.explain_text.specs.Questions.{word, user_word, table_word, privilege_words}
 
 -- why a line says no change that would be done, as a session would be told it
-abbrev pub undone_text : Undone → List ℕ
-undone_text (undone.Fault code offset) = without_last (fault_text code offset)
-undone_text undone.Unread = codes "no memory"
-undone_text undone.NoChange = codes "no change: only a change can take a right"
-undone_text (undone.Answer reply) = without_last (reply_text reply)
+abbrev pub supposed_text : Undone → List ℕ
+supposed_text (undone.Fault code offset) = without_last (fault_text code offset)
+supposed_text undone.Unread = codes "no memory"
+supposed_text undone.NoChange = codes "no change: only a change can take a right"
+supposed_text (undone.Answer reply) = without_last (reply_text reply)
 
 -- words as they were given, in quotes, and what they are not
 abbrev pub given : List ℕ → List ℕ → List ℕ
@@ -41,7 +41,7 @@ unanswered_text question (reasons.NoColumn table column) =
     codes "no column " ++ (column ++ (codes " in " ++ table))
 unanswered_text question reasons.NoGraph =
     word question ++ codes " has no dot: its formats are text and csv"
-unanswered_text question (reasons.Undone why) = undone_text why
+unanswered_text question (reasons.Undone why) = supposed_text why
 
 -- what is told of a fault, without a line end
 abbrev pub explain_fault_text : Question → ExplainFault → List ℕ

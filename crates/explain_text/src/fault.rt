@@ -2,7 +2,7 @@
 ghost use Rattle.std.specs.Prelude.{◌≡◌, ◌++◌, codes, IfOk};
 ghost use Rattle.reply_core.specs.Texts.{fault_text};
 ghost use Rattle.load_core.specs.FaultTexts.{without_last};
-ghost use Rattle.explain_text.specs.FaultTexts.{undone_text, given, unanswered_text};
+ghost use Rattle.explain_text.specs.FaultTexts.{supposed_text, given, unanswered_text};
 ghost use Rattle.explain_text.specs.FaultTexts.{explain_fault_text, is_final, is_of_the_question};
 
 use crate::question::Question;
@@ -150,7 +150,7 @@ fn fault_line(alloc: Global, code: Code, offset: usize) -> Result<Vec<u8>, NoMem
 
 /// Why a line says no change that would be done: what a session would be told of it.
 fn undone_text(alloc: Global, why: &Undone) -> Result<Vec<u8>, NoMemory>
-    ensures { IfOk result (λ text. text.items ≡ undone_text why.now) }
+    ensures { IfOk result (λ text. text.items ≡ supposed_text why.now) }
 {
     match why {
         Undone::Fault { code, offset } => {

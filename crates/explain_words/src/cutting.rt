@@ -151,6 +151,20 @@ fn lack_remark(
     Ok(text.bytes)
 }
 
+/// The cuts, as this format tells them.
+fn text_of(
+    alloc: Global,
+    tables: &Tables,
+    cuts: &[Cuts],
+    table: &Name,
+    format: Format,
+) -> Result<Vec<u8>, NoMemory> {
+    match format {
+        Format::Csv => records_of(alloc, cuts),
+        Format::Text | Format::Dot => lines_of(alloc, tables, cuts, table),
+    }
+}
+
 /// What would take the atoms from the user. It is no where he owns the table. Where nothing is
 /// taken, the remark says why.
 pub fn cut_answer(
@@ -162,19 +176,15 @@ pub fn cut_answer(
     format: Format,
 ) -> Result<Answer, NoMemory> {
     let cuts = cuts_of(alloc, past, user, atoms)?;
-    let is_owner = past.tables.owner(*table) == Some(*user);
-    let remark = if is_owner {
+    let text = text_of(alloc, past.tables, &cuts, table, format)?;
+    let is_yes = past.tables.owner(*table) != Some(*user);
+    let remark = if !is_yes {
         Some(owner_remark(alloc, user, table)?)
     } else if cuts.is_empty() {
         Some(lack_remark(alloc, past.tables, user, table, atoms)?)
     } else {
         None
     };
-    let text = match format {
-        Format::Csv => records_of(alloc, &cuts)?,
-        Format::Text | Format::Dot => lines_of(alloc, past.tables, &cuts, table)?,
-    };
-    let is_yes = !is_owner;
     Ok(Answer {
         text,
         is_yes,

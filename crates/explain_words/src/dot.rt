@@ -238,6 +238,22 @@ pub fn put_grants_graph(
     put_graph(text, alloc, past, table, atoms, &marks)
 }
 
+/// Marks what tells why the user holds the atoms, or how he lost them. Says whether he holds them
+/// all.
+fn mark_each(
+    marks: &mut Marks,
+    alloc: Global,
+    past: &Past<'_>,
+    user: &User,
+    atoms: &[Atom],
+) -> Result<bool, NoMemory> {
+    let mut holds = true;
+    for atom in atoms {
+        holds &= mark_why(marks, alloc, past, user, atom)?;
+    }
+    Ok(holds)
+}
+
 /// Appends the graph of the atoms on the table, in which what tells why the user holds them is
 /// blue, and what tells how he lost them is red. Says whether he holds them all.
 pub fn put_why_graph(
@@ -249,10 +265,7 @@ pub fn put_why_graph(
     atoms: &[Atom],
 ) -> Result<bool, NoMemory> {
     let mut marks = no_marks(alloc, past)?;
-    let mut holds = true;
-    for atom in atoms {
-        holds &= mark_why(&mut marks, alloc, past, user, atom)?;
-    }
+    let holds = mark_each(&mut marks, alloc, past, user, atoms)?;
     put_graph(text, alloc, past, table, atoms, &marks)?;
     Ok(holds)
 }

@@ -139,6 +139,53 @@ fn push_head(
     teller.rows.push_alone(left)
 }
 
+/// The rows of a group, under its head.
+fn push_group(
+    teller: &mut Teller<'_>,
+    table: &Name,
+    owned: &Owned,
+    group: Group,
+) -> Result<(), NoMemory> {
+    push_head(teller, table, owned, &group)?;
+    let Group { rows, .. } = group;
+    teller.rows.append(rows)
+}
+
+fn push_groups(
+    teller: &mut Teller<'_>,
+    table: &Name,
+    owned: &Owned,
+    groups: Vec<Group>,
+) -> Result<(), NoMemory> {
+    for group in groups {
+        push_group(teller, table, owned, group)?;
+    }
+    Ok(())
+}
+
+/// Those who hold the atoms on the table by grants, together by atoms.
+fn grouped(
+    teller: &mut Teller<'_>,
+    table: &Name,
+    owned: &Owned,
+    atoms: &[Atom],
+) -> Result<Vec<Group>, NoMemory> {
+    let holders = holders_of(teller.alloc, &teller.past, table, &owned.owner)?;
+    groups_of(teller, &holders, atoms)
+}
+
+/// The owner's row, and behind it those of each group.
+fn push_all(
+    teller: &mut Teller<'_>,
+    table: &Name,
+    owned: &Owned,
+    atoms: &[Atom],
+) -> Result<(), NoMemory> {
+    let groups = grouped(teller, table, owned, atoms)?;
+    teller.push_owner(0, table, owned)?;
+    push_groups(teller, table, owned, groups)
+}
+
 /// Appends who holds the atoms on the table: its owner, and for each privilege who holds it by
 /// which chain.
 pub fn put_holders(
@@ -148,19 +195,21 @@ pub fn put_holders(
     table: &Name,
     atoms: &[Atom],
 ) -> Result<(), NoMemory> {
-    let mut teller = Teller::new(alloc, *past)?;
     let Some(owned) = past.owned(table) else {
         return Ok(());
     };
-    let holders = holders_of(alloc, past, table, &owned.owner)?;
-    let groups = groups_of(&mut teller, &holders, atoms)?;
-    teller.push_owner(0, table, &owned)?;
-    for group in groups {
-        push_head(&mut teller, table, &owned, &group)?;
-        let Group { rows, .. } = group;
-        teller.rows.append(rows)?;
-    }
+    let mut teller = Teller::new(alloc, *past)?;
+    push_all(&mut teller, table, &owned, atoms)?;
     teller.rows.write(text)
+}
+
+/// The record of who holds an atom by a grant in force.
+fn put_record(records: &mut Records, life: &Life) -> Result<(), NoMemory> {
+    records.put_holding(&life.grant.grantee.0, &life.grant.atom)?;
+    records.put_flag(life.option_end.is_none())?;
+    records.put_moment(Some(life.grant.moment))?;
+    records.put_name(&life.grant.grantor.0)?;
+    records.end()
 }
 
 /// The records of those who hold the atoms on the table by grants in force.
@@ -172,11 +221,7 @@ pub fn holders_as_records(
     let mut records = Records::under(alloc, &FIELDS)?;
     for life in past.history.lives() {
         if life.fell.is_none() && atoms.contains(&life.grant.atom) {
-            records.put_holding(&life.grant.grantee.0, &life.grant.atom)?;
-            records.put_flag(life.option_end.is_none())?;
-            records.put_moment(Some(life.grant.moment))?;
-            records.put_name(&life.grant.grantor.0)?;
-            records.end()?;
+            put_record(&mut records, life)?;
         }
     }
     records.finish()

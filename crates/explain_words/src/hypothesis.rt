@@ -7,6 +7,7 @@ use crate::outcomes::{Outcome, Outcomes, users_of};
 use crate::past::Past;
 use crate::privileges::{are_of_word, atoms_of_table, push_atom, put_privilege};
 use crate::prose::Prose;
+use crate::quoting::Quotes;
 use crate::records::Records;
 use crate::teller::Teller;
 use base_core::{Atom, Moment, Name, NoMemory, User};
@@ -86,23 +87,35 @@ fn put_more_grantees(text: &mut Prose, folds: &[Fold]) -> Result<(), NoMemory> {
     Ok(())
 }
 
-/// `  falls: @13 bob -> cy, di, with option`, and the line that granted it, of folds that are
-/// alike. The privilege is told where it is not all that the change names.
+/// `falls: @13 bob -> cy, di, with option`, of a fold and of others that are alike. The privilege is
+/// told where it is not all that the change names.
+fn put_taken(
+    text: &mut Prose,
+    past: &Past<'_>,
+    first: &Fold,
+    others: &[Fold],
+    at: Moment,
+) -> Result<(), NoMemory> {
+    put_taking(text, past, &first.life, at)?;
+    put_arrow(text, &first.life.grant)?;
+    put_more_grantees(text, others)?;
+    if !is_all_named(past, first, at) {
+        text.put(b", ")?;
+        put_privilege(text, past.tables, &first.atoms)?;
+    }
+    if first.life.fell == Some(at) {
+        put_option(text, &first.life)?;
+    }
+    Ok(())
+}
+
+/// The row of folds that are alike, with the line that granted them.
 fn push_taken(teller: &mut Teller<'_>, folds: &[Fold], at: Moment) -> Result<(), NoMemory> {
     let Some((first, others)) = folds.split_first() else {
         return Ok(());
     };
     let mut left = teller.indented(2)?;
-    put_taking(&mut left, &teller.past, &first.life, at)?;
-    put_arrow(&mut left, &first.life.grant)?;
-    put_more_grantees(&mut left, others)?;
-    if !is_all_named(&teller.past, first, at) {
-        left.put(b", ")?;
-        put_privilege(&mut left, teller.past.tables, &first.atoms)?;
-    }
-    if first.life.fell == Some(at) {
-        put_option(&mut left, &first.life)?;
-    }
+    put_taken(&mut left, &teller.past, first, others, at)?;
     teller.push_quoted(left, first.life.grant.moment)
 }
 
@@ -221,29 +234,49 @@ fn push_outcomes(
     Ok(())
 }
 
+/// The last change, which is only supposed.
+fn put_supposed(text: &mut Prose, quotes: &mut Quotes, past: &Past<'_>) -> Result<(), NoMemory> {
+    let at = past.now();
+    text.put_moment(at)?;
+    text.put(b" would be ")?;
+    quotes.put_statement(text, past, at)
+}
+
+fn push_supposed(teller: &mut Teller<'_>) -> Result<(), NoMemory> {
+    let mut left = teller.indented(0)?;
+    put_supposed(&mut left, &mut teller.quotes, &teller.past)?;
+    teller.rows.push_alone(left)
+}
+
+fn push_nothing_taken(teller: &mut Teller<'_>) -> Result<(), NoMemory> {
+    let mut left = teller.indented(2)?;
+    left.put(b"it takes nothing from anybody")?;
+    teller.rows.push_alone(left)
+}
+
+/// What the change of the moment takes: these, of one table.
+fn push_consequences(teller: &mut Teller<'_>, lives: &[Life], at: Moment) -> Result<(), NoMemory> {
+    let Some(first) = lives.first() else {
+        return push_nothing_taken(teller);
+    };
+    push_all_taken(teller, lives, at)?;
+    let outcomes = Outcomes::read(teller.alloc, &teller.past, lives, at)?;
+    push_outcomes(teller, &outcomes, &first.grant.atom.table)
+}
+
+/// Pushes all that is told of the last change.
+fn push_all(teller: &mut Teller<'_>) -> Result<(), NoMemory> {
+    let at = teller.past.now();
+    push_supposed(teller)?;
+    let lives = teller.past.history.taken_at(teller.alloc, at)?;
+    push_consequences(teller, &lives, at)
+}
+
 /// Appends what the last change takes, which is only supposed: the grants that it revokes, those
 /// that fall with them, and who loses what, or keeps it by which chain.
 pub fn put_consequences(text: &mut Prose, alloc: Global, past: &Past<'_>) -> Result<(), NoMemory> {
-    let at = past.now();
     let mut teller = Teller::new(alloc, *past)?;
-    let mut left = teller.indented(0)?;
-    left.put_moment(at)?;
-    left.put(b" would be ")?;
-    teller.quotes.put_statement(&mut left, past, at)?;
-    teller.rows.push_alone(left)?;
-    let lives = past.history.taken_at(alloc, at)?;
-    match lives.first() {
-        Some(first) => {
-            push_all_taken(&mut teller, &lives, at)?;
-            let outcomes = Outcomes::read(alloc, past, &lives, at)?;
-            push_outcomes(&mut teller, &outcomes, &first.grant.atom.table)?;
-        }
-        None => {
-            let mut left = teller.indented(2)?;
-            left.put(b"it takes nothing from anybody")?;
-            teller.rows.push_alone(left)?;
-        }
-    }
+    push_all(&mut teller)?;
     teller.rows.write(text)
 }
 
@@ -270,21 +303,53 @@ fn outcome_words(past: &Past<'_>, outcomes: &Outcomes, life: &Life) -> &'static 
     }
 }
 
+/// The record of a grant that is taken, or whose option is.
+fn put_consequence(
+    records: &mut Records,
+    past: &Past<'_>,
+    outcomes: &Outcomes,
+    life: &Life,
+    at: Moment,
+) -> Result<(), NoMemory> {
+    records.put_holding(&life.grant.grantee.0, &life.grant.atom)?;
+    records.put_flag(life.loses_option_at(at))?;
+    records.put_moment(Some(life.grant.moment))?;
+    records.put_name(&life.grant.grantor.0)?;
+    records.put(taking_word(past, life, at))?;
+    records.put_any(past.line_of(life.grant.moment))?;
+    records.put(outcome_words(past, outcomes, life))?;
+    records.end()
+}
+
+/// The records of those that are taken, with what is left to their users.
+fn records_of(
+    alloc: Global,
+    past: &Past<'_>,
+    outcomes: &Outcomes,
+    lives: &[Life],
+    at: Moment,
+) -> Result<Vec<u8>, NoMemory> {
+    let mut records = Records::under(alloc, &FIELDS)?;
+    for life in lives {
+        put_consequence(&mut records, past, outcomes, life, at)?;
+    }
+    records.finish()
+}
+
+/// The records of those that the change of the moment takes.
+fn taken_as_records(
+    alloc: Global,
+    past: &Past<'_>,
+    lives: &[Life],
+    at: Moment,
+) -> Result<Vec<u8>, NoMemory> {
+    let outcomes = Outcomes::read(alloc, past, lives, at)?;
+    records_of(alloc, past, &outcomes, lives, at)
+}
+
 /// A record for each grant that the last change takes, which is only supposed, or its option.
 pub fn consequences_as_records(alloc: Global, past: &Past<'_>) -> Result<Vec<u8>, NoMemory> {
     let at = past.now();
     let lives = past.history.taken_at(alloc, at)?;
-    let outcomes = Outcomes::read(alloc, past, &lives, at)?;
-    let mut records = Records::under(alloc, &FIELDS)?;
-    for life in &lives {
-        records.put_holding(&life.grant.grantee.0, &life.grant.atom)?;
-        records.put_flag(life.loses_option_at(at))?;
-        records.put_moment(Some(life.grant.moment))?;
-        records.put_name(&life.grant.grantor.0)?;
-        records.put(taking_word(past, life, at))?;
-        records.put_any(past.line_of(life.grant.moment))?;
-        records.put(outcome_words(past, &outcomes, life))?;
-        records.end()?;
-    }
-    records.finish()
+    taken_as_records(alloc, past, &lives, at)
 }

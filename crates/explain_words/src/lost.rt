@@ -1,6 +1,7 @@
 //! Rights that were lost, and how.
 
 use crate::lives::{put_arrow, put_life, put_option};
+use crate::past::Past;
 use crate::prose::Prose;
 use crate::rows::{Shown, shown_at};
 use crate::teller::Teller;
@@ -104,15 +105,32 @@ fn put_reasons(text: &mut Prose, other: &Other, at: Moment) -> Result<(), NoMemo
     })
 }
 
+/// That a grant did not keep another one, and why.
+fn put_other(text: &mut Prose, other: &Other, at: Moment) -> Result<(), NoMemory> {
+    put_arrow(text, &other.life.grant)?;
+    text.put(b" did not keep ")?;
+    text.put_moment(other.unkept)?;
+    text.put(b": ")?;
+    put_reasons(text, other, at)
+}
+
+/// A grant that has fallen at the moment.
+fn put_end(text: &mut Prose, past: &Past<'_>, life: &Life, at: Moment) -> Result<(), NoMemory> {
+    put_arrow(text, &life.grant)?;
+    put_option(text, life)?;
+    text.put(if past.is_struck(life) {
+        b", revoked ".as_slice()
+    } else {
+        b", fell ".as_slice()
+    })?;
+    text.put_moment(at)
+}
+
 impl<'a> Teller<'a> {
     /// That a grant did not keep another one, and why.
     fn push_other(&mut self, other: &Other, at: Moment) -> Result<(), NoMemory> {
         let mut left = self.indented(4)?;
-        put_arrow(&mut left, &other.life.grant)?;
-        left.put(b" did not keep ")?;
-        left.put_moment(other.unkept)?;
-        left.put(b": ")?;
-        put_reasons(&mut left, other, at)?;
+        put_other(&mut left, other, at)?;
         self.rows.push_alone(left)
     }
 
@@ -183,18 +201,22 @@ impl<'a> Teller<'a> {
     /// A grant that has fallen at the moment, and the REVOKE that it fell by.
     fn push_end(&mut self, life: &Life, at: Moment) -> Result<(), NoMemory> {
         let mut left = self.indented(2)?;
-        put_arrow(&mut left, &life.grant)?;
-        put_option(&mut left, life)?;
-        left.put(if self.past.is_struck(life) {
-            b", revoked ".as_slice()
-        } else {
-            b", fell ".as_slice()
-        })?;
-        left.put_moment(at)?;
+        put_end(&mut left, &self.past, life, at)?;
         self.push_quoted(left, life.grant.moment)?;
         let mut left = self.indented(4)?;
         left.put(b"by this REVOKE")?;
         self.push_quoted(left, at)
+    }
+
+    fn push_descent_and_others(
+        &mut self,
+        lives: &[Life],
+        descent: &[Life],
+        at: Moment,
+    ) -> Result<(), NoMemory> {
+        self.push_descent(descent, at)?;
+        let others = others_of(self.alloc, lives, descent, at)?;
+        self.push_all_others(&others, at)
     }
 
     /// How a grant fell, and why no other of these lives, which are all of its privilege, kept it.
@@ -204,9 +226,7 @@ impl<'a> Teller<'a> {
         };
         self.push_end(life, at)?;
         let descent = self.past.descent_to(self.alloc, life.grant.number)?;
-        self.push_descent(&descent, at)?;
-        let others = others_of(self.alloc, lives, &descent, at)?;
-        self.push_all_others(&others, at)
+        self.push_descent_and_others(lives, &descent, at)
     }
 
     /// How each of the grants fell that were made to a user.

@@ -18,11 +18,13 @@ impl Prose {
         }
     }
 
+    /// Appends these bytes.
     pub fn put(&mut self, part: &[u8]) -> Result<(), NoMemory> {
         self.bytes.extend_from_slice(part)?;
         Ok(())
     }
 
+    /// Appends a name.
     pub fn put_name(&mut self, name: &Name) -> Result<(), NoMemory> {
         self.put(name.as_bytes())
     }
@@ -39,6 +41,7 @@ impl Prose {
         self.put_number(at.0)
     }
 
+    /// Appends so many blanks.
     pub fn put_blanks(&mut self, count: usize) -> Result<(), NoMemory> {
         for _ in 0..count {
             self.put(b" ")?;

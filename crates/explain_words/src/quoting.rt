@@ -14,6 +14,7 @@ pub struct Quotes {
 }
 
 impl Quotes {
+    /// A page to quote on. `NoMemory` where a request for memory was refused.
     pub fn new(alloc: Global) -> Result<Quotes, NoMemory> {
         let page = Page::new(alloc)?;
         Ok(Quotes { alloc, page })

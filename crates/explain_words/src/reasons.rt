@@ -31,24 +31,35 @@ impl Part {
     }
 
     /// The line above its rows: `eve lacks SELECT on pay @27`.
-    fn head(&self, teller: &Teller<'_>, user: &User, table: &Name) -> Result<Prose, NoMemory> {
-        let mut left = teller.indented(0)?;
-        left.put_name(&user.0)?;
-        left.put(if self.holds {
+    fn put_head(
+        &self,
+        text: &mut Prose,
+        past: &Past<'_>,
+        user: &User,
+        table: &Name,
+    ) -> Result<(), NoMemory> {
+        text.put_name(&user.0)?;
+        text.put(if self.holds {
             b" holds ".as_slice()
         } else {
             b" lacks ".as_slice()
         })?;
-        put_privilege(&mut left, teller.past.tables, &self.atoms)?;
-        left.put_all(&[b" on ", table.as_bytes(), b" "])?;
-        left.put_moment(teller.past.now())?;
+        put_privilege(text, past.tables, &self.atoms)?;
+        text.put_all(&[b" on ", table.as_bytes(), b" "])?;
+        text.put_moment(past.now())?;
         if self.option {
-            left.put(b", with option")?;
+            text.put(b", with option")?;
         }
         if !self.given {
-            left.put(b": nobody ever granted it to ")?;
-            left.put_name(&user.0)?;
+            text.put(b": nobody ever granted it to ")?;
+            text.put_name(&user.0)?;
         }
+        Ok(())
+    }
+
+    fn head(&self, teller: &Teller<'_>, user: &User, table: &Name) -> Result<Prose, NoMemory> {
+        let mut left = teller.indented(0)?;
+        self.put_head(&mut left, &teller.past, user, table)?;
         Ok(left)
     }
 }
@@ -161,6 +172,49 @@ fn parts_of(
     Ok(parts)
 }
 
+/// The rows of a part, under its head. Says whether he holds its atoms.
+fn push_part(
+    teller: &mut Teller<'_>,
+    user: &User,
+    table: &Name,
+    part: Part,
+) -> Result<bool, NoMemory> {
+    let head = part.head(teller, user, table)?;
+    teller.rows.push_alone(head)?;
+    let Part { holds, rows, .. } = part;
+    teller.rows.append(rows)?;
+    Ok(holds)
+}
+
+fn push_parts(
+    teller: &mut Teller<'_>,
+    user: &User,
+    table: &Name,
+    parts: Vec<Part>,
+) -> Result<bool, NoMemory> {
+    let mut holds = true;
+    for part in parts {
+        holds &= push_part(teller, user, table, part)?;
+    }
+    Ok(holds)
+}
+
+/// The rows that tell why the user holds the atoms, or does not. Says whether he holds them all.
+fn push_reasons(
+    teller: &mut Teller<'_>,
+    user: &User,
+    table: &Name,
+    atoms: &[Atom],
+    owned: &Owned,
+) -> Result<bool, NoMemory> {
+    if owned.owner == *user {
+        teller.push_owner(0, table, owned)?;
+        return Ok(true);
+    }
+    let parts = parts_of(teller, user, atoms, owned)?;
+    push_parts(teller, user, table, parts)
+}
+
 /// Appends why the user holds the atoms of one privilege on the table, or why he does not, and says
 /// whether he holds them all.
 pub fn put_reasons_of(
@@ -171,23 +225,11 @@ pub fn put_reasons_of(
     table: &Name,
     atoms: &[Atom],
 ) -> Result<bool, NoMemory> {
-    let mut teller = Teller::new(alloc, *past)?;
     let Some(owned) = past.owned(table) else {
         return Ok(false);
     };
-    if owned.owner == *user {
-        teller.push_owner(0, table, &owned)?;
-        teller.rows.write(text)?;
-        return Ok(true);
-    }
-    let mut holds = true;
-    for part in parts_of(&mut teller, user, atoms, &owned)? {
-        holds &= part.holds;
-        let head = part.head(&teller, user, table)?;
-        teller.rows.push_alone(head)?;
-        let Part { rows, .. } = part;
-        teller.rows.append(rows)?;
-    }
+    let mut teller = Teller::new(alloc, *past)?;
+    let holds = push_reasons(&mut teller, user, table, atoms, &owned)?;
     teller.rows.write(text)?;
     Ok(holds)
 }

@@ -37,10 +37,12 @@ impl Records {
         }
     }
 
+    /// A name as a field.
     pub fn put_name(&mut self, name: &Name) -> Result<(), NoMemory> {
         self.put(name.as_bytes())
     }
 
+    /// A number as a field, in plain decimal.
     pub fn put_number(&mut self, number: u64) -> Result<(), NoMemory> {
         let mut digits = Buffer::new();
         self.put(digits.format(number).as_bytes())

@@ -64,6 +64,7 @@ fn indent_of(left: &[u8]) -> usize {
 }
 
 impl Rows {
+    /// No rows yet.
     pub fn new(alloc: Global) -> Rows {
         Rows {
             alloc,
@@ -71,10 +72,12 @@ impl Rows {
         }
     }
 
+    /// Whether there is no row.
     pub fn is_empty(&self) -> bool {
         self.rows.is_empty()
     }
 
+    /// Appends a row of two columns.
     pub fn push(&mut self, left: Prose, right: Vec<u8>) -> Result<(), NoMemory> {
         self.rows.push(Row {
             left: left.bytes,

@@ -18,6 +18,7 @@ pub struct Teller<'a> {
 }
 
 impl<'a> Teller<'a> {
+    /// Tells of this past. `NoMemory` where a request for memory was refused.
     pub fn new(alloc: Global, past: Past<'a>) -> Result<Teller<'a>, NoMemory> {
         let quotes = Quotes::new(alloc)?;
         Ok(Teller {

@@ -3,7 +3,7 @@ use Rattle.std.proofs.Common.{◌≡◌, true, if◌then◌else◌, IsSomeAnd, O
 use Rattle.std.specs.List.{find, flat_map}
 use Rattle.std.specs.Option.{option_to_list}
 use Rattle.base_core.specs.Words.{same_name}
-use Rattle.export_core.specs.Export.{table_records, held, listed, is_any, listed_lines, withheld_line, end_line}
+use Rattle.export_core.specs.Export.{table_records, held, listed_marks, is_any, listed_lines, withheld_line, end_line}
 use Rattle.export_core.specs.Laws.{ListsAlone}
 
 there : {X : Type 0} (o : Option X) (P : X → Type 0) → IsSomeAnd o P → (x : X) × (o ≡ Some x) × P x
@@ -12,8 +12,8 @@ there (Some x) P holds = (x, refl, holds)
 
 pub lists_alone : ListsAlone
 lists_alone image now user name allowed =
-    let (t, found, any) = there (find (λ u. same_name name u.name) image.tables) (λ u. is_any (listed image now user u.name u.columns) ≡ true) allowed in
-    let marks = listed image now user t.name t.columns in
+    let (t, found, any) = there (find (λ u. same_name name u.name) image.tables) (λ u. is_any (listed_marks image now user u.name u.columns) ≡ true) allowed in
+    let marks = listed_marks image now user t.name t.columns in
     let withheld = withheld_line t.name (if is_any (held image user t.name t.columns) then codes "now" else codes "point") ∷ [] in (
       t,
       found,

@@ -9,7 +9,7 @@ use Rattle.std.proofs.lemmas.Option.{none-some, slice_get_within}
 use Rattle.base_core.specs.Streams.{WritesFront}
 use Rattle.export_core.specs.declared.fault.ExportFault.{ExportFault}
 use Rattle.export_core.specs.declared.fault.ExportFault.TheVariants as faults
-use Rattle.export_core.specs.Ticket.{Exporting, after_giving, finished, WritesRecords, BreaksRecord, Stops}
+use Rattle.export_core.specs.Ticket.{TicketState, after_giving, finished, WritesRecords, BreaksRecord, Stops}
 use Rattle.export_core.proofs.Places.{slice_get-drop}
 
 take-add : {X : Type 0} (n m : ℕ) (xs : List X) → take (n + m) xs ≡ take n xs ++ take m (drop n xs)
@@ -20,29 +20,29 @@ take-add n m xs =
     ∙ ap (λ l. take n xs ++ l) (drop-take n m xs)
 
 -- an export with these records given and these to come
-abbrev with_records : Exporting → List (List ℕ) → List (List ℕ) → Exporting
+abbrev with_records : TicketState → List (List ℕ) → List (List ℕ) → TicketState
 with_records e given to_come = record e { given = given; to_come = to_come }
 
-same_records : (e : Exporting) (given to_come given' to_come' : List (List ℕ)) → given ≡ given' → to_come ≡ to_come' → with_records e given to_come ≡ with_records e given' to_come'
+same_records : (e : TicketState) (given to_come given' to_come' : List (List ℕ)) → given ≡ given' → to_come ≡ to_come' → with_records e given to_come ≡ with_records e given' to_come'
 same_records e given to_come given' to_come' one other = ap (λ l. with_records e l to_come) one ∙ ap (λ l. with_records e given' l) other
 
-pub giving_none : (e : Exporting) → after_giving 0 e ≡ e
+pub giving_none : (e : TicketState) → after_giving 0 e ≡ e
 giving_none e = same_records e (e.given ++ []) e.to_come e.given e.to_come (append-nil e.given) refl
 
-pub giving_more : (n m : ℕ) (e : Exporting) → after_giving m (after_giving n e) ≡ after_giving (n + m) e
+pub giving_more : (n m : ℕ) (e : TicketState) → after_giving m (after_giving n e) ≡ after_giving (n + m) e
 giving_more n m e =
     let xs = e.to_come in
     same_records e ((e.given ++ take n xs) ++ take m (drop n xs)) (drop m (drop n xs)) (e.given ++ take (n + m) xs) (drop (n + m) xs)
     (append_assoc e.given (take n xs) (take m (drop n xs)) ∙ ap (λ l. e.given ++ l) (sym (take-add n m xs)))
     (drop-drop m n xs)
 
-pub giving_keeps : (n : ℕ) (e : Exporting) → (after_giving n e).given ++ (after_giving n e).to_come ≡ e.given ++ e.to_come
+pub giving_keeps : (n : ℕ) (e : TicketState) → (after_giving n e).given ++ (after_giving n e).to_come ≡ e.given ++ e.to_come
 giving_keeps n e = append_assoc e.given (take n e.to_come) (drop n e.to_come) ∙ ap (λ l. e.given ++ l) (take-append-drop n e.to_come)
 
-pub writes_none : (e : Exporting) (w : Option (List ℕ)) → WritesRecords 0 e e w w
+pub writes_none : (e : TicketState) (w : Option (List ℕ)) → WritesRecords 0 e e w w
 writes_none e w = record { gave = sym (giving_none e); wrote = Appends-nil w }
 
-module _ (n : ℕ) (a b : Exporting) (v w : Option (List ℕ)) (so_far : WritesRecords n a b v w) where
+module _ (n : ℕ) (a b : TicketState) (v w : Option (List ℕ)) (so_far : WritesRecords n a b v w) where
   rest : b.to_come ≡ drop n a.to_come
   rest = ap (λ e. e.to_come) so_far.gave
 
@@ -52,16 +52,16 @@ module _ (n : ℕ) (a b : Exporting) (v w : Option (List ℕ)) (so_far : WritesR
       ∙ sym (concat-append (take n a.to_come) (take m (drop n a.to_come)))
       ∙ ap concat (sym (take-add n m a.to_come))
 
-  gives : (m : ℕ) (c : Exporting) → c ≡ after_giving m b → c ≡ after_giving (n + m) a
+  gives : (m : ℕ) (c : TicketState) → c ≡ after_giving m b → c ≡ after_giving (n + m) a
   gives m c gave = gave ∙ ap (after_giving m) so_far.gave ∙ giving_more n m a
 
-  pub writes_more : (m : ℕ) (c : Exporting) (x : Option (List ℕ)) → WritesRecords m b c w x → WritesRecords (n + m) a c v x
+  pub writes_more : (m : ℕ) (c : TicketState) (x : Option (List ℕ)) → WritesRecords m b c w x → WritesRecords (n + m) a c v x
   writes_more m c x next = record {
     gave = gives m c next.gave;
     wrote = subst (Appends v x) (front m) (Appends-trans _ _ _ _ _ so_far.wrote next.wrote);
   }
 
-  pub breaks_more : (m : ℕ) (c : Exporting) (x : Option (List ℕ)) → BreaksRecord m b c w x → BreaksRecord (n + m) a c v x
+  pub breaks_more : (m : ℕ) (c : TicketState) (x : Option (List ℕ)) → BreaksRecord m b c w x → BreaksRecord (n + m) a c v x
   breaks_more m c x next =
       let further : n + (m + 1) ≡ n + m + 1 = omega arith in
       record {
@@ -72,7 +72,7 @@ module _ (n : ℕ) (a b : Exporting) (v w : Option (List ℕ)) (so_far : WritesR
         wrote = subst (Appends v x) (sym (append_assoc (concat (take n a.to_come)) (concat (take m b.to_come)) next.front) ∙ ap (λ l. l ++ next.front) (front m)) (Appends-trans _ _ _ _ _ so_far.wrote next.wrote);
       }
 
-  pub stops_more : (fault : ExportFault) (c : Exporting) (x : Option (List ℕ)) → Stops fault b c w x → Stops fault a c v x
+  pub stops_more : (fault : ExportFault) (c : TicketState) (x : Option (List ℕ)) → Stops fault b c w x → Stops fault a c v x
   stops_more faults.NoMemory c x (m, below, next) =
       let left : length b.to_come ≡ length a.to_come - n = ap length rest ∙ length-drop n a.to_come in
       (n + m, omega (arith, below, left), writes_more m c x next)
@@ -100,19 +100,19 @@ pub none_left : (xs : List (List ℕ)) → slice_get xs 0 ≡ None → xs ≡ []
 none_left [] none = refl
 none_left (x ∷ xs) none = cc
 
-pub writes_one : (old new : Exporting) (line : List ℕ) (v w : Option (List ℕ)) → slice_get old.to_come 0 ≡ Some line → new ≡ after_giving 1 old → Appends v w line → WritesRecords 1 old new v w
+pub writes_one : (old new : TicketState) (line : List ℕ) (v w : Option (List ℕ)) → slice_get old.to_come 0 ≡ Some line → new ≡ after_giving 1 old → Appends v w line → WritesRecords 1 old new v w
 writes_one old new line v w found gave wrote = record {
   gave = gave;
   wrote = subst (Appends v w) (sym (ap concat (first_one old.to_come line found) ∙ append-nil line)) wrote;
 }
 
-pub writes_end : (old new : Exporting) (w : Option (List ℕ)) → slice_get old.to_come 0 ≡ None → new ≡ after_giving 1 old → WritesRecords 1 old new w w
+pub writes_end : (old new : TicketState) (w : Option (List ℕ)) → slice_get old.to_come 0 ≡ None → new ≡ after_giving 1 old → WritesRecords 1 old new w w
 writes_end old new w none gave = record {
   gave = gave;
   wrote = subst (Appends w w) (sym (ap (λ l. concat (take 1 l)) (none_left old.to_come none))) (Appends-nil w);
 }
 
-pub breaks_one : (old new : Exporting) (line : List ℕ) (v w : Option (List ℕ)) → slice_get old.to_come 0 ≡ Some line → new ≡ after_giving 1 old → WritesFront v w line → BreaksRecord 0 old new v w
+pub breaks_one : (old new : TicketState) (line : List ℕ) (v w : Option (List ℕ)) → slice_get old.to_come 0 ≡ Some line → new ≡ after_giving 1 old → WritesFront v w line → BreaksRecord 0 old new v w
 breaks_one old new line v w found gave wrote = record {
   front = wrote.part;
   unwritten = wrote.unwritten;
@@ -121,7 +121,7 @@ breaks_one old new line v w found gave wrote = record {
   wrote = wrote.wrote;
 }
 
-pub gives_nothing : (e : Exporting) → slice_get e.to_come 0 ≡ None → e ≡ after_giving 1 e
+pub gives_nothing : (e : TicketState) → slice_get e.to_come 0 ≡ None → e ≡ after_giving 1 e
 gives_nothing e gone =
     let none = none_left e.to_come gone in
     same_records e e.given e.to_come (e.given ++ take 1 e.to_come) (drop 1 e.to_come)
@@ -132,5 +132,5 @@ pub something_left : (xs : List (List ℕ)) (line : List ℕ) → slice_get xs 0
 something_left xs line found none = none-some line (sym (ap (λ l. slice_get l 0) none) ∙ found)
 
 -- where memory is refused for the next record
-pub stops_here : (e : Exporting) (line : List ℕ) (w : Option (List ℕ)) → slice_get e.to_come 0 ≡ Some line → Stops faults.NoMemory e e w w
+pub stops_here : (e : TicketState) (line : List ℕ) (w : Option (List ℕ)) → slice_get e.to_come 0 ≡ Some line → Stops faults.NoMemory e e w w
 stops_here e line w found = (0, slice_get_within e.to_come 0 line found, writes_none e w)

@@ -5,7 +5,7 @@ use Rattle.std.proofs.lemmas.List.{length-map}
 use Rattle.base_core.specs.declared.value.Column.{Column}
 use Rattle.base_core.specs.declared.value.Row.{Row}
 use Rattle.capture_core.specs.declared.image.TableImage.{TableImage}
-use Rattle.export_core.specs.Export.{cut, held_then, holds_now, held, listed, is_any, listed_lines, withheld_line}
+use Rattle.export_core.specs.Export.{cut, held_then, holds_now, held, listed_marks, is_any, listed_lines, withheld_line}
 use Rattle.export_core.specs.Record.{record_line, row_line}
 use Rattle.export_core.specs.Laws.{WholeIsUncut}
 use Rattle.export_core.proofs.Cutting.{each-any, cut-each}
@@ -24,7 +24,7 @@ lines_uncut marks t each =
 
 pub whole_is_uncut : WholeIsUncut
 whole_is_uncut image now user t some each =
-    let marks = listed image now user t.name t.columns in
+    let marks = listed_marks image now user t.name t.columns in
     let withheld = withheld_line t.name (if is_any (held image user t.name t.columns) then codes "now" else codes "point") ∷ [] in
     let any : is_any marks ≡ true = each-any marks (omega (arith, length-map t.columns (λ (c : Column). held_then image user t.name c.name && holds_now now user t.name c.name))) each in
     ap (λ b. if b then listed_lines marks t else withheld) any ∙ lines_uncut marks t each

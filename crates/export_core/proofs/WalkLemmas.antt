@@ -6,8 +6,8 @@ use Rattle.std.proofs.lemmas.Option.{MatchOption-at_some, MatchOption-at_none, s
 use Rattle.std.proofs.lemmas.Bool.{false_from_ne_true}
 use Rattle.capture_core.specs.declared.image.TableImage.{TableImage}
 use Rattle.export_core.specs.Export.{end_line}
-use Rattle.export_core.specs.Ticket.{Exporting, after_giving}
-use Rattle.export_core.specs.Walk.{judged_tables, told_of, all_records, count_given, exporting, IsUnderWay}
+use Rattle.export_core.specs.Ticket.{TicketState, after_giving}
+use Rattle.export_core.specs.Walk.{judged_tables, told_of_table, all_records, count_given, exporting, IsUnderWay}
 use Rattle.export_core.specs.declared.judgement.Judgement.{Judgement}
 use Rattle.export_core.specs.declared.judgement.Judgement.TheVariants.{Listed, WithheldThen, WithheldNow}
 use Rattle.export_core.specs.declared.walk.Walk.TheInside.{Inside}
@@ -15,11 +15,11 @@ use Rattle.export_core.proofs.Giving.{gives_nothing}
 use Rattle.export_core.proofs.Places.{slice_get-append_left, slice_get-append_right, slice_get-drop, slice_get-flat_map, slice_get-zip, slice_get-zip_past, slice_get-index, take_next, take_past, drop_next, length-flat_map_next, MatchOption-some, MatchOption-each}
 
 -- a list of which n items were given
-abbrev parts : Exporting → List (List ℕ) → ℕ → Exporting
+abbrev parts : TicketState → List (List ℕ) → ℕ → TicketState
 parts e all n = record e { given = take n all; to_come = drop n all }
 
 -- one item more
-gave_one : (e : Exporting) (all : List (List ℕ)) (n : ℕ) (line : List ℕ) → slice_get all n ≡ Some line → parts e all (n + 1) ≡ after_giving 1 (parts e all n)
+gave_one : (e : TicketState) (all : List (List ℕ)) (n : ℕ) (line : List ℕ) → slice_get all n ≡ Some line → parts e all (n + 1) ≡ after_giving 1 (parts e all n)
 gave_one e all n line found =
     let rest = drop_next all n line found in
     let front : take n all ++ take 1 (drop n all) ≡ take (n + 1) all = ap (λ l. take n all ++ take 1 l) rest ∙ sym (take_next all n line found) in
@@ -43,51 +43,51 @@ comes_next t line found =
 module _ (t : Inside) (way : IsUnderWay t) where
   -- before a line of a table
   module _ (pair : TableImage × Judgement) (here : slice_get (judged_tables t) t.told ≡ Some pair) where
-    pub within : t.lines < length (told_of pair)
-    within = MatchOption-at_some (t.lines ≡ 0) (λ p. t.lines < length (told_of p)) pair here way.next
+    pub within : t.lines < length (told_of_table pair)
+    within = MatchOption-at_some (t.lines ≡ 0) (λ p. t.lines < length (told_of_table p)) pair here way.next
 
-    pub table_line_comes : (line : List ℕ) → t.ended ≡ false → slice_get (told_of pair) t.lines ≡ Some line → slice_get (all_records t) (count_given t) ≡ Some line
+    pub table_line_comes : (line : List ℕ) → t.ended ≡ false → slice_get (told_of_table pair) t.lines ≡ Some line → slice_get (all_records t) (count_given t) ≡ Some line
     table_line_comes line open' found =
-        let before = length (flat_map told_of (take t.told (judged_tables t))) in
+        let before = length (flat_map told_of_table (take t.told (judged_tables t))) in
         let place : count_given t ≡ before + t.lines = ap (λ b. before + t.lines + (if b then 1 else 0)) open' ∙ add-zero (before + t.lines) in
         ap (slice_get (all_records t)) place
-        ∙ slice_get-append_left (flat_map told_of (judged_tables t)) (end_line (arc_value t.image).number ∷ []) (before + t.lines) line
-        (slice_get-flat_map told_of (judged_tables t) t.told t.lines pair line here found)
+        ∙ slice_get-append_left (flat_map told_of_table (judged_tables t)) (end_line (arc_value t.image).number ∷ []) (before + t.lines) line
+        (slice_get-flat_map told_of_table (judged_tables t) t.told t.lines pair line here found)
 
     pub next_line_counts : (lines : ℕ) → lines ≡ t.lines + 1 → count_given (record t { lines = lines }) ≡ count_given t + 1
     next_line_counts lines next = omega (arith, next)
 
-    pub next_table_counts : t.lines + 1 ≡ length (told_of pair) → count_given (record t { told = t.told + 1; lines = 0 }) ≡ count_given t + 1
-    next_table_counts last = omega (arith, last, length-flat_map_next told_of (judged_tables t) t.told pair here)
+    pub next_table_counts : t.lines + 1 ≡ length (told_of_table pair) → count_given (record t { told = t.told + 1; lines = 0 }) ≡ count_given t + 1
+    next_table_counts last = omega (arith, last, length-flat_map_next told_of_table (judged_tables t) t.told pair here)
 
   -- before the end
   module _ (here : slice_get (judged_tables t) t.told ≡ None) where
-    all_told : length (flat_map told_of (take t.told (judged_tables t))) + t.lines ≡ length (flat_map told_of (judged_tables t)) + 0
+    all_told : length (flat_map told_of_table (take t.told (judged_tables t))) + t.lines ≡ length (flat_map told_of_table (judged_tables t)) + 0
     all_told =
-        ap (λ l. length (flat_map told_of l) + t.lines) (take_past (judged_tables t) t.told here)
-        ∙ ap (λ n. length (flat_map told_of (judged_tables t)) + n) (MatchOption-at_none (t.lines ≡ 0) (λ p. t.lines < length (told_of p)) here way.next)
+        ap (λ l. length (flat_map told_of_table l) + t.lines) (take_past (judged_tables t) t.told here)
+        ∙ ap (λ n. length (flat_map told_of_table (judged_tables t)) + n) (MatchOption-at_none (t.lines ≡ 0) (λ p. t.lines < length (told_of_table p)) here way.next)
 
     pub end_comes : t.ended ≡ false → slice_get (all_records t) (count_given t) ≡ Some (end_line (arc_value t.image).number)
     end_comes open' =
-        let place : count_given t ≡ length (flat_map told_of (judged_tables t)) + 0 = ap (λ b. length (flat_map told_of (take t.told (judged_tables t))) + t.lines + (if b then 1 else 0)) open' ∙ add-zero _ ∙ all_told in
-        ap (slice_get (all_records t)) place ∙ slice_get-append_right (flat_map told_of (judged_tables t)) (end_line (arc_value t.image).number ∷ []) 0
+        let place : count_given t ≡ length (flat_map told_of_table (judged_tables t)) + 0 = ap (λ b. length (flat_map told_of_table (take t.told (judged_tables t))) + t.lines + (if b then 1 else 0)) open' ∙ add-zero _ ∙ all_told in
+        ap (slice_get (all_records t)) place ∙ slice_get-append_right (flat_map told_of_table (judged_tables t)) (end_line (arc_value t.image).number ∷ []) 0
 
     pub end_counts : t.ended ≡ false → count_given (record t { ended = true }) ≡ count_given t + 1
     end_counts open' =
-        let place : count_given t ≡ length (flat_map told_of (take t.told (judged_tables t))) + t.lines + 0 = ap (λ b. length (flat_map told_of (take t.told (judged_tables t))) + t.lines + (if b then 1 else 0)) open' in
+        let place : count_given t ≡ length (flat_map told_of_table (take t.told (judged_tables t))) + t.lines + 0 = ap (λ b. length (flat_map told_of_table (take t.told (judged_tables t))) + t.lines + (if b then 1 else 0)) open' in
         omega (arith, place)
 
   -- behind the end
   pub nothing_comes : t.ended ≡ true → slice_get (all_records t) (count_given t) ≡ None
   nothing_comes over =
       let here = way.end over in
-      let further : length (flat_map told_of (judged_tables t)) + 0 + 1 ≡ length (flat_map told_of (judged_tables t)) + 1 = omega arith in
-      let place : count_given t ≡ length (flat_map told_of (judged_tables t)) + 1 =
-      ap (λ b. length (flat_map told_of (take t.told (judged_tables t))) + t.lines + (if b then 1 else 0)) over ∙ ap (λ n. n + 1) (all_told here) ∙ further in
-      ap (slice_get (all_records t)) place ∙ slice_get-append_right (flat_map told_of (judged_tables t)) (end_line (arc_value t.image).number ∷ []) 1
+      let further : length (flat_map told_of_table (judged_tables t)) + 0 + 1 ≡ length (flat_map told_of_table (judged_tables t)) + 1 = omega arith in
+      let place : count_given t ≡ length (flat_map told_of_table (judged_tables t)) + 1 =
+      ap (λ b. length (flat_map told_of_table (take t.told (judged_tables t))) + t.lines + (if b then 1 else 0)) over ∙ ap (λ n. n + 1) (all_told here) ∙ further in
+      ap (slice_get (all_records t)) place ∙ slice_get-append_right (flat_map told_of_table (judged_tables t)) (end_line (arc_value t.image).number ∷ []) 1
 
 -- each table is told in a line at least
-pub told-some : (pair : TableImage × Judgement) → 0 < length (told_of pair)
+pub told-some : (pair : TableImage × Judgement) → 0 < length (told_of_table pair)
 told-some (table, Listed marks) = omega arith
 told-some (table, WithheldThen) = omega arith
 told-some (table, WithheldNow) = omega arith
@@ -106,10 +106,10 @@ module _ (t : Inside) (way : IsUnderWay t) where
   pub stands_at_none : slice_get t.judgements.items t.told ≡ None → slice_get (judged_tables t) t.told ≡ None
   stands_at_none none = slice_get-zip_past (drop t.first (arc_value t.image).tables) t.judgements.items t.told none
 
-  pub on_way_in_table : (pair : TableImage × Judgement) (lines : ℕ) → slice_get (judged_tables t) t.told ≡ Some pair → lines < length (told_of pair) → IsUnderWay (record t { lines = lines })
+  pub on_way_in_table : (pair : TableImage × Judgement) (lines : ℕ) → slice_get (judged_tables t) t.told ≡ Some pair → lines < length (told_of_table pair) → IsUnderWay (record t { lines = lines })
   on_way_in_table pair lines here below = record {
     fits = way.fits;
-    next = MatchOption-some _ (lines ≡ 0) (λ p. lines < length (told_of p)) pair here below;
+    next = MatchOption-some _ (lines ≡ 0) (λ p. lines < length (told_of_table p)) pair here below;
     end = way.end;
   }
 
@@ -120,7 +120,7 @@ module _ (t : Inside) (way : IsUnderWay t) where
   pub on_way_to_next : (pair : TableImage × Judgement) → slice_get (judged_tables t) t.told ≡ Some pair → IsUnderWay (record t { told = t.told + 1; lines = 0 })
   on_way_to_next pair here = record {
     fits = way.fits;
-    next = MatchOption-each (slice_get (judged_tables t) (t.told + 1)) (0 ≡ 0) (λ p. 0 < length (told_of p)) refl told-some;
+    next = MatchOption-each (slice_get (judged_tables t) (t.told + 1)) (0 ≡ 0) (λ p. 0 < length (told_of_table p)) refl told-some;
     end = λ over. let open' = not_ended pair here in cc;
   }
 
@@ -130,15 +130,15 @@ module _ (t : Inside) (way : IsUnderWay t) where
   -- one more record was given: one of a table that is not its last, its last, or the end
   module _ (pair : TableImage × Judgement) (here : slice_get (judged_tables t) t.told ≡ Some pair) where
     abbrev line : List ℕ
-    line = get_or (told_of pair) t.lines []
+    line = get_or (told_of_table pair) t.lines []
 
     comes : slice_get (all_records t) (count_given t) ≡ Some line
-    comes = table_line_comes t way pair here line (not_ended pair here) (slice_get-get_or (told_of pair) t.lines [] (within t way pair here))
+    comes = table_line_comes t way pair here line (not_ended pair here) (slice_get-get_or (told_of_table pair) t.lines [] (within t way pair here))
 
     pub passed_line : (lines : ℕ) → lines ≡ t.lines + 1 → exporting (record t { lines = lines }) ≡ after_giving 1 (exporting t)
     passed_line lines next = gave t t.told lines t.ended line comes (next_line_counts t way pair here lines next)
 
-    pub passed_table : t.lines + 1 ≡ length (told_of pair) → exporting (record t { told = t.told + 1; lines = 0 }) ≡ after_giving 1 (exporting t)
+    pub passed_table : t.lines + 1 ≡ length (told_of_table pair) → exporting (record t { told = t.told + 1; lines = 0 }) ≡ after_giving 1 (exporting t)
     passed_table last = gave t (t.told + 1) 0 t.ended line comes (next_table_counts t way pair here last)
 
   pub passed_end : slice_get (judged_tables t) t.told ≡ None → exporting (record t { ended = true }) ≡ after_giving 1 (exporting t)

@@ -9,7 +9,7 @@ use Rattle.base_core.specs.declared.value.ColType.TheVariants.{Integer, Text}
 use Rattle.base_core.specs.declared.value.Value.TheVariants as values
 use Rattle.grants_core.specs.declared.grant.Grant.{Grant}
 use Rattle.grants_core.specs.Owners.{owns}
-use Rattle.grants_core.specs.Content.{Content, gives}
+use Rattle.grants_core.specs.Content.{Rights, gives}
 use Rattle.capture_core.specs.Image.{owns_in_image as owned}
 use Rattle.capture_core.specs.declared.image.Image.{Image}
 use Rattle.capture_core.specs.declared.image.TableImage.{TableImage}
@@ -36,7 +36,7 @@ grant_of table column = record { number = 0; moment = record { 0 = 3 }; atom = t
 abbrev grant : Grant
 grant = grant_of (codes "t") (codes "v")
 
-abbrev rights : List Grant → Content
+abbrev rights : List Grant → Rights
 rights grants = record {
   owners = record { table = codes "t"; owner = o; granted = true } ∷ record { table = codes "pay"; owner = o; granted = true } ∷ [];
   in_force = grants;

@@ -7,7 +7,7 @@ use Rattle.base_core.specs.declared.name.Name.{Name}
 use Rattle.base_core.specs.declared.name.User.{User}
 use Rattle.base_core.specs.declared.value.Column.{Column}
 use Rattle.grants_core.specs.Content as rights
-use Rattle.grants_core.specs.Content.{Content}
+use Rattle.grants_core.specs.Content.{Rights}
 use Rattle.capture_core.specs.Image as images
 use Rattle.capture_core.specs.declared.image.Image.{Image}
 use Rattle.capture_core.specs.declared.image.TableImage.{TableImage}
@@ -18,7 +18,7 @@ abbrev pub held_then : Image → User → Name → Name → Bool
 held_then image user table column = images.holds_in_image image user (to_select table column)
 
 -- whether he holds it now, by the owners and the grants in force
-abbrev pub holds_now : Content → User → Name → Name → Bool
+abbrev pub holds_now : Rights → User → Name → Name → Bool
 holds_now now user table column = rights.holds now.owners now.in_force user (to_select table column)
 
 -- of each of a table's columns, whether he held it then
@@ -26,8 +26,8 @@ abbrev pub held : Image → User → Name → List Column → List Bool
 held image user table columns = map (λ c. held_then image user table c.name) columns
 
 -- of each, whether he held it then and holds it now: so it is listed
-abbrev pub listed : Image → Content → User → Name → List Column → List Bool
-listed image now user table columns =
+abbrev pub listed_marks : Image → Rights → User → Name → List Column → List Bool
+listed_marks image now user table columns =
     map (λ c. held_then image user table c.name && holds_now now user table c.name) columns
 
 -- whether one of the places is marked
@@ -60,9 +60,9 @@ listed_lines marks t = table_line marks t ∷ map (λ row. row_line (cut marks r
 -- What is told of a table: its lines, cut to the columns that the user held at the point and holds
 -- now. Where there is none, that it is withheld, and why: he held no column then, or holds none of
 -- those now.
-abbrev pub table_records : Image → Content → User → TableImage → List (List ℕ)
+abbrev pub table_records : Image → Rights → User → TableImage → List (List ℕ)
 table_records image now user t =
-    let marks = listed image now user t.name t.columns in
+    let marks = listed_marks image now user t.name t.columns in
     let could = held image user t.name t.columns in
     if is_any marks then listed_lines marks t
     else withheld_line t.name (if is_any could then codes "now" else codes "point") ∷ []
@@ -73,13 +73,13 @@ chosen tables None = tables
 chosen tables (Some name) = option_to_list (find (λ t. same_name name t.name) tables)
 
 -- the records of an export to the user: what is told of each of its tables, and the end
-abbrev pub image_export : Image → Content → User → Option Name → List (List ℕ)
+abbrev pub image_export : Image → Rights → User → Option Name → List (List ℕ)
 image_export image now user only =
     flat_map (table_records image now user) (chosen image.tables only) ++ end_line image.number ∷ []
 
 -- who asks for one table alone may have it: it is in the image, and he held SELECT of a column of it
 -- then that he holds now
-abbrev pub IsAllowed : Image → Content → User → Option Name → Type 0
+abbrev pub IsAllowed : Image → Rights → User → Option Name → Type 0
 IsAllowed image now user only =
     IfSome only (λ name. IsSomeAnd (find (λ t. same_name name t.name) image.tables)
-    (λ t. is_any (listed image now user t.name t.columns) ≡ true))
+    (λ t. is_any (listed_marks image now user t.name t.columns) ≡ true))

@@ -26,10 +26,10 @@ pub(crate) struct Asked {
 impl Model for Asked {
     ghost use Rattle.std.specs.Prelude.{◌≤◌, ◌+◌, length};
     ghost use Rattle.std.specs.Arc.{arc_value};
-    ghost use Rattle.export_core.specs.Ticket.{Exporting};
+    ghost use Rattle.export_core.specs.Ticket.{TicketState};
     ghost use Rattle.export_core.specs.Walk.{asked};
 
-    ghost Value = { Exporting };
+    ghost Value = { TicketState };
 
     ghost view = { λ a. asked (arc_value a.image) a.user a.at a.first a.by_rights.items };
 

@@ -32,8 +32,8 @@
 //! ticket.next_record()?;                     // None
 //! ```
 //!
-//! A [`Gate`] is called before each record that `write_to` gives, so that a test can hold an export
-//! up there. [`NoGate`] does nothing.
+//! A [`Gate`](base_core::Gate) is called before each record that `write_to` gives, so that a test
+//! can hold an export up there.
 //!
 //! # Records
 //!
@@ -58,16 +58,15 @@
 
 mod asked;
 mod fault;
-mod gate;
 mod judgement;
 pub mod laws;
 mod lines;
 mod marks;
+mod passage;
 mod record;
 mod rows;
 mod ticket;
 mod walk;
 
 pub use fault::ExportFault;
-pub use gate::{Gate, NoGate};
 pub use ticket::Ticket;

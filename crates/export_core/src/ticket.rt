@@ -10,10 +10,9 @@ ghost use Rattle.export_core.specs.Ticket.{issued, after_giving, finished, Stops
 
 use crate::asked::Asked;
 use crate::fault::ExportFault;
-use crate::gate::Gate;
 use crate::judgement::judged_now;
 use crate::walk::Walk;
-use base_core::{Moment, Name, NoMemory, Sink, User};
+use base_core::{Gate, Moment, Name, NoMemory, Sink, User};
 use capture_core::{Image, TableImage};
 use grants_core::Authority;
 use std::alloc::Global;
@@ -34,9 +33,9 @@ pub struct Ticket {
 
 impl Model for Ticket {
     ghost use Rattle.std.specs.Prelude.{unwrap_or};
-    ghost use Rattle.export_core.specs.Ticket.{Exporting};
+    ghost use Rattle.export_core.specs.Ticket.{TicketState};
 
-    ghost Value = { Exporting };
+    ghost Value = { TicketState };
 
     ghost view = { λ t. unwrap_or t.walk t.asked };
 }

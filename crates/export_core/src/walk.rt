@@ -8,13 +8,13 @@ ghost use Rattle.export_core.specs.Record.{IsBetween, row_line};
 ghost use Rattle.export_core.specs.Ticket.{after_giving, finished, WritesRecords, Stops};
 
 use crate::fault::ExportFault;
-use crate::gate::{Gate, Passage};
 use crate::judgement::Judgement;
 use crate::lines::{end_line, next_index, row_at, told_line};
 use crate::marks::Marks;
+use crate::passage::Passage;
 use crate::record::writer_after;
 use crate::rows::append_row;
-use base_core::{Broken, Moment, NoMemory, Row, Sink, write_all};
+use base_core::{Broken, Gate, Moment, NoMemory, Row, Sink, write_all};
 use capture_core::Image;
 use csv::Writer;
 use std::marker::Model;
@@ -42,10 +42,10 @@ pub(crate) struct Walk {
 }
 
 impl Model for Walk {
-    ghost use Rattle.export_core.specs.Ticket.{Exporting};
+    ghost use Rattle.export_core.specs.Ticket.{TicketState};
     ghost use Rattle.export_core.specs.Walk.{exporting, IsUnderWay};
 
-    ghost Value = { Exporting };
+    ghost Value = { TicketState };
 
     ghost view = { exporting };
 

@@ -18,7 +18,7 @@ use Rattle.grants_core.specs.declared.grant.Change.{Change}
 use Rattle.grants_core.specs.declared.grant.Change.TheVariants as change
 use Rattle.grants_core.specs.Owners.{owns, with_owner, with_granted}
 use Rattle.grants_core.specs.Valid.{valid, AreSupported}
-use Rattle.grants_core.specs.Content.{Content, may_grant, names, without, singles, option_off, options_off, after_create, after_grant, after_revoke, after_revoke_option}
+use Rattle.grants_core.specs.Content.{Rights, may_grant, names, without, singles, option_off, options_off, after_create, after_grant, after_revoke, after_revoke_option}
 use Rattle.grants_core.specs.History.{made_by, made_by_all, grants_of, is_struck_by, owners_with, granted_from, granted, is_granted, is_struck_from, is_struck, is_unoptioned_by, is_unoptioned_from, is_unoptioned, left_after, owners_after, unstruck_after, in_force_after, content_after}
 use Rattle.grants_core.proofs.ValidLemmas.{valid-filter_valid, valid-append}
 use Rattle.grants_core.proofs.OptionLemmas.{options_kept, All-options_off, options_alike, options_filter, options_twice, valid-options_off}
@@ -26,7 +26,7 @@ use Rattle.grants_core.proofs.SinglesLemmas.{length-singles}
 use Rattle.grants_core.proofs.OwnersLemmas.{valid-owners, owns-with_owner, alike-with_granted, singles-all, AllByRecursion-append}
 use Rattle.grants_core.proofs.GrantLemmas.{All-implied, All-filtered, All-valid, singles-supported}
 
-pub same_content : (os ps : List Ownership) (gs hs : List Grant) (n m : ℕ) → os ≡ ps → gs ≡ hs → n ≡ m → ◌≡◌ {A = Content} (record { owners = os; in_force = gs; made = n }) (record { owners = ps; in_force = hs; made = m })
+pub same_content : (os ps : List Ownership) (gs hs : List Grant) (n m : ℕ) → os ≡ ps → gs ≡ hs → n ≡ m → ◌≡◌ {A = Rights} (record { owners = os; in_force = gs; made = n }) (record { owners = ps; in_force = hs; made = m })
 same_content os ps gs hs n m e f g = cc
 
 pub made_by_all-more : (cs : List Change) (c : Change) → made_by_all (cs ++ c ∷ []) ≡ made_by_all cs + made_by c
@@ -386,7 +386,7 @@ revoke-named cs by atoms whom same =
     let left : List Grant = without by atoms whom (in_force_after cs) in
     let passes : AllByRecursion Passes (valid (owners_after cs) left) = All-valid Passes (owners_after cs) left (filter_passes (λ g. not (names by atoms whom g)) (in_force_after cs)) in
     let All_pass : List Grant → Type 0 = λ k. AllByRecursion Passes k in
-    let is : valid (owners_after cs) left ≡ in_force_after cs = ap (λ (c : Content). c.in_force) same in
+    let is : valid (owners_after cs) left ≡ in_force_after cs = ap (λ (c : Rights). c.in_force) same in
     All-from_recursion Unnamed (in_force_after cs) (All-implied Passes Unnamed (in_force_after cs) (λ g e. not_true _ e) (subst All_pass is passes))
 
 optionless : (o n : Bool) → (o && n) ≡ false → (o && not n) ≡ o
@@ -423,5 +423,5 @@ revoke_option-named cs by atoms whom same =
     let Unnamed : Grant → Type 0 = λ g. (g.option && names by atoms whom g) ≡ false in
     let off : List Grant = options_off by atoms whom (in_force_after cs) in
     let All_unnamed : List Grant → Type 0 = λ k. AllByRecursion Unnamed k in
-    let is : valid (owners_after cs) off ≡ in_force_after cs = ap (λ (c : Content). c.in_force) same in
+    let is : valid (owners_after cs) off ≡ in_force_after cs = ap (λ (c : Rights). c.in_force) same in
     All-from_recursion Unnamed (in_force_after cs) (subst All_unnamed is (All-valid Unnamed (owners_after cs) off (none_left by atoms whom (in_force_after cs))))

@@ -14,7 +14,7 @@ use Rattle.grants_core.specs.declared.grant.Ownership.{Ownership}
 
 -- the owners, each with whether a grant on the table was ever made; the grants in force; and how
 -- many single grants were ever made
-pub record Content : Type 0 where
+pub record Rights : Type 0 where
   pub owners : List Ownership
   pub in_force : List Grant
   pub made : ℕ
@@ -80,11 +80,11 @@ abbrev pub options_off : User → List Atom → List User → List Grant → Lis
 options_off by atoms whom grants = map (option_off (names by atoms whom)) grants
 
 -- the table has this owner
-abbrev pub after_create : Content → Name → User → Content
+abbrev pub after_create : Rights → Name → User → Rights
 after_create c table user = record c { owners = with_owner table user c.owners }
 
 -- the single grants are in force, and the tables are marked
-abbrev pub after_grant : Content → User → List Atom → List User → Bool → Moment → Content
+abbrev pub after_grant : Rights → User → List Atom → List User → Bool → Moment → Rights
 after_grant c by atoms whom option at = record {
   owners = with_granted atoms c.owners;
   in_force = c.in_force ++ singles c.made at by atoms whom option;
@@ -93,12 +93,12 @@ after_grant c by atoms whom option at = record {
 
 -- Griffiths and Wade 1976: those authorizations are in force that would be if the revoked grants
 -- had never been made
-abbrev pub after_revoke : Content → User → List Atom → List User → Content
+abbrev pub after_revoke : Rights → User → List Atom → List User → Rights
 after_revoke c by atoms whom =
     record c { in_force = valid c.owners (without by atoms whom c.in_force) }
 
 -- the options of the named come off first, and the grants themselves stay: those are in force that
 -- would be if the revoked options had never been given
-abbrev pub after_revoke_option : Content → User → List Atom → List User → Content
+abbrev pub after_revoke_option : Rights → User → List Atom → List User → Rights
 after_revoke_option c by atoms whom =
     record c { in_force = valid c.owners (options_off by atoms whom c.in_force) }

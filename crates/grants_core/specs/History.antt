@@ -10,7 +10,7 @@ use Rattle.grants_core.specs.declared.grant.Change.{Change}
 use Rattle.grants_core.specs.declared.grant.Change.TheVariants as change
 use Rattle.grants_core.specs.Owners.{with_owner, with_granted}
 use Rattle.grants_core.specs.Valid.{valid}
-use Rattle.grants_core.specs.Content.{Content, singles, names, option_off}
+use Rattle.grants_core.specs.Content.{Rights, singles, names, option_off}
 
 -- how many single grants a change makes
 abbrev pub made_by : Change → ℕ
@@ -105,7 +105,7 @@ abbrev pub in_force_after : List Change → List Grant
 in_force_after changes = valid (owners_after changes) (left_after changes)
 
 -- owners, grants in force, and how many were ever made
-abbrev pub content_after : List Change → Content
+abbrev pub content_after : List Change → Rights
 content_after changes = record {
   owners = owners_after changes;
   in_force = in_force_after changes;

@@ -4,7 +4,7 @@ ghost use Rattle.base_core.specs.Privileges.{of_table};
 ghost use Rattle.base_core.specs.declared.privilege.Kind.{Kind};
 ghost use Rattle.grants_core.specs.Numbers.{IsNumbered};
 ghost use Rattle.grants_core.specs.Owners.{was_granted, owns};
-ghost use Rattle.grants_core.specs.Content.{Content, after_create, after_grant, after_revoke, after_revoke_option, holds, may_grant, has_made, has_optioned, count_of};
+ghost use Rattle.grants_core.specs.Content.{Rights, after_create, after_grant, after_revoke, after_revoke_option, holds, may_grant, has_made, has_optioned, count_of};
 
 use crate::grant::Grant;
 use base_core::{Atom, Moment, Name, NoMemory, User};
@@ -12,7 +12,7 @@ use base_core::{Atom, Moment, Name, NoMemory, User};
 /// Keeps the owners of tables and the grants in force.
 pub trait Authority {
     // The owners, the grants in force, and how many single grants were ever made.
-    ghost content: { Self → Content };
+    ghost content: { Self → Rights };
 
     /// Sets a table's owner, where no grant on that table was ever made. A table that has an owner
     /// gets the new one. On `NoMemory` nothing has changed.

@@ -24,10 +24,10 @@ pub struct Replay {
 }
 
 impl Model for Replay {
-    ghost use Rattle.grants_core.specs.Content.{Content};
+    ghost use Rattle.grants_core.specs.Content.{Rights};
     ghost use Rattle.grants_core.specs.Numbers.{IsNumbered};
 
-    ghost Value = { Content };
+    ghost Value = { Rights };
 
     ghost view = { λ r. record { owners = r.owners; in_force = r.in_force.items; made = r.made } };
 

@@ -9,5 +9,6 @@ pub mod PruningLemmas
 pub mod FallLemmas
 pub mod NamedLemmas
 pub mod OptionLemmas
+pub mod LossLemmas
 pub mod MarkedLemmas
 pub mod SoundLemmas

@@ -18,7 +18,7 @@ use Rattle.links_core.specs.Lists.{TakesOut}
 use Rattle.links_core.proofs.EndsLemmas.{all_implied}
 use Rattle.graph_core.specs.Indices.{Indexed, user_at, atom_at, grant_of, IsWithin, IsUserIndex, IsAtomIndex, AreApart}
 use Rattle.graph_core.specs.Pruning.{SupportedBut, is_of_another, is_between, Falls, AreInOrder}
-use Rattle.graph_core.specs.Revocation.{grants_of, AreUpheld}
+use Rattle.graph_core.specs.Revocation.{grants_of_links, AreUpheld}
 use Rattle.grants_core.specs.KeyLaws.{same_atom-flip}
 use Rattle.graph_core.proofs.FallLemmas.{IsOwnerIndex, falls_all, falls_valid, in_order_over, supported_over}
 use Rattle.graph_core.proofs.OverLemmas.{filter_over, all_over}
@@ -104,13 +104,13 @@ pub without-nothing : (by : User) (whom : List User) (gs : List Grant) → witho
 unfolding names
 without-nothing by whom gs = none_gone (names by [] whom) gs (all_grants (λ g. names by [] whom g ≡ false) gs (λ g. no_atom (same_user by g.grantor) (list_any (λ u. same_user u g.grantee) whom)))
 
-pub upheld_valid : (indexed : Indexed) (owners : List Ownership) (links : List Link) → AreUpheld indexed owners links → valid owners (grants_of indexed links) ≡ grants_of indexed links
-upheld_valid indexed owners links upheld = valid-of_supported owners (grants_of indexed links) upheld.in_order upheld.supported
+pub upheld_valid : (indexed : Indexed) (owners : List Ownership) (links : List Link) → AreUpheld indexed owners links → valid owners (grants_of_links indexed links) ≡ grants_of_links indexed links
+upheld_valid indexed owners links upheld = valid-of_supported owners (grants_of_links indexed links) upheld.in_order upheld.supported
 
 -- where no grant is named, all stay
-unnamed : (indexed : Indexed) (owners : List Ownership) (by : User) (atoms : List Atom) (whom : List User) (links : List Link) → AreUpheld indexed owners links → ((l : Link) → IsWithin indexed l → names by atoms whom (grant_of indexed l) ≡ false) → grants_of indexed links ≡ valid owners (without by atoms whom (grants_of indexed links))
+unnamed : (indexed : Indexed) (owners : List Ownership) (by : User) (atoms : List Atom) (whom : List User) (links : List Link) → AreUpheld indexed owners links → ((l : Link) → IsWithin indexed l → names by atoms whom (grant_of indexed l) ≡ false) → grants_of_links indexed links ≡ valid owners (without by atoms whom (grants_of_links indexed links))
 unnamed indexed owners by atoms whom links upheld never =
-    sym (ap (valid owners) (none_gone (names by atoms whom) (grants_of indexed links) (all_over (grant_of indexed) (λ g. names by atoms whom g ≡ false) links (all_implied (IsWithin indexed) (λ l. names by atoms whom (grant_of indexed l) ≡ false) links never upheld.within)))
+    sym (ap (valid owners) (none_gone (names by atoms whom) (grants_of_links indexed links) (all_over (grant_of indexed) (λ g. names by atoms whom g ≡ false) links (all_implied (IsWithin indexed) (λ l. names by atoms whom (grant_of indexed l) ≡ false) links never upheld.within)))
     ∙ upheld_valid indexed owners links upheld)
 
 turned_user : (a b : User) → same_user a b ≡ same_user b a
@@ -141,10 +141,10 @@ never_atom indexed by atom whom missing l w =
     ap (λ b. (same_user by (user_at indexed l.grantor) && (b || false)) && list_any (λ u. same_user u (user_at indexed l.grantee)) whom) (same_atom-flip atom (atom_at indexed l.atom) ∙ missing l.atom w.atom)
     ∙ no_atom (same_user by (user_at indexed l.grantor)) (list_any (λ u. same_user u (user_at indexed l.grantee)) whom)
 
-pub unnamed_by : (indexed : Indexed) (owners : List Ownership) (by : User) (atoms : List Atom) (whom : List User) (links : List Link) → AreUpheld indexed owners links → IsUserIndex indexed by None → grants_of indexed links ≡ valid owners (without by atoms whom (grants_of indexed links))
+pub unnamed_by : (indexed : Indexed) (owners : List Ownership) (by : User) (atoms : List Atom) (whom : List User) (links : List Link) → AreUpheld indexed owners links → IsUserIndex indexed by None → grants_of_links indexed links ≡ valid owners (without by atoms whom (grants_of_links indexed links))
 unnamed_by indexed owners by atoms whom links upheld missing = unnamed indexed owners by atoms whom links upheld (never_by indexed by atoms whom missing)
 
-pub unnamed_atom : (indexed : Indexed) (owners : List Ownership) (by : User) (atom : Atom) (whom : List User) (links : List Link) → AreUpheld indexed owners links → IsAtomIndex indexed atom None → grants_of indexed links ≡ valid owners (without by (atom ∷ []) whom (grants_of indexed links))
+pub unnamed_atom : (indexed : Indexed) (owners : List Ownership) (by : User) (atom : Atom) (whom : List User) (links : List Link) → AreUpheld indexed owners links → IsAtomIndex indexed atom None → grants_of_links indexed links ≡ valid owners (without by (atom ∷ []) whom (grants_of_links indexed links))
 unnamed_atom indexed owners by atom whom links upheld missing = unnamed indexed owners by (atom ∷ []) whom links upheld (never_atom indexed by atom whom missing)
 
 single : (u a w : Bool) → ((u && (a || false)) && (w || false)) ≡ (u && (a && w))
@@ -168,7 +168,7 @@ between-atom b u a l h = eqb-true l.atom a (and_parts _ _ (and_parts _ _ h).1).0
 -- **a revocation of one privilege from one user**
 pub record IsRevoked (indexed : Indexed) (owners : List Ownership) (old new : List Link) (by user : User) (atom : Atom) : Type 0 where
   pub upheld : AreUpheld indexed owners new
-  pub valid_is : grants_of indexed new ≡ valid owners (without by (atom ∷ []) (user ∷ []) (grants_of indexed old))
+  pub valid_is : grants_of_links indexed new ≡ valid owners (without by (atom ∷ []) (user ∷ []) (grants_of_links indexed old))
 
 pub revoked_between : (indexed : Indexed) → AreApart indexed → (owners : List Ownership) (by user : User) (atom : Atom) (owner : Option ℕ) (b : ℕ) (u : Option ℕ) (a : ℕ)
     → IsOwnerIndex indexed owners atom owner → IsUserIndex indexed by (Some b) → IsUserIndex indexed user u → IsAtomIndex indexed atom (Some a)

@@ -17,7 +17,7 @@ use Rattle.links_core.proofs.EndsLemmas.{all_implied}
 use Rattle.links_core.proofs.ChangeLemmas.{link_kept}
 use Rattle.graph_core.specs.Indices.{Indexed, grant_of, is_index, IsWithin, IsUserIndex, IsAtomIndex, AreApart}
 use Rattle.graph_core.specs.Pruning.{link_supports, is_link_supported, SupportedBut, is_of_another, is_between, Falls, AreInOrder}
-use Rattle.graph_core.specs.Revocation.{grants_of, AreUpheld}
+use Rattle.graph_core.specs.Revocation.{grants_of_links, AreUpheld}
 use Rattle.graph_core.proofs.OverLemmas.{all_over, all_under}
 use Rattle.graph_core.proofs.PruningLemmas.{between-parts, supports-comes_from}
 use Rattle.graph_core.proofs.FallLemmas.{IsOwnerIndex, falls_all, falls_valid, in_order_over, supported_from, other_unsupported}
@@ -118,15 +118,15 @@ unfolding names
 options_off-nothing by whom gs = options_kept (names by [] whom) gs (all_grants (λ g. names by [] whom g ≡ false) gs (λ g. no_atom (same_user by g.grantor) (list_any (λ u. same_user u g.grantee) whom)))
 
 -- where no grant is named, all stay
-unnamed : (indexed : Indexed) (owners : List Ownership) (by : User) (atoms : List Atom) (whom : List User) (links : List Link) → AreUpheld indexed owners links → ((l : Link) → IsWithin indexed l → names by atoms whom (grant_of indexed l) ≡ false) → grants_of indexed links ≡ valid owners (options_off by atoms whom (grants_of indexed links))
+unnamed : (indexed : Indexed) (owners : List Ownership) (by : User) (atoms : List Atom) (whom : List User) (links : List Link) → AreUpheld indexed owners links → ((l : Link) → IsWithin indexed l → names by atoms whom (grant_of indexed l) ≡ false) → grants_of_links indexed links ≡ valid owners (options_off by atoms whom (grants_of_links indexed links))
 unnamed indexed owners by atoms whom links upheld never =
-    sym (ap (valid owners) (options_kept (names by atoms whom) (grants_of indexed links) (all_over (grant_of indexed) (λ g. names by atoms whom g ≡ false) links (all_implied (IsWithin indexed) (λ l. names by atoms whom (grant_of indexed l) ≡ false) links never upheld.within)))
+    sym (ap (valid owners) (options_kept (names by atoms whom) (grants_of_links indexed links) (all_over (grant_of indexed) (λ g. names by atoms whom g ≡ false) links (all_implied (IsWithin indexed) (λ l. names by atoms whom (grant_of indexed l) ≡ false) links never upheld.within)))
     ∙ upheld_valid indexed owners links upheld)
 
-pub unoptioned_by : (indexed : Indexed) (owners : List Ownership) (by : User) (atoms : List Atom) (whom : List User) (links : List Link) → AreUpheld indexed owners links → IsUserIndex indexed by None → grants_of indexed links ≡ valid owners (options_off by atoms whom (grants_of indexed links))
+pub unoptioned_by : (indexed : Indexed) (owners : List Ownership) (by : User) (atoms : List Atom) (whom : List User) (links : List Link) → AreUpheld indexed owners links → IsUserIndex indexed by None → grants_of_links indexed links ≡ valid owners (options_off by atoms whom (grants_of_links indexed links))
 unoptioned_by indexed owners by atoms whom links upheld missing = unnamed indexed owners by atoms whom links upheld (never_by indexed by atoms whom missing)
 
-pub unoptioned_atom : (indexed : Indexed) (owners : List Ownership) (by : User) (atom : Atom) (whom : List User) (links : List Link) → AreUpheld indexed owners links → IsAtomIndex indexed atom None → grants_of indexed links ≡ valid owners (options_off by (atom ∷ []) whom (grants_of indexed links))
+pub unoptioned_atom : (indexed : Indexed) (owners : List Ownership) (by : User) (atom : Atom) (whom : List User) (links : List Link) → AreUpheld indexed owners links → IsAtomIndex indexed atom None → grants_of_links indexed links ≡ valid owners (options_off by (atom ∷ []) whom (grants_of_links indexed links))
 unoptioned_atom indexed owners by atom whom links upheld missing = unnamed indexed owners by (atom ∷ []) whom links upheld (never_atom indexed by atom whom missing)
 
 -- a link stays within, and needs the same support
@@ -149,16 +149,16 @@ others_off a test of_it (x ∷ xs) l other =
     ap (λ b. b || list_any (λ h. link_supports h l) (map (link_off test) xs)) here ∙ ap (λ b. link_supports x l || b) rest
 
 -- the grants for which the links stand lose the same options
-grants_off : (indexed : Indexed) (test : Link → Bool) (p : Grant → Bool) (xs : List Link) → AllByRecursion (λ l. p (grant_of indexed l) ≡ test l) xs → grants_of indexed (map (link_off test) xs) ≡ map (option_off p) (grants_of indexed xs)
+grants_off : (indexed : Indexed) (test : Link → Bool) (p : Grant → Bool) (xs : List Link) → AllByRecursion (λ l. p (grant_of indexed l) ≡ test l) xs → grants_of_links indexed (map (link_off test) xs) ≡ map (option_off p) (grants_of_links indexed xs)
 grants_off indexed test p [] h = refl
 grants_off indexed test p (x ∷ xs) h =
-    ap (λ b. record (grant_of indexed x) { option = x.option && not b } ∷ grants_of indexed (map (link_off test) xs)) (sym h.0)
+    ap (λ b. record (grant_of indexed x) { option = x.option && not b } ∷ grants_of_links indexed (map (link_off test) xs)) (sym h.0)
     ∙ ap (λ k. option_off p (grant_of indexed x) ∷ k) (grants_off indexed test p xs h.1)
 
 -- **a revocation of the option of one privilege from one user**
 pub record IsUnoptioned (indexed : Indexed) (owners : List Ownership) (old new : List Link) (by user : User) (atom : Atom) : Type 0 where
   pub upheld : AreUpheld indexed owners new
-  pub valid_is : grants_of indexed new ≡ valid owners (options_off by (atom ∷ []) (user ∷ []) (grants_of indexed old))
+  pub valid_is : grants_of_links indexed new ≡ valid owners (options_off by (atom ∷ []) (user ∷ []) (grants_of_links indexed old))
 
 pub unoptioned_between : (indexed : Indexed) → AreApart indexed → (owners : List Ownership) (by user : User) (atom : Atom) (owner : Option ℕ) (b : ℕ) (u : Option ℕ) (a : ℕ)
     → IsOwnerIndex indexed owners atom owner → IsUserIndex indexed by (Some b) → IsUserIndex indexed user u → IsAtomIndex indexed atom (Some a)
@@ -167,12 +167,12 @@ pub unoptioned_between : (indexed : Indexed) → AreApart indexed → (owners : 
 unoptioned_between indexed apart owners by user atom owner b u a owner_is by_is user_is atom_is old new upheld ordered falls supported =
     let goes : Link → Bool = is_between b u a in
     let left : List Link = map (link_off goes) old in
-    let Had : Link → Type 0 = λ l. is_supported owners (grants_of indexed old) (grant_of indexed l) ≡ true in
+    let Had : Link → Type 0 = λ l. is_supported owners (grants_of_links indexed old) (grant_of indexed l) ≡ true in
     let within_left : AllByRecursion (IsWithin indexed) left =
     all_over (link_off goes) (IsWithin indexed) old (all_implied (IsWithin indexed) (λ l. IsWithin indexed (link_off goes l)) old (within_off indexed goes) upheld.within) in
     let had_left : AllByRecursion Had left =
-    all_over (link_off goes) Had old (all_implied Had (λ l. Had (link_off goes l)) old (λ l h. support_off indexed owners (grants_of indexed old) goes l ∙ h)
-    (all_under (grant_of indexed) (λ g. is_supported owners (grants_of indexed old) g ≡ true) old upheld.supported)) in
+    all_over (link_off goes) Had old (all_implied Had (λ l. Had (link_off goes l)) old (λ l h. support_off indexed owners (grants_of_links indexed old) goes l ∙ h)
+    (all_under (grant_of indexed) (λ g. is_supported owners (grants_of_links indexed old) g ≡ true) old upheld.supported)) in
     let kept : AreUpheld indexed owners new = record {
       within = falls_all (IsWithin indexed) owner a left new falls within_left;
       in_order = in_order_over indexed new ordered;

@@ -8,7 +8,7 @@ use Rattle.base_core.specs.declared.privilege.Atom.{Atom}
 use Rattle.base_core.specs.declared.value.Moment.{Moment}
 use Rattle.grants_core.specs.Owners.{with_owner, with_granted, was_granted}
 use Rattle.grants_core.specs.Valid.{valid, IsInOrder, AreSupported}
-use Rattle.grants_core.specs.Content.{Content, names, without, options_off, may_grant, singles}
+use Rattle.grants_core.specs.Content.{Rights, names, without, options_off, may_grant, singles}
 use Rattle.grants_core.specs.declared.grant.Grant.{Grant}
 use Rattle.grants_core.specs.declared.grant.Ownership.{Ownership}
 use Rattle.grants_core.proofs.OwnersLemmas.{alike-with_granted, AllByRecursion-append, singles-all}
@@ -18,7 +18,7 @@ use Rattle.grants_core.proofs.GrantLemmas.{All-implied, All-filtered, All-valid,
 use Rattle.graph_core.specs.Revocation.{IsSound}
 use Rattle.graph_core.proofs.MarkedLemmas.{AreMarked, AreSupported-owners, alike-with_owner, AreMarked-with_owner, AreMarked-with_granted, singles-marked}
 
-pub same_content : (os ps : List Ownership) (gs hs : List Grant) (n m : ℕ) → os ≡ ps → gs ≡ hs → n ≡ m → ◌≡◌ {A = Content} (record { owners = os; in_force = gs; made = n }) (record { owners = ps; in_force = hs; made = m })
+pub same_content : (os ps : List Ownership) (gs hs : List Grant) (n m : ℕ) → os ≡ ps → gs ≡ hs → n ≡ m → ◌≡◌ {A = Rights} (record { owners = os; in_force = gs; made = n }) (record { owners = ps; in_force = hs; made = m })
 same_content os ps gs hs n m e f g = cc
 
 pub IsSound-with_owner : (table : Name) (owner : User) (os : List Ownership) (edges : List Grant) → was_granted os table ≡ false → IsSound os edges → IsSound (with_owner table owner os) edges

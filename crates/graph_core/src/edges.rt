@@ -1,14 +1,14 @@
 //! The edges in number order, with an index at each of their sides.
 ghost use Rattle.std.specs.Prelude.{◌≡◌, ◌≤◌, ◌+◌, ◌*◌, ◌^◌, ◌++◌, ◌&&◌, [], length, min, take, drop, OnOk, OnErr, IfOk};
 ghost use Rattle.std.specs.List.{list_any};
-ghost use Rattle.grants_core.specs.Content.{singles, gives, count_of, has_made, has_optioned, without, options_off};
+ghost use Rattle.grants_core.specs.Content.{singles, gives, count_of, has_made, has_optioned};
 ghost use Rattle.grants_core.specs.Numbers.{IsNumbered};
 ghost use Rattle.grants_core.specs.Valid.{valid, IsInOrder, AreSupported};
+ghost use Rattle.graph_core.specs.Revocation.{grants_after};
 
 use crate::indices::Indices;
 use crate::linking::{grants_of, links_of, put_grants};
-use crate::options::revoke_option;
-use crate::revocation::revoke;
+use crate::revocation::{Loss, revoke};
 use base_core::{Atom, Moment, NoMemory, User};
 use grants_core::{Grant, Owners, single_grants};
 use links_core::Links;
@@ -26,10 +26,10 @@ pub struct Edges {
 impl Model for Edges {
     ghost use Rattle.std.specs.Prelude.{map};
     ghost use Rattle.std.specs.List.{AllByRecursion};
-    ghost use Rattle.graph_core.specs.Edges.{Kept};
+    ghost use Rattle.graph_core.specs.Edges.{EdgesState};
     ghost use Rattle.graph_core.specs.Indices.{grant_of, IsWithin};
 
-    ghost Value = { Kept };
+    ghost Value = { EdgesState };
 
     ghost view = { λ e. record {
       edges = map (grant_of e.indices) e.links.links;
@@ -149,34 +149,19 @@ impl Edges {
         Ok(())
     }
 
-    /// Takes out the edges of the atoms from the one user to the others, and those that lose their
-    /// support with them. Before, and afterwards, each has it.
-    pub fn revoke(&mut self, owners: &Owners, by: &User, atoms: &[Atom], whom: &[User])
+    /// Takes this from the edges of the atoms from the one user to the others, and takes out those
+    /// that lose their support with it. Before, and afterwards, each has it.
+    pub fn revoke(&mut self, owners: &Owners, loss: Loss, by: &User, atoms: &[Atom], whom: &[User])
         requires in_order { IsInOrder self.old.edges }
         requires supported { AreSupported owners.now self.old.edges self.old.edges }
         ensures in_order { IsInOrder self.new.edges }
         ensures supported { AreSupported owners.now self.new.edges self.new.edges }
         ensures valid { self.new.edges
-            ≡ valid owners.now (without by.now atoms.now whom.now self.old.edges) }
+            ≡ valid owners.now (grants_after loss by.now atoms.now whom.now self.old.edges) }
         ensures next { self.new.next ≡ self.old.next }
         ensures rest { self.new.rest ≡ self.old.rest }
     {
-        revoke(owners, &self.indices, &mut self.links, by, atoms, whom);
-    }
-
-    /// Takes the option off the edges of the atoms from the one user to the others, and takes out
-    /// those that lose their support with it. Before, and afterwards, each has it.
-    pub fn revoke_option(&mut self, owners: &Owners, by: &User, atoms: &[Atom], whom: &[User])
-        requires in_order { IsInOrder self.old.edges }
-        requires supported { AreSupported owners.now self.old.edges self.old.edges }
-        ensures in_order { IsInOrder self.new.edges }
-        ensures supported { AreSupported owners.now self.new.edges self.new.edges }
-        ensures valid { self.new.edges
-            ≡ valid owners.now (options_off by.now atoms.now whom.now self.old.edges) }
-        ensures next { self.new.next ≡ self.old.next }
-        ensures rest { self.new.rest ≡ self.old.rest }
-    {
-        revoke_option(owners, &self.indices, &mut self.links, by, atoms, whom);
+        revoke(owners, &self.indices, &mut self.links, loss, by, atoms, whom);
     }
 
     /// All edges, in number order. `NoMemory` where their copy has no room. Each number is below

@@ -4,6 +4,7 @@ ghost use Rattle.grants_core.specs.Content.{after_create, after_grant, after_rev
 ghost use Rattle.grants_core.specs.Owners.{was_granted};
 
 use crate::edges::Edges;
+use crate::revocation::Loss;
 use base_core::{Atom, Moment, Name, NoMemory, User};
 use grants_core::{Authority, Grant, Owners};
 use std::alloc::Global;
@@ -125,7 +126,7 @@ impl Authority for Graph {
             ≡ after_revoke self.old.content by atoms.now whom.now }
         ensures rest { self.new.rest ≡ self.old.rest }
     {
-        self.edges.revoke(&self.owners, &by, atoms, whom);
+        self.edges.revoke(&self.owners, Loss::Grant, &by, atoms, whom);
     }
 
     fn revoke_option(&mut self, by: User, atoms: &[Atom], whom: &[User])
@@ -133,7 +134,7 @@ impl Authority for Graph {
             ≡ after_revoke_option self.old.content by atoms.now whom.now }
         ensures rest { self.new.rest ≡ self.old.rest }
     {
-        self.edges.revoke_option(&self.owners, &by, atoms, whom);
+        self.edges.revoke(&self.owners, Loss::Option, &by, atoms, whom);
     }
 
     #[inline(always)]

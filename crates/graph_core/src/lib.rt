@@ -81,9 +81,9 @@
 //! - `revoke` looks up, for each privilege that is named, that and its owner, the grantor, and each
 //!   of the users. An edge that falls costs no look-up by hash, but some searches with the
 //!   logarithm of n. The ends before it in its row move, or those behind it, whichever are fewer; in
-//!   a chain that is one at most. It needs no memory and never fails; it calls itself at most as deep as there are
-//!   edges of one privilege. `revoke_option` does the same, but for the named edges, which stay:
-//!   one walk over the edges to each user named.
+//!   a chain that is one at most. It needs no memory and never fails; it calls itself at most as
+//!   deep as there are edges of one privilege. `revoke_option` does the same, but for the named
+//!   edges, which stay: one walk over the edges to each user named.
 //! - `in_force` goes over all edges, and makes each anew.
 //! - `begin` and `left` are constant, but for an older capture that is given up, and `capture_step`
 //!   makes the grants that it gives. It takes memory for these, and for their links as long as it
@@ -97,7 +97,6 @@ mod edges;
 mod graph;
 mod indices;
 mod linking;
-mod options;
 mod prune;
 mod revocation;
 

@@ -1,17 +1,25 @@
 //! What a revocation names, and what falls with it.
 ghost use Rattle.std.specs.Prelude.{◌≡◌, ℕ, ◌<◌, ◌∷◌, [], not, filter, length, Some};
-ghost use Rattle.grants_core.specs.Content.{without};
 ghost use Rattle.grants_core.specs.Owners.{owns};
 ghost use Rattle.grants_core.specs.Valid.{valid};
 ghost use Rattle.graph_core.specs.Indices.{user_at, is_index};
 ghost use Rattle.graph_core.specs.Pruning.{SupportedBut, Falls, AreInOrder, is_between, is_of_another};
-ghost use Rattle.graph_core.specs.Revocation.{grants_of, AreUpheld};
+ghost use Rattle.graph_core.specs.Revocation.{grants_of_links, links_after, grants_after, AreUpheld};
 
 use crate::indices::Indices;
 use crate::prune::prune;
 use base_core::{Atom, User};
 use grants_core::Owners;
 use links_core::Links;
+
+/// What a revocation takes from the grants that it names.
+#[derive(Clone, Copy)]
+pub enum Loss {
+    /// They go.
+    Grant,
+    /// They stay, without their option.
+    Option,
+}
 
 // Takes out the links of the privilege from the one user to the other.
 fn remove_between(links: &mut Links, by: usize, user: usize, atom: usize)
@@ -25,10 +33,24 @@ fn remove_between(links: &mut Links, by: usize, user: usize, atom: usize)
     }
 }
 
-// Takes out the links of the privilege from the one user to the other, if he has an index, and
-// those that fall with them.
+// Takes this from the links of the privilege from the one user to the other.
+fn take_between(links: &mut Links, loss: Loss, by: usize, user: usize, atom: usize)
+    ensures links { links.new.links
+        ≡ links_after loss (is_between by (Some user) atom) links.old.links }
+    ensures next { links.new.next ≡ links.old.next }
+    ensures rest { links.new.rest ≡ links.old.rest }
+{
+    match loss {
+        Loss::Grant => remove_between(links, by, user, atom),
+        Loss::Option => links.take_options(by, user, atom),
+    }
+}
+
+// Takes this from the links of the privilege from the one user to the other, if he has an index, and
+// takes out those that fall with it.
 fn revoke_between(
     links: &mut Links,
+    loss: Loss,
     owner: Option<usize>,
     by: usize,
     user: Option<usize>,
@@ -39,12 +61,12 @@ fn revoke_between(
     ensures in_order { AreInOrder links.new.links }
     ensures supported { SupportedBut owner links.new.links (is_of_another atom) }
     ensures falls { Falls owner atom
-        (filter (λ l. not (is_between by user atom l)) links.old.links) links.new.links }
+        (links_after loss (is_between by user atom) links.old.links) links.new.links }
     ensures next { links.new.next ≡ links.old.next }
     ensures rest { links.new.rest ≡ links.old.rest }
 {
     if let Some(user) = user {
-        remove_between(links, by, user, atom);
+        take_between(links, loss, by, user, atom);
         prune(links, owner, user, atom);
     }
 }
@@ -61,20 +83,23 @@ pub fn owner_index(owners: &Owners, indices: &Indices, atom: &Atom) -> Option<us
     }
 }
 
-// Takes out the links of the privilege that a revocation names, and those that fall with them.
+// Takes this from the links of the privilege that a revocation names, and takes out those that fall
+// with it.
 fn revoke_of_atom(
     owners: &Owners,
     indices: &Indices,
     links: &mut Links,
+    loss: Loss,
     by: &User,
     atom: &Atom,
     whom: &[User],
 )
     requires { AreUpheld indices.now owners.now links.old.links }
     ensures upheld { AreUpheld indices.now owners.now links.new.links }
-    ensures valid { grants_of indices.now links.new.links
+    ensures valid { grants_of_links indices.now links.new.links
         ≡ valid owners.now
-        (without by.now (atom.now ∷ []) whom.now (grants_of indices.now links.old.links)) }
+        (grants_after loss by.now (atom.now ∷ []) whom.now
+        (grants_of_links indices.now links.old.links)) }
     ensures next { links.new.next ≡ links.old.next }
     ensures rest { links.new.rest ≡ links.old.rest }
 {
@@ -86,29 +111,31 @@ fn revoke_of_atom(
     };
     let owner = owner_index(owners, indices, atom);
     for user in whom {
-        revoke_between(links, owner, by, indices.user(user), at);
+        revoke_between(links, loss, owner, by, indices.user(user), at);
     }
 }
 
-/// Takes out the links that a revocation names, and those that fall with them. It looks each of the
-/// names up once for a privilege, and none for a link that falls.
+/// Takes this from the links that a revocation names, and takes out those that fall with it. It
+/// looks each of the names up once for a privilege, and none for a link that falls.
 pub fn revoke(
     owners: &Owners,
     indices: &Indices,
     links: &mut Links,
+    loss: Loss,
     by: &User,
     atoms: &[Atom],
     whom: &[User],
 )
     requires { AreUpheld indices.now owners.now links.old.links }
     ensures upheld { AreUpheld indices.now owners.now links.new.links }
-    ensures valid { grants_of indices.now links.new.links
+    ensures valid { grants_of_links indices.now links.new.links
         ≡ valid owners.now
-        (without by.now atoms.now whom.now (grants_of indices.now links.old.links)) }
+        (grants_after loss by.now atoms.now whom.now
+        (grants_of_links indices.now links.old.links)) }
     ensures next { links.new.next ≡ links.old.next }
     ensures rest { links.new.rest ≡ links.old.rest }
 {
     for atom in atoms {
-        revoke_of_atom(owners, indices, links, by, atom, whom);
+        revoke_of_atom(owners, indices, links, loss, by, atom, whom);
     }
 }

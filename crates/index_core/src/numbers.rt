@@ -16,6 +16,7 @@ pub enum Numbers {
 }
 
 impl Numbers {
+    /// The numbers, in rising order.
     pub fn as_slice(&self) -> &[u64]
         ensures { result.now ≡ all_of self.now }
     {

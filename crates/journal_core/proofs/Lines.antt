@@ -9,7 +9,7 @@ use Rattle.base_core.specs.Streams.{WritesFront}
 use Rattle.printer_core.specs.Printing.{journal_line}
 use Rattle.system_core.specs.declared.machine.event.Entry.{Entry}
 use Rattle.journal_core.specs.Text.{entry_text, journal_lines, journal_text}
-use Rattle.journal_core.proofs.Fronts.{front-before, front-after}
+use Rattle.base_core.proofs.Fronts.{front-first, front-second}
 
 pub text-append : (xs ys : List Entry) → journal_text (xs ++ ys) ≡ journal_text xs ++ journal_text ys
 text-append xs ys =
@@ -44,4 +44,4 @@ module _ (xs : List Entry) (i : ℕ) (e : Entry) (within : i < length xs) (is : 
         let rest = drop (i + 1) xs in
         let text : journal_text xs ≡ journal_text (take i xs) ++ (entry_text e ++ journal_text rest) = ap journal_text all_by ∙ text-append (take i xs) (e ∷ rest) in
         subst (λ (t : List ℕ). WritesFront a c t) (sym text)
-        (front-after a b c (journal_text (take i xs)) (entry_text e ++ journal_text rest) before (front-before b c (entry_text e) (journal_text rest) w))
+        (front-second a b c (journal_text (take i xs)) (entry_text e ++ journal_text rest) before (front-first b c (entry_text e) (journal_text rest) w))

@@ -1,8 +1,7 @@
 //! A whole journal, written at once.
-ghost use Rattle.std.specs.Prelude.{◌≡◌, ◌↔◌, true, false, IsErrOf, OnOk, OnErr, MatchResult};
-ghost use Rattle.std.specs.Io.KnownBytes.{Appends};
+ghost use Rattle.std.specs.Prelude.{◌≡◌, ◌↔◌, true, false, IsErrOf, OnOk};
 ghost use Rattle.std.specs.List.{AllByRecursion};
-ghost use Rattle.base_core.specs.Streams.{WritesFront};
+ghost use Rattle.base_core.specs.Streams.{MayWriteText};
 ghost use Rattle.journal_core.specs.Text.{journal_text, WasRead};
 ghost use Rattle.journal_core.specs.Keeping.{EndsJournal};
 
@@ -24,12 +23,8 @@ pub enum JournalFault {
 fn write_lines<W: Sink>(page: &mut Page, writer: &mut W, entries: &[Entry]) -> Result<(), Broken>
     requires works { W.failed writer.old ≡ false }
     requires read { AllByRecursion WasRead entries.now }
-    ensures failed { MatchResult result (λ _. W.failed writer.new ≡ false)
-        (λ _. W.failed writer.new ≡ true) }
-    ensures ok { OnOk result
-        (Appends (W.taken writer.old) (W.taken writer.new) (journal_text entries.now)) }
-    ensures err { OnErr result
-        (WritesFront (W.taken writer.old) (W.taken writer.new) (journal_text entries.now)) }
+    ensures { MayWriteText W.failed W.taken (journal_text entries.now)
+        result writer.old writer.new }
 {
     for entry in entries {
         write_all(writer, page.line(entry.user, &entry.statement))?;

@@ -1,6 +1,5 @@
 -- What each step of `feed` does.
-use Rattle.std.proofs.Common.{◌≡◌, ◌≢◌, ◌<◌, ◌+◌, ◌-◌, ℕ, List, [], ◌∷◌, ◌++◌, refl, sym, ap, ◌∙◌, append_assoc, append-nil, eqb, true, map, length, take, drop, arith, ⊎_elim, subst, get_or, Option, Some, None, Result, Ok, Err, eq-eqb}
-use Rattle.std.specs.Result.{OnErr}
+use Rattle.std.proofs.Common.{◌≡◌, ◌≢◌, ◌<◌, ◌+◌, ◌-◌, ℕ, List, [], ◌∷◌, ◌++◌, refl, sym, ap, ◌∙◌, append_assoc, append-nil, eqb, true, map, length, take, drop, arith, ⊎_elim, subst, get_or, Option, Some, None, eq-eqb}
 use Rattle.std.specs.Str.Lines.{strip_carriage_return}
 use Rattle.std.specs.Io.KnownBytes.{Appends, Keeps}
 use Rattle.std.proofs.lemmas.List.{take_all, length-take, take-take, take-append-le, take-append-drop, drop_more, get_or-take, map-append, take_rest, drop-drop}
@@ -9,10 +8,11 @@ use Rattle.std.proofs.lemmas.Bool.{cases_lt}
 use Rattle.std.proofs.lemmas.Bool.Decides.{nat_tests}
 use Rattle.std.proofs.KnownBytes.{Appends-trans, Appends-nil, Appends-kept}
 use Rattle.memchr.specs.Find.{IsFirstByte, is_byte}
-use Rattle.base_core.specs.Streams.{WritesFront}
+use Rattle.base_core.specs.Streams.{Writes, WritesFrontOf}
+use Rattle.base_core.proofs.Fronts.{front-second, front-whole}
 use Rattle.lines_core.specs.declared.line.TheConstants.{KEPT_BYTES, LONGEST_LINE}
 use Rattle.lines_core.specs.Lines.{Cut, NoFeed}
-use Rattle.lines_core.specs.Serving.{AnswersAll, WritesAnswer, BreaksAnswer, AnswersPiece, BreaksPiece}
+use Rattle.lines_core.specs.Serving.{AnswersAll, AnswersPiece, BreaksPiece}
 use Rattle.lines_core.proofs.LineLemmas.{Cut-append, Cut-feed, Cut-open, ByRecursion-append}
 use Rattle.lines_core.proofs.AnswerLemmas.{AnswersAll-append, AnswersAll-one, R-kept_strip}
 
@@ -57,24 +57,11 @@ cut_line rest done part now parts cut h =
     subst (λ x. Cut x (parts ++ (now ++ part) ∷ []) []) (append_assoc rest done (part ++ 10 ∷ []))
     (Cut-append (rest ++ done) (part ++ 10 ∷ []) parts ((now ++ part) ∷ []) now [] cut next)
 
-pub WritesFront-after : (before between after : Option (List ℕ)) (text more : List ℕ)
-    → Appends before between text → WritesFront between after more → WritesFront before after (text ++ more)
-WritesFront-after before between after text more p q = record {
-  part = text ++ q.part;
-  unwritten = q.unwritten;
-  front = ap (λ x. text ++ x) q.front ∙ sym (append_assoc text q.part q.unwritten);
-  wrote = Appends-trans before between after text q.part p q.wrote;
-}
-
 -- the piece, at a line feed in what is left of it
 pub split_feed : (done left piece : List ℕ) (end : ℕ) → IsFirstByte (is_byte 10) left (Some end) → done ++ left ≡ piece
     → (done ++ (take end left ++ 10 ∷ [])) ++ drop (end + 1) left ≡ piece
 split_feed done left piece end found e =
     append_assoc done (take end left ++ 10 ∷ []) (drop (end + 1) left) ∙ ap (λ x. done ++ x) (sym (at_feed left end found)) ∙ e
-
-pub OnErr-from : {T E P : Type 0} (r : Result T E) → P → OnErr r P
-OnErr-from (Ok x) p = tt
-OnErr-from (Err e) p = p
 
 -- and what the code has for what is left behind it
 pub behind_feed : (done left behind piece : List ℕ) (end : ℕ) → IsFirstByte (is_byte 10) left (Some end) → behind ≡ drop end left → done ++ left ≡ piece
@@ -85,10 +72,6 @@ behind_feed done left behind piece end found b e =
 pub no_rest : (now kept : List ℕ) → kept ≡ take KEPT_BYTES now → length kept ≡ 0 → now ≡ []
 no_rest [] kept e none = refl
 no_rest (b ∷ bs) kept e none = absurd (omega (arith, ap length e, length-take KEPT_BYTES (b ∷ bs)))
-
--- all was taken, and the writer failed to hand it on
-pub WritesFront-whole : (before between after : Option (List ℕ)) (text : List ℕ) → Appends before between text → Keeps between after → WritesFront before after text
-WritesFront-whole before between after text wrote keeps = record { part = text; unwritten = []; front = sym (append-nil text); wrote = Appends-kept before between after text wrote keeps }
 
 module _ {X : Type 0} (R : X → List ℕ → List ℕ → X → Type 0)
     (too_long : (old new : X) (line other text : List ℕ) → LONGEST_LINE < length line → LONGEST_LINE < length other → R old line text new → R old other text new) where
@@ -104,7 +87,7 @@ module _ {X : Type 0} (R : X → List ℕ → List ℕ → X → Type 0)
 
   pub Feeds-line : (rest done part kept line : List ℕ) (old mid new : X) (before between after : Option (List ℕ))
       → AnswersPiece R rest done kept old mid before between → NoFeed part → line ≡ take KEPT_BYTES (kept ++ part)
-      → WritesAnswer R (strip_carriage_return line) mid new between after
+      → Writes (λ text. R mid (strip_carriage_return line) text new) between after
       → AnswersPiece R rest (done ++ (part ++ 10 ∷ [])) [] old new before after
   Feeds-line rest done part kept line old mid new before between after fed h e one = record {
     parts = fed.parts ++ (fed.now ++ part) ∷ [];
@@ -112,13 +95,13 @@ module _ {X : Type 0} (R : X → List ℕ → List ℕ → X → Type 0)
     text = fed.text ++ one.text;
     cut = cut_line rest done part fed.now fed.parts fed.cut h;
     kept_is = refl;
-    answered = answer_line old mid new fed.now part line fed.text one.text fed.parts (kept_line fed.now part kept line fed.kept_is e) fed.answered one.answered;
+    answered = answer_line old mid new fed.now part line fed.text one.text fed.parts (kept_line fed.now part kept line fed.kept_is e) fed.answered one.is;
     wrote = Appends-trans before between after fed.text one.text fed.wrote one.wrote;
   }
 
   pub Breaks-line : (rest done part kept line : List ℕ) (old mid new : X) (undone piece : List ℕ) (before between after : Option (List ℕ))
       → AnswersPiece R rest done kept old mid before between → NoFeed part → line ≡ take KEPT_BYTES (kept ++ part)
-      → BreaksAnswer R (strip_carriage_return line) mid new between after
+      → WritesFrontOf (λ text. R mid (strip_carriage_return line) text new) between after
       → piece ≡ (done ++ (part ++ 10 ∷ [])) ++ undone
       → BreaksPiece R rest piece old new before after
   Breaks-line rest done part kept line old mid new undone piece before between after fed h e broken split = record {
@@ -128,8 +111,8 @@ module _ {X : Type 0} (R : X → List ℕ → List ℕ → X → Type 0)
     front = split;
     text = fed.text ++ broken.text;
     cut = cut_line rest done part fed.now fed.parts fed.cut h;
-    answered = answer_line old mid new fed.now part line fed.text broken.text fed.parts (kept_line fed.now part kept line fed.kept_is e) fed.answered broken.answered;
-    wrote = WritesFront-after before between after fed.text broken.text fed.wrote broken.wrote;
+    answered = answer_line old mid new fed.now part line fed.text broken.text fed.parts (kept_line fed.now part kept line fed.kept_is e) fed.answered broken.is;
+    wrote = front-second before between after fed.text broken.text fed.wrote broken.wrote;
   }
 
   pub Feeds-open : (rest done left kept line : List ℕ) (old new : X) (before after : Option (List ℕ))
@@ -182,5 +165,5 @@ module _ {X : Type 0} (R : X → List ℕ → List ℕ → X → Type 0)
     text = fed.text;
     cut = subst (λ now. Cut (rest ++ done) fed.parts now) (no_rest fed.now kept fed.kept_is (ap length none)) fed.cut;
     answered = fed.answered;
-    wrote = WritesFront-whole before between after fed.text fed.wrote keeps;
+    wrote = front-whole before after fed.text (Appends-kept before between after fed.text fed.wrote keeps);
   }

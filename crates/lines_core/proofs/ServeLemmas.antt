@@ -6,10 +6,12 @@ use Rattle.std.proofs.lemmas.List.{map-append, length-append}
 use Rattle.std.proofs.KnownBytes.{Appends-trans, Appends-kept, Consumes-trans, Consumes-kept, Consumes-nil}
 use Rattle.lines_core.specs.declared.line.TheConstants.{KEPT_BYTES, LONGEST_LINE}
 use Rattle.lines_core.specs.Lines.{Cut, NoFeed, whole_lines}
-use Rattle.lines_core.specs.Serving.{AnswersAll, WritesAnswer, BreaksAnswer, AnswersPiece, BreaksPiece, AnswersInput, BreaksInput, HasServed, WasOpen}
+use Rattle.lines_core.specs.Serving.{AnswersAll, AnswersPiece, BreaksPiece, AnswersInput, BreaksInput, HasServed, WasOpen}
 use Rattle.lines_core.proofs.LineLemmas.{Cut-append, lines-Cut, whole_lines-Cut, last_line}
 use Rattle.lines_core.proofs.AnswerLemmas.{AnswersAll-append, AnswersAll-one, R-kept}
-use Rattle.lines_core.proofs.FeedLemmas.{Feeds-none, WritesFront-after, no_rest}
+use Rattle.base_core.specs.Streams.{Writes, WritesFrontOf}
+use Rattle.base_core.proofs.Fronts.{front-second}
+use Rattle.lines_core.proofs.FeedLemmas.{Feeds-none, no_rest}
 
 at_end : (left0 left1 left2 : Option (List ℕ)) (bytes : List ℕ) → Consumes left0 left1 bytes → Consumes left1 left2 [] → Consumes left0 left2 bytes
 at_end left0 left1 left2 bytes p q = subst (λ b. Consumes left0 left2 b) (append-nil bytes) (Consumes-trans left0 left1 left2 bytes [] p q)
@@ -76,12 +78,12 @@ module _ {X : Type 0} (R : X → List ℕ → List ℕ → X → Type 0)
 
   -- At the end of the input the last line, if it has a byte, is answered too.
   pub Run-last : (kept : List ℕ) (start mid new : X) (unread : ℕ) (left0 left1 left2 taken0 taken1 taken2 : Option (List ℕ))
-      → (s : HasServed R kept start mid unread left0 left1 taken0 taken1) → Consumes left1 left2 [] → 0 < length kept → WritesAnswer R kept mid new taken1 taken2
+      → (s : HasServed R kept start mid unread left0 left1 taken0 taken1) → Consumes left1 left2 [] → 0 < length kept → Writes (λ text. R mid kept text new) taken1 taken2
       → AnswersInput R lines start new left0 left2 taken0 taken2 s.bytes
   Run-last kept start mid new unread left0 left1 left2 taken0 taken1 taken2 s read some last = record {
     text = s.fed.text ++ last.text;
     bounded = omega (arith, s.count);
-    answered = all_answers s.bytes start mid new s.fed.text last.text s.fed.parts s.fed.now kept s.fed.cut s.fed.kept_is some s.fed.answered last.answered;
+    answered = all_answers s.bytes start mid new s.fed.text last.text s.fed.parts s.fed.now kept s.fed.cut s.fed.kept_is some s.fed.answered last.is;
     read = at_end left0 left1 left2 s.bytes s.read read;
     wrote = Appends-trans taken0 taken1 taken2 s.fed.text last.text s.fed.wrote last.wrote;
   }
@@ -123,10 +125,10 @@ module _ {X : Type 0} (R : X → List ℕ → List ℕ → X → Type 0)
       }
 
   pub Open-last : (over : X → Bool) (kept : List ℕ) (start mid new : X) (unread : ℕ) (left0 left1 taken0 taken1 taken2 : Option (List ℕ))
-      → (s : HasServed R kept start mid unread left0 left1 taken0 taken1) → (over start ≡ false → over mid ≡ false) → 0 < length kept → WritesAnswer R kept mid new taken1 taken2
+      → (s : HasServed R kept start mid unread left0 left1 taken0 taken1) → (over start ≡ false → over mid ≡ false) → 0 < length kept → Writes (λ text. R mid kept text new) taken1 taken2
       → WasOpen R over start new s.bytes
   Open-last over kept start mid new unread left0 left1 taken0 taken1 taken2 s h some last =
-      was_open over kept start mid new last.text unread left0 left1 taken0 taken1 s h (last_answers mid new last.text s.fed.now kept s.fed.kept_is some last.answered)
+      was_open over kept start mid new last.text unread left0 left1 taken0 taken1 s h (last_answers mid new last.text s.fed.now kept s.fed.kept_is some last.is)
 
   pub Open-nothing : (over : X → Bool) (kept : List ℕ) (start mid new : X) (unread : ℕ) (left0 left1 taken0 taken1 : Option (List ℕ))
       → (s : HasServed R kept start mid unread left0 left1 taken0 taken1) → (over start ≡ false → over mid ≡ false) → length kept ≡ 0 → new ≡ mid
@@ -137,16 +139,16 @@ module _ {X : Type 0} (R : X → List ℕ → List ℕ → X → Type 0)
 
   -- The writer failed at the last line.
   pub BrokenRun-last : (kept : List ℕ) (start mid new : X) (unread : ℕ) (left0 left1 left2 taken0 taken1 taken2 : Option (List ℕ))
-      → (s : HasServed R kept start mid unread left0 left1 taken0 taken1) → Consumes left1 left2 [] → IsAtEnd left2 → 0 < length kept → BreaksAnswer R kept mid new taken1 taken2
+      → (s : HasServed R kept start mid unread left0 left1 taken0 taken1) → Consumes left1 left2 [] → IsAtEnd left2 → 0 < length kept → WritesFrontOf (λ text. R mid kept text new) taken1 taken2
       → BreaksInput R start new left0 left2 taken0 taken2
   BrokenRun-last kept start mid new unread left0 left1 left2 taken0 taken1 taken2 s read end some last = record {
     done = s.bytes;
     undone = [];
     text = s.fed.text ++ last.text;
     line_end = inr (refl, end);
-    answered = all_answers s.bytes start mid new s.fed.text last.text s.fed.parts s.fed.now kept s.fed.cut s.fed.kept_is some s.fed.answered last.answered;
+    answered = all_answers s.bytes start mid new s.fed.text last.text s.fed.parts s.fed.now kept s.fed.cut s.fed.kept_is some s.fed.answered last.is;
     read = Consumes-trans left0 left1 left2 s.bytes [] s.read read;
-    wrote = WritesFront-after taken0 taken1 taken2 s.fed.text last.text s.fed.wrote last.wrote;
+    wrote = front-second taken0 taken1 taken2 s.fed.text last.text s.fed.wrote last.wrote;
   }
 
   -- The writer failed at a line of the piece.
@@ -166,5 +168,5 @@ module _ {X : Type 0} (R : X → List ℕ → List ℕ → X → Type 0)
             (answers-parts start mid new s.fed.text broken.text s.fed.parts broken.parts s.fed.answered broken.answered);
         read = subst (λ b. Consumes left0 left2 b) (ap (λ p. s.bytes ++ p) broken.front ∙ sym (append_assoc s.bytes broken.done broken.undone))
             (Consumes-trans left0 left1 left2 s.bytes piece s.read read);
-        wrote = WritesFront-after taken0 taken1 taken2 s.fed.text broken.text s.fed.wrote broken.wrote;
+        wrote = front-second taken0 taken1 taken2 s.fed.text broken.text s.fed.wrote broken.wrote;
       }

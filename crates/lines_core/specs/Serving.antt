@@ -25,20 +25,6 @@ AnswersAll {X} answers old (line ∷ lines) text new =
     (first : List ℕ) × (mid : X) × (more : List ℕ)
     × answers old line first mid × AnswersAll answers mid lines more new × (text ≡ first ++ more)
 
--- A line was answered.
-pub record WritesAnswer {X : Type 0} (answers : X → List ℕ → List ℕ → X → Type 0)
-    (line : List ℕ) (old new : X) (taken taken' : Option (List ℕ)) : Type 0 where
-  pub text : List ℕ
-  pub answered : answers old line text new
-  pub wrote : Appends taken taken' text
-
--- The writer failed at the answer to a line.
-pub record BreaksAnswer {X : Type 0} (answers : X → List ℕ → List ℕ → X → Type 0)
-    (line : List ℕ) (old new : X) (taken taken' : Option (List ℕ)) : Type 0 where
-  pub text : List ℕ
-  pub answered : answers old line text new
-  pub wrote : WritesFront taken taken' text
-
 -- With rest before it, the piece was cut into lines, which were answered; of what comes after them the
 -- front is kept.
 pub record AnswersPiece {X : Type 0} (answers : X → List ℕ → List ℕ → X → Type 0)

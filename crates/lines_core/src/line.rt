@@ -78,6 +78,7 @@ impl Line {
         self.bytes
     }
 
+    /// The bytes that are kept of the line.
     pub fn as_slice(&self) -> &[u8]
         ensures { result.now ≡ self.now }
     {

@@ -2,9 +2,10 @@
 ghost use Rattle.std.specs.Prelude.{◌≡◌, ◌≤◌, ◌<◌, ◌↔◌, ◌⊎◌, ◌^◌, ◌++◌, ℕ, List, [], Bool, true, false, take, length, IfOk, OnOk, OnErr, MatchResult, IsErrOf, IsOk};
 ghost use Rattle.std.specs.Io.KnownBytes.{Consumes, Keeps, IsAtEnd};
 ghost use Rattle.std.specs.Str.Lines.{strip_carriage_return};
+ghost use Rattle.base_core.specs.Streams.{Writes, WritesFrontOf, MayWrite};
 ghost use Rattle.lines_core.specs.declared.line.TheConstants.{KEPT_BYTES, LONGEST_LINE};
 ghost use Rattle.lines_core.specs.Lines.{NoFeed};
-ghost use Rattle.lines_core.specs.Serving.{WritesAnswer, BreaksAnswer, AnswersPiece, BreaksPiece, EndsReading, Ends, EndsTold, EndsWhole, ending_at, IsEndingAt};
+ghost use Rattle.lines_core.specs.Serving.{AnswersPiece, BreaksPiece, EndsReading, Ends, EndsTold, EndsWhole, ending_at, IsEndingAt};
 
 use crate::line::{Line, without_carriage_return};
 use base_core::{Broken, Sink, Source};
@@ -79,12 +80,8 @@ pub trait LineServer {
     /// writer failed, and a front of an answer was written.
     fn answer<W: Sink>(&mut self, writer: &mut W, line: &[u8]) -> Result<(), Broken>
         requires { W.failed writer.old ≡ false }
-        ensures failed { MatchResult result (λ _. W.failed writer.new ≡ false)
-            (λ _. W.failed writer.new ≡ true) }
-        ensures ok { OnOk result (WritesAnswer answers line.now self.old self.new
-            (W.taken writer.old) (W.taken writer.new)) }
-        ensures err { OnErr result (BreaksAnswer answers line.now self.old self.new
-            (W.taken writer.old) (W.taken writer.new)) };
+        ensures { MayWrite W.failed W.taken (λ text. answers self.old line.now text self.new)
+            result writer.old writer.new };
 
     // Lines that are too long for any server are answered alike.
     ghost too_long: { (old new : Self) (line other text : List ℕ)
@@ -116,14 +113,10 @@ fn answer_line<D: LineServer, W: Sink>(
     last: &[u8],
 ) -> Result<(), Broken>
     requires { W.failed writer.old ≡ false }
-    ensures failed { MatchResult result (λ _. W.failed writer.new ≡ false)
-        (λ _. W.failed writer.new ≡ true) }
-    ensures ok { OnOk result
-        (WritesAnswer D.answers (strip_carriage_return (take KEPT_BYTES (line.old ++ last.now)))
-        server.old server.new (W.taken writer.old) (W.taken writer.new)) }
-    ensures err { OnErr result
-        (BreaksAnswer D.answers (strip_carriage_return (take KEPT_BYTES (line.old ++ last.now)))
-        server.old server.new (W.taken writer.old) (W.taken writer.new)) }
+    ensures text { MayWrite W.failed W.taken
+        (λ text. D.answers server.old
+        (strip_carriage_return (take KEPT_BYTES (line.old ++ last.now))) text server.new)
+        result writer.old writer.new }
     ensures cleared { OnOk result (line.new ≡ []) }
 {
     let whole = line.joined(last);
@@ -187,10 +180,10 @@ fn finish<D: LineServer, W: Sink>(server: &mut D, line: &Line, writer: &mut W) -
         → OnOk result ((server.new ≡ server.old) × Keeps (W.taken writer.old) (W.taken writer.new))
         × IsOk result }
     ensures ok { 0 < length line.now
-        → OnOk result (WritesAnswer D.answers line.now server.old server.new
+        → OnOk result (Writes (λ text. D.answers server.old line.now text server.new)
         (W.taken writer.old) (W.taken writer.new)) }
     ensures err { OnErr result ((0 < length line.now)
-        × BreaksAnswer D.answers line.now server.old server.new
+        × WritesFrontOf (λ text. D.answers server.old line.now text server.new)
         (W.taken writer.old) (W.taken writer.new)) }
     ensures flushed { W.flushed writer.old ≡ true → OnOk result (W.flushed writer.new ≡ true) }
 {

@@ -14,6 +14,7 @@ pub struct Steady<T> {
 }
 
 impl<T> Steady<T> {
+    /// The stream whose interrupted calls are made again.
     pub fn new(stream: T) -> Steady<T>
         ensures { result.stream ≡ stream }
     {

@@ -7,7 +7,7 @@ use Rattle.std.proofs.lemmas.Bool.{cond-true, cond-false, eq-eqb, eqb-true, ne_e
 use Rattle.links_core.specs.declared.link.Link.{Link}
 use Rattle.links_core.specs.declared.end.End.{End}
 use Rattle.copyup_core.specs.Holding.{value_at, with_item}
-use Rattle.links_core.specs.Ends.{Held}
+use Rattle.links_core.specs.Ends.{EndsState}
 use Rattle.links_core.specs.Links.{numbered_as, links_in, ends_at, grantee_of, grantor_of, goes_to, link_off, is_listed_by, passes, passes_at, count_at, Agrees, IsLinked, Rises, AreBelow}
 use Rattle.links_core.proofs.EndsLemmas.{all_implied, all_two}
 use Rattle.links_core.proofs.LinksLemmas.{links_in-numbered_as, numbers_of, count-cons}
@@ -183,18 +183,18 @@ count_off test [] b = refl
 count_off test (x ∷ xs) b =
     count-cons (link_off test x) (map (link_off test) xs) b ∙ ap (λ n. cond (x.atom == b) 1 0 + n) (count_off test xs b) ∙ sym (count-cons x xs b)
 
-agrees_off : (index : List Held) (end : Link → ℕ) (test : Link → Bool) (xs : List Link) → ((l : Link) → end (link_off test l) ≡ end l) → Agrees index end xs → Agrees index end (map (link_off test) xs)
+agrees_off : (index : List EndsState) (end : Link → ℕ) (test : Link → Bool) (xs : List Link) → ((l : Link) → end (link_off test l) ≡ end l) → Agrees index end xs → Agrees index end (map (link_off test) xs)
 agrees_off index end test xs same agrees = record {
   at = λ b u. agrees.at b u ∙ sym (numbers_off test (ends_at end b u) xs (λ l. ap (λ n. l.atom == b && (n == u)) (same l)));
   counted = λ b. agrees.counted b ∙ sym (count_off test xs b);
 }
 
 -- what the loss of options leaves
-pub record AreOff (contents left : List (ℕ × Link)) (made : ℕ) (received given : List Held) (test : Link → Bool) : Type 0 where
+pub record AreOff (contents left : List (ℕ × Link)) (made : ℕ) (received given : List EndsState) (test : Link → Bool) : Type 0 where
   pub kept : IsLinked left made received given
   pub links : links_in left ≡ map (link_off test) (links_in contents)
 
-linked_off : (contents : List (ℕ × Link)) (made : ℕ) (received given : List Held) (test : Link → Bool) → IsLinked contents made received given → AreOff contents (numbered_as (map (link_off test) (links_in contents))) made received given test
+linked_off : (contents : List (ℕ × Link)) (made : ℕ) (received given : List EndsState) (test : Link → Bool) → IsLinked contents made received given → AreOff contents (numbered_as (map (link_off test) (links_in contents))) made received given test
 linked_off contents made received given test kept =
     let old : List Link = links_in contents in
     let new : List Link = map (link_off test) old in
@@ -219,7 +219,7 @@ listed_there by user atom links ends rising same =
     (numbers_are p links rising)
 
 -- **the links by the one user to the other without their options**
-pub options_off_is : (contents left : List (ℕ × Link)) (made : ℕ) (received given : List Held) (by user atom : ℕ) (ends : List End) → IsLinked contents made received given → map (λ e. e.number) ends ≡ numbers_of (ends_at grantee_of atom user) (links_in contents) → left ≡ numbered_as (map (link_off (is_listed_by by ends)) (links_in contents)) → AreOff contents left made received given (λ l. (l.grantor == by) && goes_to user atom l)
+pub options_off_is : (contents left : List (ℕ × Link)) (made : ℕ) (received given : List EndsState) (by user atom : ℕ) (ends : List End) → IsLinked contents made received given → map (λ e. e.number) ends ≡ numbers_of (ends_at grantee_of atom user) (links_in contents) → left ≡ numbered_as (map (link_off (is_listed_by by ends)) (links_in contents)) → AreOff contents left made received given (λ l. (l.grantor == by) && goes_to user atom l)
 options_off_is contents left made received given by user atom ends kept same is =
     let test : Link → Bool = λ l. (l.grantor == by) && goes_to user atom l in
     let links = links_in contents in

@@ -4,7 +4,7 @@ use Rattle.std.specs.List.{AllByRecursion, list_any}
 use Rattle.copyup_core.specs.Holding.{value_at}
 use Rattle.links_core.specs.declared.link.Link.{Link}
 use Rattle.links_core.specs.declared.end.End.{End}
-use Rattle.links_core.specs.Ends.{Held}
+use Rattle.links_core.specs.Ends.{EndsState}
 use Rattle.links_core.specs.Listed.{numbers, count}
 
 -- the links in number order, the number of the next, and the links that a capture has still to give
@@ -68,14 +68,14 @@ grantee_of l = l.grantee
 
 -- an index lists for each privilege and user the numbers of exactly the links that end there, in
 -- order, and for each privilege as many ends as there are links of it
-pub record Agrees (index : List Held) (end : Link → ℕ) (links : List Link) : Type 0 where
+pub record Agrees (index : List EndsState) (end : Link → ℕ) (links : List Link) : Type 0 where
   pub at : (atom user : ℕ)
       → numbers index atom user ≡ map (λ l. l.number) (filter (ends_at end atom user) links)
   pub counted : (atom : ℕ) → count index atom ≡ count_at atom links
 
 -- each link stands under its own number, numbers rise and are below the next, and both indexes
 -- agree with the links
-pub record IsLinked (contents : List (ℕ × Link)) (next : ℕ) (received given : List Held) : Type 0 where
+pub record IsLinked (contents : List (ℕ × Link)) (next : ℕ) (received given : List EndsState) : Type 0 where
   pub own : contents ≡ numbered_as (links_in contents)
   pub rising : Rises (links_in contents)
   pub below : AreBelow next (links_in contents)

@@ -16,9 +16,9 @@ pub struct Row {
 
 impl Model for Row {
     ghost use Rattle.std.specs.Prelude.{◌-◌, ◌≤◌, drop, vec_len, vec_capacity};
-    ghost use Rattle.links_core.specs.Ends.{Held};
+    ghost use Rattle.links_core.specs.Ends.{EndsState};
 
-    ghost Value = { Held };
+    ghost Value = { EndsState };
 
     ghost view = { λ r. record {
       ends = drop r.gone r.block.items;
@@ -39,6 +39,7 @@ impl Row {
         }
     }
 
+    /// The ends, sorted by user.
     pub fn as_slice(&self) -> &[End]
         ensures { result.now ≡ self.now.ends }
     {

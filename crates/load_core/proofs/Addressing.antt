@@ -15,7 +15,7 @@ use Rattle.lexer_core.specs.declared.fault.Code.TheVariants as codes
 use Rattle.lexer_core.proofs.Shortness.{name_short}
 use Rattle.printer_core.proofs.Names.{name_word}
 use Rattle.printer_core.proofs.Spelling.{name_spells}
-use Rattle.script_core.specs.Script.{Address, colon, spoken_by, addressed_by, addressed_up_to}
+use Rattle.script_core.specs.Addressed.{Address, colon, spoken_by, addressed_by, addressed_up_to}
 use Rattle.lines_core.specs.declared.line.TheConstants.{LONGEST_LINE}
 use Rattle.load_core.specs.Loading.{byte_order_mark, unmarked}
 

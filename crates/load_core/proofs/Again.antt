@@ -70,7 +70,7 @@ ends_passes chunk (Err fault) left left' h = tt
 pub loaded_said : (limits : Limits) (before after : List Entry) (ls : List (List ℕ)) → Loads limits before ls after → AllByRecursion WasSaid before → AllByRecursion WasSaid after
 loaded_said limits before after [] same said = subst (AllByRecursion WasSaid) (sym same) said
 loaded_said limits before after (line ∷ ls) (e, says, more) said =
-    let read : WasRead e = record { line = drop says.says.start line; spelled = says.says.spelled; name = speaker_named LONGEST_LINE line e.user says.says.start says.says.speaker } in
+    let read : WasRead e = record { line = drop says.says.asks.start line; spelled = says.says.asks.spelled; name = speaker_named LONGEST_LINE line e.user says.says.asks.start says.says.asks.speaker } in
     loaded_said limits (before ++ e ∷ []) after ls more (AllByRecursion-append WasSaid before (e ∷ []) said ((read, says.says.pass), tt))
 
 pub ends_read : (chunk : ℕ) (result : Result World LoadFault) (left left' : Option (List ℕ)) → EndsLoad chunk result left left' → IfOk result (λ w. AllByRecursion WasRead w.journal)

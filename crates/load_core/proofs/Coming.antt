@@ -6,7 +6,7 @@ use Rattle.system_core.specs.World.{World, with_entry}
 use Rattle.system_core.specs.declared.machine.event.Entry.{Entry}
 use Rattle.load_core.specs.declared.fault.Undone.{Undone}
 use Rattle.load_core.specs.Loading.{Loads, SaysChange, IsUndone}
-use Rattle.load_core.specs.Loader.{Loaded, GoesOn, EntersOrPasses, line_at}
+use Rattle.load_core.specs.Loader.{LoaderState, GoesOn, EntersOrPasses, line_at}
 use Rattle.load_core.proofs.Lines.{lines_at, lines_at-nil, lines_at-cons, lines_at-more}
 
 -- it has nothing more than this journal
@@ -71,14 +71,14 @@ join None old line ls (Some why) mid stop2 new p q =
     } in
     subst (λ (s : Option Undone). Comes old (lines_at old.journal (line ∷ ls)) s new) (sym q.0) (subst (λ (w : World). Comes old (lines_at old.journal (line ∷ ls)) (Some why) w) (sym same) stopped)
 
-comes_on : (ls : List (List ℕ)) (stop : Option Undone) (old : World) (text : List ℕ) (new : Loaded) → AnswersAll GoesOn (record { world = old; stop = stop }) ls text new → ComesOrPasses stop old ls new.stop new.world
+comes_on : (ls : List (List ℕ)) (stop : Option Undone) (old : World) (text : List ℕ) (new : LoaderState) → AnswersAll GoesOn (record { world = old; stop = stop }) ls text new → ComesOrPasses stop old ls new.stop new.world
 comes_on [] None old text new p =
-    subst (λ (q : Loaded). Comes old (lines_at old.journal []) q.stop q.world) (sym p.1)
+    subst (λ (q : LoaderState). Comes old (lines_at old.journal []) q.stop q.world) (sym p.1)
     (subst (λ (xs : List (List ℕ)). Comes old xs None old) (sym (lines_at-nil old.journal)) (refl, refl))
-comes_on [] (Some why) old text new p = (ap (λ (q : Loaded). q.stop) p.1, ap (λ (q : Loaded). q.world) p.1)
+comes_on [] (Some why) old text new p = (ap (λ (q : LoaderState). q.stop) p.1, ap (λ (q : LoaderState). q.world) p.1)
 comes_on (line ∷ ls) stop old text new (first, mid, more, answered, behind, is) =
     join stop old line ls mid.stop mid.world new.stop new.world answered.1 (comes_on ls mid.stop mid.world more new behind)
 
 -- what an open loader has come to
-pub comes : (ls : List (List ℕ)) (old : World) (text : List ℕ) (new : Loaded) → AnswersAll GoesOn (record { world = old; stop = None }) ls text new → Comes old (lines_at old.journal ls) new.stop new.world
+pub comes : (ls : List (List ℕ)) (old : World) (text : List ℕ) (new : LoaderState) → AnswersAll GoesOn (record { world = old; stop = None }) ls text new → Comes old (lines_at old.journal ls) new.stop new.world
 comes ls old text new p = comes_on ls None old text new p

@@ -13,13 +13,13 @@ use Rattle.system_core.specs.World.{World, opening}
 use Rattle.load_core.specs.declared.fault.LoadFault.TheVariants as faults
 use Rattle.load_core.specs.declared.fault.Undone.{Undone}
 use Rattle.load_core.specs.Loading.{Loads, StopsAt, EndsLoad, IsUndone, lines_unmarked}
-use Rattle.load_core.specs.Loader.{Loaded, GoesOn, has_stopped, line_at, EntersLine, outcome_of, number_of, outcome_at}
+use Rattle.load_core.specs.Loader.{LoaderState, GoesOn, has_stopped, line_at, EntersLine, outcome_of, number_of, outcome_at}
 use Rattle.load_core.proofs.Lines.{lines_unmarked-length, same_behind}
 use Rattle.load_core.proofs.Coming.{Comes, Stops, comes}
 use Rattle.load_core.proofs.Room.{Loads-few, Loads-count}
 
 module _ (chunk : ℕ) (limits : Limits) (full : IsFull limits) (left left' : Option (List ℕ)) (taken taken' : Option (List ℕ)) where
-  abbrev pub start : Loaded
+  abbrev pub start : LoaderState
   start = record { world = opening chunk limits; stop = None }
 
   -- what its lines come to is what is said of a stop
@@ -60,12 +60,12 @@ module _ (chunk : ℕ) (limits : Limits) (full : IsFull limits) (left left' : Op
   number_by w line (Some why) v (undone, same) = ap (λ (x : World). length x.journal + 1) same
 
   -- it is the next behind those that were entered
-  next_number : (stop : Option Undone) (w : World) (line text : List ℕ) (new : Loaded) → is_some stop ≡ false → AnswersAll GoesOn (record { world = w; stop = stop }) (line ∷ []) text new → number_of new.world new.stop ≡ length w.journal + 1
+  next_number : (stop : Option Undone) (w : World) (line text : List ℕ) (new : LoaderState) → is_some stop ≡ false → AnswersAll GoesOn (record { world = w; stop = stop }) (line ∷ []) text new → number_of new.world new.stop ≡ length w.journal + 1
   next_number None w line text new open_then (first, mid, more, answered, behind, is) =
-      subst (λ (q : Loaded). number_of q.world q.stop ≡ length w.journal + 1) (sym behind.1) (number_by w (line_at w.journal line) mid.stop mid.world answered.1)
+      subst (λ (q : LoaderState). number_of q.world q.stop ≡ length w.journal + 1) (sym behind.1) (number_by w (line_at w.journal line) mid.stop mid.world answered.1)
   next_number (Some why) w line text new open_then a = cc
 
-  ends_cut : (new : Loaded) → EndsTold GoesOn has_stopped (Ok endings.CutOff) start new left left' taken taken' → EndsLoad chunk (Err (faults.CutOff (number_of new.world new.stop))) left left'
+  ends_cut : (new : LoaderState) → EndsTold GoesOn has_stopped (Ok endings.CutOff) start new left left' taken taken' → EndsLoad chunk (Err (faults.CutOff (number_of new.world new.stop))) left left'
   ends_cut new (bytes, run, end, was, cut) =
       let between = was.between in
       let last : was.last ≡ cut.last ∷ [] = same_behind (whole_lines bytes) was.last (cut.last ∷ []) (sym was.lines_are ∙ cut.lines_are) in
@@ -91,16 +91,16 @@ module _ (chunk : ℕ) (limits : Limits) (full : IsFull limits) (left left' : Op
   few_by ls None w c = Loads-few limits [] ls w.journal (omega arith) c.0
   few_by ls (Some why) w s = Loads-few limits [] s.front w.journal (omega arith) s.loads
 
-  few_of : (ls : List (List ℕ)) (text : List ℕ) (new : Loaded) → AnswersAll GoesOn start ls text new → length new.world.journal ≤ limits.changes
+  few_of : (ls : List (List ℕ)) (text : List ℕ) (new : LoaderState) → AnswersAll GoesOn start ls text new → length new.world.journal ≤ limits.changes
   few_of ls text new a = few_by (lines_unmarked ls) new.stop new.world (comes ls (opening chunk limits) text new a)
 
-  few : (ending : Ending) (new : Loaded) → EndsTold GoesOn has_stopped (Ok ending) start new left left' taken taken' → length new.world.journal ≤ limits.changes
+  few : (ending : Ending) (new : LoaderState) → EndsTold GoesOn has_stopped (Ok ending) start new left left' taken taken' → length new.world.journal ≤ limits.changes
   few endings.Whole new (bytes, run, end, was, whole, same) = few_of (lines bytes) run.text new run.answered
   few endings.CutOff new (bytes, run, end, was, cut) = few_of (lines bytes) run.text new run.answered
   few endings.Over new (bytes, run, over) = few_of (whole_lines bytes) run.text new run.answered
 
   -- ---- the same from a loader that is at the opening world
-  module _ (ending : Ending) (old new : Loaded) (here : old.world ≡ opening chunk limits) (none : old.stop ≡ None) (ends : EndsTold GoesOn has_stopped (Ok ending) old new left left' taken taken') where
+  module _ (ending : Ending) (old new : LoaderState) (here : old.world ≡ opening chunk limits) (none : old.stop ≡ None) (ends : EndsTold GoesOn has_stopped (Ok ending) old new left left' taken taken') where
     from_opening : EndsTold GoesOn has_stopped (Ok ending) start new left left' taken taken'
     from_opening =
         let From : World → Option Undone → Type 0 = λ (w : World) (stop : Option Undone). EndsTold GoesOn has_stopped (Ok ending) (record { world = w; stop = stop }) new left left' taken taken' in
@@ -109,10 +109,10 @@ module _ (chunk : ℕ) (limits : Limits) (full : IsFull limits) (left left' : Op
     pub number_is_small : length new.world.journal + 1 < 2 ^ 64
     number_is_small = omega (arith, full.changes, few ending new from_opening)
 
-  by_ending : (ending : Ending) (new : Loaded) → EndsTold GoesOn has_stopped (Ok ending) start new left left' taken taken' → EndsLoad chunk (outcome_at ending new.world new.stop) left left'
+  by_ending : (ending : Ending) (new : LoaderState) → EndsTold GoesOn has_stopped (Ok ending) start new left left' taken taken' → EndsLoad chunk (outcome_at ending new.world new.stop) left left'
   by_ending endings.Whole new ends = ends_whole new.stop new.world ends
   by_ending endings.CutOff new ends = ends_cut new ends
   by_ending endings.Over new ends = ends_over new.stop new.world ends
 
-  pub ends_so : (ending : Ending) (old new : Loaded) → old.world ≡ opening chunk limits → old.stop ≡ None → EndsTold GoesOn has_stopped (Ok ending) old new left left' taken taken' → EndsLoad chunk (outcome_at ending new.world new.stop) left left'
+  pub ends_so : (ending : Ending) (old new : LoaderState) → old.world ≡ opening chunk limits → old.stop ≡ None → EndsTold GoesOn has_stopped (Ok ending) old new left left' taken taken' → EndsLoad chunk (outcome_at ending new.world new.stop) left left'
   ends_so ending old new here none ends = by_ending ending new (from_opening ending old new here none ends)

@@ -16,7 +16,8 @@ use Rattle.system_core.specs.declared.machine.event.Reply.TheVariants as replies
 use Rattle.system_core.proofs.Judged.{failed-first}
 use Rattle.load_core.specs.declared.fault.Undone.{Undone}
 use Rattle.load_core.specs.declared.fault.Undone.TheVariants as reasons
-use Rattle.load_core.specs.Loading.{SaysEntry, is_done, IsUndoneEntry}
+use Rattle.load_core.specs.Loading.{SaysEntry, IsUndoneEntry}
+use Rattle.system_core.specs.Replies.{is_done}
 use Rattle.load_core.specs.Loader.{EntersEntry, EntersUpTo}
 
 -- a lack is answered by no Done

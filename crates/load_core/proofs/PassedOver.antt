@@ -2,14 +2,11 @@
 use Rattle.std.proofs.Common.{◌≡◌, ℕ, Bool, true, false, List, Result, Ok, Err, drop, refl, sym, ap, subst, ◌∙◌}
 use Rattle.base_core.specs.declared.name.User.{User}
 use Rattle.base_core.specs.declared.value.Row.{Row}
-use Rattle.lexer_core.specs.declared.fault.Code.{Code}
-use Rattle.reader_core.specs.Language.{Spells, IsReadFault}
 use Rattle.reader_core.specs.declared.statement.Statement.{Statement}
 use Rattle.reader_core.specs.declared.statement.Statement.TheVariants as statements
-use Rattle.reader_core.proofs.Exactness.{spelled_no_fault, spelled_once}
 use Rattle.monitor_core.specs.Verdict.{Check, is_change, first_lack}
-use Rattle.system_core.specs.Ticket.{Exporting}
-use Rattle.script_core.specs.Script.{addressed_up_to}
+use Rattle.system_core.specs.Ticket.{TicketState}
+use Rattle.script_core.proofs.Addressed.{asked_or_faulty, asked_once}
 use Rattle.system_core.specs.Journal.{verdict_at}
 use Rattle.system_core.specs.World.{World, entry}
 use Rattle.system_core.specs.Judging.{checkpoint_checks, verdict_of}
@@ -21,65 +18,24 @@ use Rattle.system_core.specs.declared.machine.event.Reply.TheVariants as replies
 use Rattle.system_core.proofs.Judged.{passed-first, no_more_checks}
 use Rattle.load_core.specs.declared.fault.Undone.{Undone}
 use Rattle.load_core.specs.declared.fault.Undone.TheVariants as reasons
-use Rattle.load_core.specs.Loading.{SaysEntry, SaysChange, IsFaultOfLine, address, statement, is_done, IsUndone}
-use Rattle.load_core.specs.Replaying.{is_memory, is_memory_refused, is_out_of_memory}
-
--- ---- a line says one thing
-parts : {A B : Type 0} (p q : A × B) → p ≡ q → (p.0 ≡ q.0) × (p.1 ≡ q.1)
-parts {A} {B} p q e = (ap (λ (x : A × B). x.0) e, ap (λ (x : A × B). x.1) e)
-
-ok_once : {A E : Type 0} (p q : A) (e : Result A E) → e ≡ Ok p → e ≡ Ok q → p ≡ q
-ok_once p q e h k = cc
-
-ok_pair : {A B E : Type 0} (a c : A) (b d : B) (e : Result (A × B) E) → e ≡ Ok (a, b) → e ≡ Ok (c, d) → (a ≡ c) × (b ≡ d)
-ok_pair {A} {B} {E} a c b d e h k = parts {A = A} {B = B} (a, b) (c, d) (ok_once {A = A × B} {E = E} (a, b) (c, d) e h k)
-
-ok_or_err : {T E : Type 0} (a : T) (b : E) → (e : Result T E) → e ≡ Ok a → e ≡ Err b → ⊥
-ok_or_err a b e h k = let both = sym h ∙ k in cc
-
-said_or_faulty : (most : ℕ) (line : List ℕ) (e : Entry) (code : Code) (offset : ℕ) → SaysEntry most line e → IsFaultOfLine most line code offset → ⊥
-said_or_faulty most line e code offset s (address f) = ok_or_err _ _ (addressed_up_to most line) s.speaker f
-said_or_faulty most line e code _ s (statement person begin place f k) =
-    let starts = (ok_pair person e.user begin s.start (addressed_up_to most line) f s.speaker).1 in
-    spelled_no_fault (drop s.start line) e.statement code place s.spelled (subst (λ n. IsReadFault (drop n line) code place) starts k)
-
-said_once : (most : ℕ) (line : List ℕ) (e f : Entry) → SaysEntry most line e → SaysEntry most line f → (e.user ≡ f.user) × (e.statement ≡ f.statement)
-said_once most line e f s t =
-    let same = ok_pair e.user f.user s.start t.start (addressed_up_to most line) s.speaker t.speaker in
-    (same.0, spelled_once (drop s.start line) e.statement f.statement s.spelled (subst (λ n. Spells (drop n line) f.statement) (sym same.1) t.spelled))
+use Rattle.load_core.specs.Loading.{SaysChange, IsUndone}
+use Rattle.load_core.specs.Replaying.{is_out_of_memory}
+use Rattle.system_core.specs.Replies.{is_done, is_memory, is_refused_memory}
 
 -- ---- an allowed change is done, or memory ran out
 no_rows : (w : World) (s : Statement) (rows : List Row) → is_change s ≡ true → IsAnswer w.journal s rows → ⊥
 no_rows w (statements.Select list table filter) rows change h = cc
-no_rows w (statements.CreateTable table columns) rows change h = h
-no_rows w (statements.Insert table values) rows change h = h
-no_rows w (statements.Delete table filter) rows change h = h
-no_rows w (statements.Update table sets filter) rows change h = h
-no_rows w (statements.Grant privileges table users option) rows change h = h
-no_rows w (statements.Revoke privileges table users) rows change h = h
-no_rows w (statements.RevokeOption privileges table users) rows change h = h
-no_rows w statements.Checkpoint rows change h = h
-no_rows w statements.Checkpoints rows change h = h
-no_rows w (statements.Export number only) rows change h = h
+no_rows w _ rows change h = h
 
-no_export : (w : World) (user : User) (s : Statement) (ticket : Exporting) → is_change s ≡ true → IsExport w user s ticket → ⊥
+no_export : (w : World) (user : User) (s : Statement) (ticket : TicketState) → is_change s ≡ true → IsExport w user s ticket → ⊥
 no_export w user (statements.Export number only) ticket change h = cc
-no_export w user (statements.Select list table filter) ticket change h = h
-no_export w user (statements.CreateTable table columns) ticket change h = h
-no_export w user (statements.Insert table values) ticket change h = h
-no_export w user (statements.Delete table filter) ticket change h = h
-no_export w user (statements.Update table sets filter) ticket change h = h
-no_export w user (statements.Grant privileges table users option) ticket change h = h
-no_export w user (statements.Revoke privileges table users) ticket change h = h
-no_export w user (statements.RevokeOption privileges table users) ticket change h = h
-no_export w user statements.Checkpoint ticket change h = h
-no_export w user statements.Checkpoints ticket change h = h
+no_export w user _ ticket change h = h
 
 not_change : (s other : Statement) → s ≡ other → is_change s ≡ true → is_change other ≡ false → ⊥
 not_change s other same change none =
     let both : true ≡ false = sym change ∙ ap is_change same ∙ none in cc
 
-done_or_refused : (w new : World) (e : Entry) (reply : Reply) → is_change e.statement ≡ true → CarriesOut w e reply new → is_done reply ≡ false → is_memory_refused reply ≡ true
+done_or_refused : (w new : World) (e : Entry) (reply : Reply) → is_change e.statement ≡ true → CarriesOut w e reply new → is_done reply ≡ false → is_refused_memory reply ≡ true
 done_or_refused w new e (replies.Done at) change h undone = cc
 done_or_refused w new e (replies.Rows at rows) change h undone = absurd (no_rows w e.statement rows change h.0)
 done_or_refused w new e (replies.Listed at entries) change h undone = absurd (not_change e.statement statements.Checkpoints h.0 change refl)
@@ -93,7 +49,7 @@ done_or_refused w new e (replies.Finished number) change h undone = absurd h
 done_or_refused w new e (replies.Abandoned number) change h undone = absurd h
 
 module _ (w new : World) (e : Entry) (reply : Reply) (change : is_change e.statement ≡ true) (allowed : verdict_at w.limits w.journal e.user e.statement ≡ Ok tt) where
-  stepped : Step w (events.Say 0 e.user e.statement) reply new → is_done reply ≡ false → is_memory_refused reply ≡ true
+  stepped : Step w (events.Say 0 e.user e.statement) reply new → is_done reply ≡ false → is_refused_memory reply ≡ true
   stepped step undone =
       let passed : verdict_of w e.user e.statement ≡ Ok tt = passed-first (verdict_at w.limits w.journal e.user e.statement) (checkpoint_checks w e.user e.statement) allowed ∙ ap first_lack (no_more_checks w e.user e.statement change) in
       let By : Check → Type 0 = λ check. Responds w (entry 0 e.user e.statement) check reply new in
@@ -104,12 +60,12 @@ no_more b f t = let both : true ≡ false = sym t ∙ f in cc
 
 -- **it says none, unless memory ran out**
 pub not_entered : (most : ℕ) (w : World) (line : List ℕ) (why : Undone) → IsUndone most w line why → is_out_of_memory why ≡ false → (e : Entry) → SaysChange most w.limits w.journal line e → ⊥
-not_entered most w line (reasons.Fault code offset) fault enough e s = said_or_faulty most line e code offset s.says fault
+not_entered most w line (reasons.Fault code offset) fault enough e s = asked_or_faulty most line e.user e.statement code offset s.says.asks fault
 not_entered most w line reasons.Unread fault enough e s = cc
 not_entered most w line reasons.NoChange (other, says, none) enough e s =
-    no_more (is_change other.statement) none (ap is_change (said_once most line other e says s.says).1 ∙ s.change)
+    no_more (is_change other.statement) none (ap is_change (asked_once most line other.user e.user other.statement e.statement says.asks s.says.asks).1 ∙ s.change)
 not_entered most w line (reasons.Answer reply) (other, says, undone) enough e s =
-    let same = said_once most line other e says s.says in
+    let same = asked_once most line other.user e.user other.statement e.statement says.asks s.says.asks in
     let By : User → Statement → Type 0 = λ u t. verdict_at w.limits w.journal u t ≡ Ok tt in
     let allowed : By other.user other.statement = subst (λ u. By u other.statement) (sym same.0) (subst (λ t. By e.user t) (sym same.1) s.allowed) in
-    no_more (is_memory_refused reply) enough (stepped w w other reply undone.0 allowed undone.1 undone.2)
+    no_more (is_refused_memory reply) enough (stepped w w other reply undone.0 allowed undone.1 undone.2)

@@ -12,9 +12,9 @@ use Rattle.load_core.specs.declared.manner.Form.{Form}
 use Rattle.load_core.specs.declared.manner.Form.TheVariants as forms
 use Rattle.load_core.specs.declared.replayed.LeftOut.{LeftOut}
 use Rattle.load_core.specs.Loading.{unmarked, lines_unmarked, SaysChange, IsUndone}
-use Rattle.load_core.specs.Replaying.{longest, ends_reading, says_no_change, Enters, LeavesOut, PassesOver, no_change, behind, StopsReading, Replays, nothing, first_of}
+use Rattle.load_core.specs.Replaying.{longest, ends_reading, says_no_change, EntersChange, LeavesOut, PassesOver, no_change, behind, StopsReading, Replays, nothing, first_of}
 use Rattle.load_core.specs.Replaying as replaying
-use Rattle.load_core.specs.Replayer.{Progress, line_behind, first_or, passing, entering, leaving, noted_by, noted, NotesEntered, TakesLine, enters, leaves_out, passes_over, stops, TakesUnless, ReplaysLine}
+use Rattle.load_core.specs.Replayer.{ReplayerState, line_behind, first_or, passing, entering, leaving, noted_by, undone_noted, NotesEntered, TakesLine, enters, leaves_out, passes_over, stops, TakesUnless, ReplaysLine}
 use Rattle.load_core.proofs.Coming.{with_journal}
 
 pub none_where : {A : Type 0} (o : Option A) → is_some o ≡ false → o ≡ None
@@ -32,7 +32,7 @@ ends_unread : (form : Form) → ends_reading form reasons.Unread ≡ true
 ends_unread forms.Journal = refl
 ends_unread forms.Script = refl
 
-module _ (old : Progress) (line : List ℕ) (few : length old.world.journal < old.manner.most) where
+module _ (old : ReplayerState) (line : List ℕ) (few : length old.world.journal < old.manner.most) where
   by_tests : (why : Undone) (ends none : Bool) → IsUndone (longest old.manner.form) old.world line why → ends_reading old.manner.form why ≡ ends → says_no_change why ≡ none → TakesLine old line (noted_by ends none (passing old) why)
   by_tests why true none undone e n = stops why (record { few = few; undone = undone; ends = e }) refl refl
   by_tests why false true undone e n = passes_over (no_change (no_change_by (longest old.manner.form) old.world line why n undone)) refl
@@ -41,24 +41,24 @@ module _ (old : Progress) (line : List ℕ) (few : length old.world.journal < ol
       leaves_out why (record { few = few; undone = undone; left_out = left }) refl
 
   -- a line that says no change which is done
-  pub takes_undone : (why : Undone) → IsUndone (longest old.manner.form) old.world line why → TakesLine old line (noted (passing old) why)
+  pub takes_undone : (why : Undone) → IsUndone (longest old.manner.form) old.world line why → TakesLine old line (undone_noted (passing old) why)
   takes_undone why undone = by_tests why (ends_reading old.manner.form why) (says_no_change why) undone refl refl
 
   -- a line whose change was entered
-  pub takes_entered : (e : Entry) (mid new : Progress) → SaysChange (longest old.manner.form) old.world.limits old.world.journal line e
+  pub takes_entered : (e : Entry) (mid new : ReplayerState) → SaysChange (longest old.manner.form) old.world.limits old.world.journal line e
       → mid ≡ record (passing old) { world = with_entry old.world e } → NotesEntered mid new → TakesLine old line new
   takes_entered e mid new says is (inl noted_it) =
-      enters e (record { few = few; says = says }) (noted_it ∙ ap (λ (p : Progress). record p { numbers = p.numbers ++ p.count ∷ [] }) is)
+      enters e (record { few = few; says = says }) (noted_it ∙ ap (λ (p : ReplayerState). record p { numbers = p.numbers ++ p.count ∷ [] }) is)
   takes_entered e mid new says is (inr (stopped, count)) =
-      stops reasons.Unread (record { few = few; undone = (e.user, says.says.start, says.says.speaker); ends = ends_unread old.manner.form }) stopped (count ∙ ap (λ (p : Progress). p.count) is)
+      stops reasons.Unread (record { few = few; undone = (e.user, says.says.asks.start, says.says.asks.speaker); ends = ends_unread old.manner.form }) stopped (count ∙ ap (λ (p : ReplayerState). p.count) is)
 
 -- ---- once it has stopped it stays so
-stays : (ls : List (List ℕ)) (why : Undone) (old new : Progress) (text : List ℕ) → AnswersAll ReplaysLine old ls text new → old.stop ≡ Some why → old.count + length ls < 2 ^ 64 → new ≡ old
+stays : (ls : List (List ℕ)) (why : Undone) (old new : ReplayerState) (text : List ℕ) → AnswersAll ReplaysLine old ls text new → old.stop ≡ Some why → old.count + length ls < 2 ^ 64 → new ≡ old
 stays [] why old new text p stop few = p.1
 stays (line ∷ ls) why old new text (first, mid, more, answered, rest, is) stop few =
     let same : mid ≡ old = subst (λ (s : Option Undone). TakesUnless s old line mid) stop (answered.1 (omega (arith, few))) in
-    let fewer : mid.count + length ls < 2 ^ 64 = omega (arith, few, ap (λ (p : Progress). p.count) same) in
-    stays ls why mid new more rest (ap (λ (p : Progress). p.stop) same ∙ stop) fewer ∙ same
+    let fewer : mid.count + length ls < 2 ^ 64 = omega (arith, few, ap (λ (p : ReplayerState). p.count) same) in
+    stays ls why mid new more rest (ap (λ (p : ReplayerState). p.stop) same ∙ stop) fewer ∙ same
 
 -- ---- the lines as they are read behind so many
 abbrev pub lines_behind : ℕ → List (List ℕ) → List (List ℕ)
@@ -89,7 +89,7 @@ first-more None line out = refl
 first-more (Some first) line out = refl
 
 -- all were read
-pub record Came (old : Progress) (ls : List (List ℕ)) (new : Progress) : Type 0 where
+pub record Came (old : ReplayerState) (ls : List (List ℕ)) (new : ReplayerState) : Type 0 where
   pub numbers : List ℕ
   pub out : List LeftOut
   pub replays : Replays old.manner old.world (old.count + 1) ls new.world numbers out
@@ -101,7 +101,7 @@ pub record Came (old : Progress) (ls : List (List ℕ)) (new : Progress) : Type 
   pub same : new.world ≡ with_journal old.world new.world.journal
 
 -- or it stopped at one
-pub record Stopped (old : Progress) (ls : List (List ℕ)) (new : Progress) (why : Undone) : Type 0 where
+pub record Stopped (old : ReplayerState) (ls : List (List ℕ)) (new : ReplayerState) (why : Undone) : Type 0 where
   pub front : List (List ℕ)
   pub line : List ℕ
   pub rest : List (List ℕ)
@@ -113,12 +113,12 @@ pub record Stopped (old : Progress) (ls : List (List ℕ)) (new : Progress) (why
   pub ends : StopsReading old.manner world line why
   pub number : new.count ≡ old.count + length front + 1
 
-abbrev pub ComesTo : Option Undone → Progress → List (List ℕ) → Progress → Type 0
+abbrev pub ComesTo : Option Undone → ReplayerState → List (List ℕ) → ReplayerState → Type 0
 ComesTo None old ls new = Came old ls new
 ComesTo (Some why) old ls new = Stopped old ls new why
 
-module _ (old new : Progress) (line : List ℕ) (ls : List (List ℕ)) where
-  entered : (stop : Option Undone) (e : Entry) → Enters old.manner old.world line e → ComesTo stop (entering old e) ls new → ComesTo stop old (line ∷ ls) new
+module _ (old new : ReplayerState) (line : List ℕ) (ls : List (List ℕ)) where
+  entered : (stop : Option Undone) (e : Entry) → EntersChange old.manner old.world line e → ComesTo stop (entering old e) ls new → ComesTo stop old (line ∷ ls) new
   entered None e t c = record {
     numbers = (old.count + 1) ∷ c.numbers;
     out = c.out;
@@ -195,7 +195,7 @@ module _ (old new : Progress) (line : List ℕ) (ls : List (List ℕ)) where
   }
 
   -- it stopped at this one
-  stopped_here : (mid : Progress) (why : Undone) → StopsReading old.manner old.world line why → mid.stop ≡ Some why → mid.count ≡ old.count + 1 → new ≡ mid → ComesTo new.stop old (line ∷ ls) new
+  stopped_here : (mid : ReplayerState) (why : Undone) → StopsReading old.manner old.world line why → mid.stop ≡ Some why → mid.count ≡ old.count + 1 → new ≡ mid → ComesTo new.stop old (line ∷ ls) new
   stopped_here mid why t stop count same =
       let here : Stopped old (line ∷ ls) new why = record {
         front = [];
@@ -207,21 +207,21 @@ module _ (old new : Progress) (line : List ℕ) (ls : List (List ℕ)) where
         lines_are = refl;
         replays = nothing;
         ends = t;
-        number = omega (arith, count, ap (λ (p : Progress). p.count) same);
+        number = omega (arith, count, ap (λ (p : ReplayerState). p.count) same);
       } in
-      subst (λ (s : Option Undone). ComesTo s old (line ∷ ls) new) (sym (ap (λ (p : Progress). p.stop) same ∙ stop)) here
+      subst (λ (s : Option Undone). ComesTo s old (line ∷ ls) new) (sym (ap (λ (p : ReplayerState). p.stop) same ∙ stop)) here
 
 -- it goes on from what a line made of it
-module _ (new mid : Progress) (ls : List (List ℕ)) (k : mid.stop ≡ None → mid.count + length ls < 2 ^ 64 → ComesTo new.stop mid (lines_behind mid.count ls) new) where
-  on : (old next : Progress) → old.stop ≡ None → old.count + (length ls + 1) < 2 ^ 64 → mid ≡ next → next.stop ≡ old.stop → next.count ≡ old.count + 1 → ComesTo new.stop next ls new
+module _ (new mid : ReplayerState) (ls : List (List ℕ)) (k : mid.stop ≡ None → mid.count + length ls < 2 ^ 64 → ComesTo new.stop mid (lines_behind mid.count ls) new) where
+  on : (old next : ReplayerState) → old.stop ≡ None → old.count + (length ls + 1) < 2 ^ 64 → mid ≡ next → next.stop ≡ old.stop → next.count ≡ old.count + 1 → ComesTo new.stop next ls new
   on old next open_then few is stop count =
-      let open_now : mid.stop ≡ None = ap (λ (p : Progress). p.stop) is ∙ stop ∙ open_then in
-      let counted : mid.count ≡ old.count + 1 = ap (λ (p : Progress). p.count) is ∙ count in
+      let open_now : mid.stop ≡ None = ap (λ (p : ReplayerState). p.stop) is ∙ stop ∙ open_then in
+      let counted : mid.count ≡ old.count + 1 = ap (λ (p : ReplayerState). p.count) is ∙ count in
       let come_on : ComesTo new.stop mid (lines_behind mid.count ls) new = k open_now (omega (arith, few, counted)) in
       let behind_it : lines_behind mid.count ls ≡ ls = ap (λ (n : ℕ). lines_behind n ls) counted ∙ behind-more old.count ls in
-      subst (λ (p : Progress). ComesTo new.stop p ls new) is (subst (λ (xs : List (List ℕ)). ComesTo new.stop mid xs new) behind_it come_on)
+      subst (λ (p : ReplayerState). ComesTo new.stop p ls new) is (subst (λ (xs : List (List ℕ)). ComesTo new.stop mid xs new) behind_it come_on)
 
-  by_line : (at : List ℕ) (old : Progress) (more : List ℕ) → AnswersAll ReplaysLine mid ls more new → old.stop ≡ None → old.count + (length ls + 1) < 2 ^ 64 → TakesLine old at mid → ComesTo new.stop old (at ∷ ls) new
+  by_line : (at : List ℕ) (old : ReplayerState) (more : List ℕ) → AnswersAll ReplaysLine mid ls more new → old.stop ≡ None → old.count + (length ls + 1) < 2 ^ 64 → TakesLine old at mid → ComesTo new.stop old (at ∷ ls) new
   by_line at old more rest open_then few (enters e t is) = entered old new at ls new.stop e t (on old (entering old e) open_then few is refl refl)
   by_line at old more rest open_then few (leaves_out why t is) = left_out_one old new at ls new.stop why t (on old (leaving old why) open_then few is refl refl)
   by_line at old more rest open_then few (passes_over t is) = passed old new at ls new.stop t (on old (passing old) open_then few is refl refl)
@@ -233,12 +233,12 @@ none-first None = refl
 none-first (Some first) = refl
 
 -- **what lines come to**
-pub come : (ls : List (List ℕ)) (old new : Progress) (text : List ℕ) → AnswersAll ReplaysLine old ls text new → old.stop ≡ None → old.count + length ls < 2 ^ 64 → ComesTo new.stop old (lines_behind old.count ls) new
+pub come : (ls : List (List ℕ)) (old new : ReplayerState) (text : List ℕ) → AnswersAll ReplaysLine old ls text new → old.stop ≡ None → old.count + length ls < 2 ^ 64 → ComesTo new.stop old (lines_behind old.count ls) new
 come [] old new text p open_then few =
     let start : Came old [] old = record { numbers = []; out = []; replays = nothing; numbers_are = sym (append-nil old.numbers); left = omega arith; first = none-first old.first_left_out; count_is = omega arith; manner_is = refl; same = refl } in
     let here : Came old (lines_behind old.count []) old = subst (λ (xs : List (List ℕ)). Came old xs old) (sym (if-nil (old.count == 0))) start in
     let open_now : ComesTo old.stop old (lines_behind old.count []) old = subst (λ (s : Option Undone). ComesTo s old (lines_behind old.count []) old) (sym open_then) here in
-    subst (λ (q : Progress). ComesTo q.stop old (lines_behind old.count []) q) (sym p.1) open_now
+    subst (λ (q : ReplayerState). ComesTo q.stop old (lines_behind old.count []) q) (sym p.1) open_now
 come (line ∷ ls) old new text (first, mid, more, answered, rest, is) open_then few =
     let taken : TakesLine old (line_behind old.count line) mid = subst (λ (s : Option Undone). TakesUnless s old line mid) open_then (answered.1 (omega (arith, few))) in
     subst (λ (xs : List (List ℕ)). ComesTo new.stop old xs new) (sym (if-cons (old.count == 0) line ls))

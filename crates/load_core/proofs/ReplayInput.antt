@@ -23,8 +23,8 @@ use Rattle.load_core.specs.declared.replayed.LeftOut.{LeftOut}
 use Rattle.load_core.specs.declared.replayed.ReplayFault.{ReplayFault}
 use Rattle.load_core.specs.declared.replayed.ReplayFault.TheVariants as faults
 use Rattle.load_core.specs.Loading.{lines_unmarked}
-use Rattle.load_core.specs.Replaying.{longest, lines_read, Replays, nothing, enters, leaves_out, passes_over, DroppedLine, IsCutAt, Drops, Leavings, EndsReplay}
-use Rattle.load_core.specs.Replayer.{Progress, begun, ReplaysLine, is_over, ReadsLines, IsReadingFault, dropped_at, left_by}
+use Rattle.load_core.specs.Replaying.{longest, lines_read, Replays, nothing, enters, leaves_out, passes_over, DroppedLine, IsCutAt, Drops, ReplayedState, EndsReplay}
+use Rattle.load_core.specs.Replayer.{ReplayerState, new_replayer, ReplaysLine, has_ended, ReadsLines, IsReadingFault, dropped_at, leavings_of}
 use Rattle.load_core.proofs.Lines.{lines_unmarked-length}
 use Rattle.load_core.proofs.ReplayEnds.{Came, Stopped, ComesTo, come}
 use Rattle.load_core.proofs.Said.{speaker_named}
@@ -64,11 +64,11 @@ unmarked-more : (xs ys front : List (List ℕ)) (line : List ℕ) (rest : List (
 unmarked-more [] ys front line rest is = absurd (omega (arith, ap length is, length-append front (line ∷ rest)))
 unmarked-more (x ∷ xs) ys front line rest is = ap (λ (ls : List (List ℕ)). ls ++ ys) is ∙ append_assoc front (line ∷ rest) ys
 
-module _ (manner : Manner) (begins : World) (p : Progress) (left left' : Option (List ℕ)) where
-  abbrev start : Progress
-  start = begun manner begins
+module _ (manner : Manner) (begins : World) (p : ReplayerState) (left left' : Option (List ℕ)) where
+  abbrev start : ReplayerState
+  start = new_replayer manner begins
 
-  abbrev EndsAs : Result Leavings ReplayFault → Type 0
+  abbrev EndsAs : Result ReplayedState ReplayFault → Type 0
   EndsAs result = EndsReplay manner begins result left left'
 
   -- ---- it stopped at a line
@@ -96,12 +96,12 @@ module _ (manner : Manner) (begins : World) (p : Progress) (left left' : Option 
 
   -- ---- or came to the end
   module _ (bytes : List ℕ) (ls : List (List ℕ)) (read : Consumes left left' bytes) (end : IsAtEnd left') (same : lines_read manner.form bytes ≡ ls) where
-    whole : (dropped : Option DroppedLine) → Came start (lines_unmarked ls) p → Drops manner bytes dropped → EndsAs (left_by p (Ok dropped))
+    whole : (dropped : Option DroppedLine) → Came start (lines_unmarked ls) p → Drops manner bytes dropped → EndsAs (leavings_of p (Ok dropped))
     whole dropped c drops =
         let from_ls : List (List ℕ) → List ℕ → Type 0 = λ xs ns. Replays manner begins 1 (lines_unmarked xs) p.world ns c.out in
         (bytes, c.out, read, end, subst (λ (xs : List (List ℕ)). from_ls xs p.numbers) (sym same) (subst (λ (ns : List ℕ). from_ls ls ns) (sym c.numbers_are) c.replays), omega (arith, c.left), c.first, drops, c.same)
 
-    uncut : (stop : Option Undone) → ComesTo stop start (lines_unmarked ls) p → Drops manner bytes None → EndsAs (left_by p (dropped_at p.count stop p.manner.cut_line None))
+    uncut : (stop : Option Undone) → ComesTo stop start (lines_unmarked ls) p → Drops manner bytes None → EndsAs (leavings_of p (dropped_at p.count stop p.manner.cut_line None))
     uncut None c drops = whole None c drops
     uncut (Some why) c drops = stopped_all bytes ls why read same c
 
@@ -113,18 +113,18 @@ module _ (manner : Manner) (begins : World) (p : Progress) (left left' : Option 
         front_is = is;
       }
 
-      by_kind : (kind : CutLine) → manner.cut_line ≡ kind → Came start (lines_unmarked ls) p → EndsAs (left_by p (dropped_at p.count None kind (Some front)))
+      by_kind : (kind : CutLine) → manner.cut_line ≡ kind → Came start (lines_unmarked ls) p → EndsAs (leavings_of p (dropped_at p.count None kind (Some front)))
       by_kind cut_lines.Refuse k c = (bytes, read, end, form, k, cut_at c)
       by_kind cut_lines.Drop k c = whole (Some (record { number = p.count + 1; front = front.items })) c (form, k, cut_at c)
 
-      cut_off : (stop : Option Undone) → ComesTo stop start (lines_unmarked ls) p → EndsAs (left_by p (dropped_at p.count stop p.manner.cut_line (Some front)))
+      cut_off : (stop : Option Undone) → ComesTo stop start (lines_unmarked ls) p → EndsAs (leavings_of p (dropped_at p.count stop p.manner.cut_line (Some front)))
       cut_off None c =
-          subst (λ (kind : CutLine). EndsAs (left_by p (dropped_at p.count None kind (Some front)))) (sym (ap (λ (m : Manner). m.cut_line) c.manner_is)) (by_kind manner.cut_line refl c)
+          subst (λ (kind : CutLine). EndsAs (leavings_of p (dropped_at p.count None kind (Some front)))) (sym (ap (λ (m : Manner). m.cut_line) c.manner_is)) (by_kind manner.cut_line refl c)
       cut_off (Some why) c = stopped_all bytes ls why read same c
 
   -- ---- or was over
   over_at : (stop : Option Undone) (front : Option (Vec ℕ Global)) (bytes : List ℕ) (ls more : List (List ℕ)) → is_some stop ≡ true → Consumes left left' bytes → lines_read manner.form bytes ≡ ls ++ more → ComesTo stop start (lines_unmarked ls) p
-      → EndsAs (left_by p (dropped_at p.count stop p.manner.cut_line front))
+      → EndsAs (leavings_of p (dropped_at p.count stop p.manner.cut_line front))
   over_at None front bytes ls more over read same c = cc
   over_at (Some why) front bytes ls more over read same c = stopped bytes ls more why read same c
 
@@ -149,7 +149,7 @@ module _ (manner : Manner) (begins : World) (p : Progress) (left left' : Option 
   script_read : manner.form ≡ forms.Script → (bytes : List ℕ) → lines_read manner.form bytes ≡ lines bytes
   script_read form bytes = ap (λ (f : Form). lines_read f bytes) form
 
-  ends_ok : (form : Form) → manner.form ≡ form → (front : Option (Vec ℕ Global)) → ReadsLines form (Ok front) start p left left' → EndsAs (left_by p (dropped_at p.count p.stop p.manner.cut_line front))
+  ends_ok : (form : Form) → manner.form ≡ form → (front : Option (Vec ℕ Global)) → ReadsLines form (Ok front) start p left left' → EndsAs (leavings_of p (dropped_at p.count p.stop p.manner.cut_line front))
   ends_ok forms.Journal form None (inl (bytes, run, end, open_then, is, same)) =
       uncut bytes (whole_lines bytes) run.read end (journal_read form bytes) p.stop (whole_come bytes None None run) (inr is)
   ends_ok forms.Journal form None (inr (bytes, run, over)) =
@@ -163,7 +163,7 @@ module _ (manner : Manner) (begins : World) (p : Progress) (left left' : Option 
       over_at p.stop None bytes (whole_lines bytes) f.0 over run.read (script_read form bytes ∙ f.1) (whole_come bytes None None run)
   ends_ok forms.Script form (Some front) none = absurd none
 
-  from_fault : (fault : SessionFault) (r : ReplayFault) → Ends ReplaysLine is_over (Err fault) start p left left' None None → IsReadingFault fault r → EndsAs (Err r)
+  from_fault : (fault : SessionFault) (r : ReplayFault) → Ends ReplaysLine has_ended (Err fault) start p left left' None None → IsReadingFault fault r → EndsAs (Err r)
   from_fault sessions.Read r ends is = subst (λ (f : ReplayFault). EndsAs (Err f)) (sym is) (ends.0, ends.1.read)
   from_fault sessions.Bound r ends is = subst (λ (f : ReplayFault). EndsAs (Err f)) (sym is) (ends.0, ends.1.read, ends.2)
   from_fault sessions.NoMemory r ends is = subst (λ (f : ReplayFault). EndsAs (Err f)) (sym is) ends.1
@@ -191,33 +191,33 @@ pub no_fault : {T E : Type 0} (x : T) (e : E) → {A : Type 0} → Ok x ≡ Err 
 no_fault x e h = cc
 
 -- its fault is none of the reader
-pub never_read : (p : Progress) (count : ℕ) (stop : Option Undone) (kind : CutLine) (front : Option (Vec ℕ Global)) (result : Result Leavings ReplayFault) → result ≡ left_by p (dropped_at count stop kind front) → {A : Type 0} → result ≡ Err faults.Read → A
+pub never_read : (p : ReplayerState) (count : ℕ) (stop : Option Undone) (kind : CutLine) (front : Option (Vec ℕ Global)) (result : Result ReplayedState ReplayFault) → result ≡ leavings_of p (dropped_at count stop kind front) → {A : Type 0} → result ≡ Err faults.Read → A
 never_read p count (Some why) kind front result is e = cc
 never_read p count None kind None result is e = cc
 never_read p count None cut_lines.Refuse (Some front) result is e = cc
 never_read p count None cut_lines.Drop (Some front) result is e = cc
 
 -- ---- from a replayer that begins so
-module _ (manner : Manner) (begins : World) (old p : Progress) (left left' : Option (List ℕ)) (here : old ≡ begun manner begins) where
-  pub ends_replay : (front : Option (Vec ℕ Global)) → ReadsLines manner.form (Ok front) old p left left' → EndsReplay manner begins (left_by p (dropped_at p.count p.stop p.manner.cut_line front)) left left'
-  ends_replay front reads = ends_ok manner begins p left left' manner.form refl front (subst (λ (q : Progress). ReadsLines manner.form (Ok front) q p left left') here reads)
+module _ (manner : Manner) (begins : World) (old p : ReplayerState) (left left' : Option (List ℕ)) (here : old ≡ new_replayer manner begins) where
+  pub ends_replay : (front : Option (Vec ℕ Global)) → ReadsLines manner.form (Ok front) old p left left' → EndsReplay manner begins (leavings_of p (dropped_at p.count p.stop p.manner.cut_line front)) left left'
+  ends_replay front reads = ends_ok manner begins p left left' manner.form refl front (subst (λ (q : ReplayerState). ReadsLines manner.form (Ok front) q p left left') here reads)
 
   pub fails_replay : (fault : SessionFault) (r : ReplayFault) → ReadsLines manner.form (Err fault) old p left left' → IsReadingFault fault r → EndsReplay manner begins (Err r) left left'
-  fails_replay fault r reads is = ends_err manner begins p left left' manner.form fault r (subst (λ (q : Progress). ReadsLines manner.form (Err fault) q p left left') here reads) is
+  fails_replay fault r reads is = ends_err manner begins p left left' manner.form fault r (subst (λ (q : ReplayerState). ReadsLines manner.form (Err fault) q p left left') here reads) is
 
   pub count_is_small : (front : Option (Vec ℕ Global)) → ReadsLines manner.form (Ok front) old p left left' → p.count + 1 < 2 ^ 64
-  count_is_small front reads = few_read manner begins p left left' manner.form front (subst (λ (q : Progress). ReadsLines manner.form (Ok front) q p left left') here reads)
+  count_is_small front reads = few_read manner begins p left left' manner.form front (subst (λ (q : ReplayerState). ReadsLines manner.form (Ok front) q p left left') here reads)
 
 -- ---- what was entered was read
 replays_read : (manner : Manner) {w new : World} {n : ℕ} {ls : List (List ℕ)} {numbers : List ℕ} {out : List LeftOut} → Replays manner w n ls new numbers out → AllByRecursion WasRead w.journal → AllByRecursion WasRead new.journal
 replays_read manner nothing all = all
 replays_read manner (enters {w} {new} {n} {line} e t more) all =
     let says = t.says.says in
-    let read : WasRead e = record { line = drop says.start line; spelled = says.spelled; name = speaker_named (longest manner.form) line e.user says.start says.speaker } in
+    let read : WasRead e = record { line = drop says.asks.start line; spelled = says.asks.spelled; name = speaker_named (longest manner.form) line e.user says.asks.start says.asks.speaker } in
     replays_read manner more (AllByRecursion-append WasRead w.journal (e ∷ []) all (read, tt))
 replays_read manner (leaves_out why t more) all = replays_read manner more all
 replays_read manner (passes_over t more) all = replays_read manner more all
 
-pub entries_read : (manner : Manner) (begins : World) (result : Result Leavings ReplayFault) (left left' : Option (List ℕ)) → EndsReplay manner begins result left left' → AllByRecursion WasRead begins.journal → IfOk result (λ r. AllByRecursion WasRead r.world.journal)
+pub entries_read : (manner : Manner) (begins : World) (result : Result ReplayedState ReplayFault) (left left' : Option (List ℕ)) → EndsReplay manner begins result left left' → AllByRecursion WasRead begins.journal → IfOk result (λ r. AllByRecursion WasRead r.world.journal)
 entries_read manner begins (Ok r) left left' ends all = replays_read manner ends.4 all
 entries_read manner begins (Err fault) left left' ends all = tt

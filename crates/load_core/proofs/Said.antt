@@ -24,7 +24,8 @@ use Rattle.system_core.specs.declared.machine.event.Reply.{Reply}
 use Rattle.system_core.specs.declared.machine.event.Reply.TheVariants as replies
 use Rattle.system_core.proofs.Entered.{step_enters}
 use Rattle.system_core.proofs.Lawful.{step-lawful}
-use Rattle.script_core.specs.Script.{colon, spoken_by, addressed_by, addressed_up_to, Asks, AnswersLine, faulty, said, unread, Follows, stepped, gave_up}
+use Rattle.script_core.specs.Addressed.{colon, spoken_by, addressed_by, addressed_up_to, Asks}
+use Rattle.script_core.specs.Script.{AnswersLine, faulty, said, unread, Follows, stepped, gave_up}
 use Rattle.script_core.specs.Keeping.{WithKeeper, AnswersKept, over, answered, withheld, has_failed}
 use Rattle.journal_core.specs.Text.{WasRead}
 use Rattle.load_core.specs.Loading.{without_pass}
@@ -66,7 +67,7 @@ WasSaid e = WasRead e × (e.pass ≡ 0)
 abbrev pub Said : Limits → World → Type 0
 Said limits w = IsLawfulWorld w × AllByRecursion WasSaid w.journal × (w.limits ≡ limits)
 
-module _ (line : List ℕ) (user : User) (asked : Statement) (a : Asks line user asked) where
+module _ (line : List ℕ) (user : User) (asked : Statement) (a : Asks MAX_LINE line user asked) where
   enters_said : (reply : Reply) → AllByRecursion WasSaid (entered (events.Say 0 user asked) reply)
   enters_said (replies.Done at) = ((record { line = _; spelled = a.spelled; name = speaker_named MAX_LINE line user a.start a.speaker }, refl), tt)
   enters_said (replies.Rows at rows) = tt
@@ -88,7 +89,7 @@ line-said limits old new line text s (said user asked reply a step tells) =
       subst (AllByRecursion WasSaid) (sym m.journal) (AllByRecursion-append WasSaid old.journal (entered (events.Say 0 user asked) reply) s.1 (enters_said line user asked a reply)),
       m.limits ∙ s.2,
     )
-line-said limits old _ line _ s (unread user start e) = s
+line-said limits old _ line _ s (unread a) = s
 
 follows-said : (limits : Limits) (old new : World) (text : List ℕ) → Said limits old → Follows old text new → Said limits new
 follows-said limits old new _ s (stepped reply step h) =

@@ -7,7 +7,7 @@ use Rattle.base_core.specs.declared.name.Name.{Name}
 use Rattle.base_core.specs.declared.name.User.{User}
 use Rattle.base_core.specs.declared.limits.Limits.{Limits}
 use Rattle.reader_core.specs.declared.statement.Statement.{Statement}
-use Rattle.tables_core.specs.Contents.{Contents}
+use Rattle.tables_core.specs.Contents.{Table}
 use Rattle.grants_core.specs.declared.grant.Change.{Change}
 use Rattle.grants_core.specs.History.{content_after}
 use Rattle.monitor_core.specs.Verdict.{State, verdict}
@@ -15,9 +15,9 @@ use Rattle.printer_core.specs.Printing.{canonical, minified, journal_line}
 use Rattle.printer_core.proofs.JournalLine.{whole, line_by, at_most, spelled_behind}
 use Rattle.printer_core.proofs.Shortest.{no_shorter}
 use Rattle.lines_core.specs.declared.line.TheConstants.{LONGEST_LINE}
-use Rattle.system_core.specs.Journal.{tables_with, contents, changes, changes_from, change_of, verdict_at, IsLawfulFrom}
+use Rattle.system_core.specs.Journal.{tables_with, tables_at, changes, changes_from, change_of, verdict_at, IsLawfulFrom}
 use Rattle.system_core.specs.declared.machine.event.Entry.{Entry}
-use Rattle.script_core.specs.Script.{addressed_up_to}
+use Rattle.script_core.specs.Addressed.{addressed_up_to}
 use Rattle.journal_core.specs.Text.{journal_lines, WasRead}
 use Rattle.load_core.specs.Loading.{SaysEntry, Loads, unmarked, lines_unmarked, without_pass}
 use Rattle.load_core.proofs.Addressing.{few, addressed_is, unmarked_is}
@@ -35,9 +35,11 @@ module _ (user : User) (s : Statement) (read : WasRead (record { pass = 0; user 
   says_it =
       let long : length (minified s) ≤ 4096 = omega (arith, no_shorter read.line s read.spelled, read.spelled.says.short) in
       record {
-        start = length user.0 + 1;
-        speaker = (said_by (nat_le (length (whole user s)) 4096)).1 (at_most user s (nat_le (length (whole user s)) 4096) refl (few user.0 [] read.name) long);
-        spelled = spelled_behind user s read.line read.spelled (nat_le (length (whole user s)) 4096) refl;
+        asks = record {
+          start = length user.0 + 1;
+          speaker = (said_by (nat_le (length (whole user s)) 4096)).1 (at_most user s (nat_le (length (whole user s)) 4096) refl (few user.0 [] read.name) long);
+          spelled = spelled_behind user s read.line read.spelled (nat_le (length (whole user s)) 4096) refl;
+        };
         pass = refl;
       }
 
@@ -50,22 +52,22 @@ lines_unmarked_is [] read = refl
 lines_unmarked_is (e ∷ es) read = ap (λ (line : List ℕ). line ∷ journal_lines es) (no_mark e.user e.statement (record { line = read.0.line; spelled = read.0.spelled; name = read.0.name }))
 
 -- ---- no verdict asks passes
-same_tables : (tables : List (Name × Contents)) (journal : List Entry) → fold tables_with tables (map without_pass journal) ≡ fold tables_with tables journal
+same_tables : (tables : List (Name × Table)) (journal : List Entry) → fold tables_with tables (map without_pass journal) ≡ fold tables_with tables journal
 same_tables tables [] = refl
 same_tables tables (e ∷ es) = same_tables (tables_with tables e) es
 
-same_changes : (tables : List (Name × Contents)) (journal : List Entry) → changes_from tables (map without_pass journal) ≡ changes_from tables journal
+same_changes : (tables : List (Name × Table)) (journal : List Entry) → changes_from tables (map without_pass journal) ≡ changes_from tables journal
 same_changes tables [] = refl
 same_changes tables (e ∷ es) = ap (λ (cs : List Change). change_of tables e.user e.statement ∷ cs) (same_changes (tables_with tables e) es)
 
 pub same_verdict : (limits : Limits) (journal : List Entry) (user : User) (s : Statement) → verdict_at limits (map without_pass journal) user s ≡ verdict_at limits journal user s
 same_verdict limits journal user s =
-    let state : List (Name × Contents) → List Change → ℕ → State = λ (tables : List (Name × Contents)) (made : List Change) (moment : ℕ). record { tables = tables; rights = content_after made; limits = limits; moment = moment } in
+    let state : List (Name × Table) → List Change → ℕ → State = λ (tables : List (Name × Table)) (made : List Change) (moment : ℕ). record { tables = tables; rights = content_after made; limits = limits; moment = moment } in
     let bare = map without_pass journal in
     ap (λ (at : State). verdict at user s)
-    (ap (λ (tables : List (Name × Contents)). state tables (changes bare) (length bare)) (same_tables [] journal)
-    ∙ ap (λ (made : List Change). state (contents journal) made (length bare)) (same_changes [] journal)
-    ∙ ap (state (contents journal) (changes journal)) (length-map journal without_pass))
+    (ap (λ (tables : List (Name × Table)). state tables (changes bare) (length bare)) (same_tables [] journal)
+    ∙ ap (λ (made : List Change). state (tables_at journal) made (length bare)) (same_changes [] journal)
+    ∙ ap (state (tables_at journal) (changes journal)) (length-map journal without_pass))
 
 -- ---- lines
 pub loads : (limits : Limits) (before es : List Entry) → IsLawfulFrom limits before es → AllByRecursion WasRead es → Loads limits (map without_pass before) (journal_lines es) (map without_pass (before ++ es))

@@ -1,10 +1,8 @@
 -- A loader: how it goes on by a line, and what it gives in the end.
 use Rattle.std.specs.Prelude.{◌≡◌, ℕ, ◌+◌, ◌<◌, Bool, true, List, [], ◌∷◌, length, Option, Some, None, Result, Ok, Err, refl}
 use Rattle.std.specs.Option.{is_some}
-use Rattle.std.proofs.Common.{arith, sym, subst, ◌∙◌}
+use Rattle.std.proofs.Common.{arith, sym, subst}
 use Rattle.std.proofs.lemmas.Bool.Decides.{nat_tests}
-use Rattle.lexer_core.specs.declared.fault.Code.{Code}
-use Rattle.lexer_core.specs.declared.fault.Code.TheVariants as codes
 use Rattle.lines_core.specs.declared.line.TheConstants.{LONGEST_LINE}
 use Rattle.lines_core.specs.declared.serving.Ending.{Ending}
 use Rattle.lines_core.specs.declared.serving.Ending.TheVariants as endings
@@ -14,15 +12,15 @@ use Rattle.monitor_core.specs.Verdict.{is_change}
 use Rattle.system_core.specs.Journal.{verdict_at}
 use Rattle.system_core.specs.World.{World, with_entry}
 use Rattle.system_core.specs.declared.machine.event.Entry.{Entry}
-use Rattle.script_core.specs.Script.{addressed_up_to}
+use Rattle.script_core.specs.TooLong.{asks-too_long, addressed-too_long, fault-too_long}
 use Rattle.load_core.specs.declared.fault.Undone.{Undone}
 use Rattle.load_core.specs.declared.fault.Undone.TheVariants as reasons
 use Rattle.load_core.specs.declared.fault.LoadFault.{LoadFault}
 use Rattle.load_core.specs.declared.fault.LoadFault.TheVariants as faults
-use Rattle.load_core.specs.Loading.{SaysEntry, SaysChange, IsFaultOfLine, address, statement, IsUndone, IsUndoneEntry, unmarked}
+use Rattle.load_core.specs.Loading.{SaysEntry, SaysChange, IsUndone, IsUndoneEntry, unmarked}
 
 -- what a loader has come to: the world, and why it stopped, if it did
-pub record Loaded : Type 0 where
+pub record LoaderState : Type 0 where
   pub world : World
   pub stop : Option Undone
 
@@ -55,11 +53,11 @@ EntersOrPasses None old line stop new = EntersLine old (line_at old.journal line
 EntersOrPasses (Some why) old line stop new = (stop ≡ Some why) × (new ≡ old)
 
 -- a loader goes on by the line, and nothing is written
-abbrev pub GoesOn : Loaded → List ℕ → List ℕ → Loaded → Type 0
+abbrev pub GoesOn : LoaderState → List ℕ → List ℕ → LoaderState → Type 0
 GoesOn old line text new =
     (text ≡ []) × EntersOrPasses old.stop old.world line new.stop new.world
 
-abbrev pub has_stopped : Loaded → Bool
+abbrev pub has_stopped : LoaderState → Bool
 has_stopped p = is_some p.stop
 
 -- what is told of a fault that ended the reading; nothing is written that could fail
@@ -95,37 +93,22 @@ line_at-too_long : (journal : List Entry) (line : List ℕ)
 line_at-too_long [] line h = unmarked-too_long line h
 line_at-too_long (e ∷ es) line h = refl
 
-module _ (most : ℕ) where
-  address-too_long : (line : List ℕ)
-      → most < length line
-      → addressed_up_to most line ≡ Err (codes.TooLong, most)
-  address-too_long line h = grind (arith, nat_tests)
+pub says-too_long : (most : ℕ) (line : List ℕ) (e : Entry)
+    → most < length line → SaysEntry most line e → ⊥
+says-too_long most line e h s = asks-too_long most line h e.user e.statement s.asks
 
-  pub says-too_long : (line : List ℕ) (e : Entry) → most < length line → SaysEntry most line e → ⊥
-  says-too_long line e h s = let l = address-too_long line h in let a = s.speaker in cc
-
-  fault-too_long : (line other : List ℕ) (code : Code) (offset : ℕ)
-      → most < length line
-      → most < length other
-      → IsFaultOfLine most line code offset
-      → IsFaultOfLine most other code offset
-  fault-too_long line other _ _ h k (address e) =
-      address (address-too_long other k ∙ sym (address-too_long line h) ∙ e)
-  fault-too_long line other _ _ h k (statement user start offset e f) =
-      let l = address-too_long line h in cc
-
-  pub undone-too_long : (w : World) (line other : List ℕ) (why : Undone)
-      → most < length line
-      → most < length other
-      → IsUndone most w line why
-      → IsUndone most w other why
-  undone-too_long w line other (reasons.Fault code offset) h k p =
-      fault-too_long line other code offset h k p
-  undone-too_long w line other reasons.Unread h k p =
-      let l = address-too_long line h in let a = p.2 in cc
-  undone-too_long w line other reasons.NoChange h k p = absurd (says-too_long line p.0 h p.1)
-  undone-too_long w line other (reasons.Answer reply) h k p =
-      absurd (says-too_long line p.0 h p.1)
+pub undone-too_long : (most : ℕ) (w : World) (line other : List ℕ) (why : Undone)
+    → most < length line
+    → most < length other
+    → IsUndone most w line why
+    → IsUndone most w other why
+undone-too_long most w line other (reasons.Fault code offset) h k p =
+    fault-too_long most line other code offset h k p
+undone-too_long most w line other reasons.Unread h k p = absurd (addressed-too_long most line h p)
+undone-too_long most w line other reasons.NoChange h k p =
+    absurd (says-too_long most line p.0 h p.1)
+undone-too_long most w line other (reasons.Answer reply) h k p =
+    absurd (says-too_long most line p.0 h p.1)
 
 EntersLine-too_long : (old : World) (line other : List ℕ) (stop : Option Undone) (new : World)
     → LONGEST_LINE < length line
@@ -150,7 +133,7 @@ EntersOrPasses-too_long None old line other stop new h k p =
     (subst read (line_at-too_long old.journal line h) p))
 EntersOrPasses-too_long (Some why) old line other stop new h k p = p
 
-pub GoesOn-too_long : (old new : Loaded) (line other text : List ℕ)
+pub GoesOn-too_long : (old new : LoaderState) (line other text : List ℕ)
     → LONGEST_LINE < length line
     → LONGEST_LINE < length other
     → GoesOn old line text new

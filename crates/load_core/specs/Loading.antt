@@ -5,21 +5,19 @@ use Rattle.std.specs.List.{starts_with}
 use Rattle.std.specs.Str.Lines.{lines}
 use Rattle.std.specs.Io.KnownBytes.{Consumes, Keeps, IsAtEnd}
 use Rattle.base_core.specs.Full.{IsFull}
-use Rattle.base_core.specs.declared.name.User.{User}
 use Rattle.base_core.specs.declared.limits.Limits.{Limits}
-use Rattle.lexer_core.specs.declared.fault.Code.{Code}
-use Rattle.reader_core.specs.Language.{Spells, IsReadFault}
 use Rattle.monitor_core.specs.Verdict.{is_change}
 use Rattle.lines_core.specs.Lines.{whole_lines, IsWhole, IsCutOff}
 use Rattle.lines_core.specs.declared.line.TheConstants.{LONGEST_LINE}
 use Rattle.system_core.specs.Journal.{verdict_at}
 use Rattle.system_core.specs.World.{World, opening}
+use Rattle.system_core.specs.Replies.{is_done}
 use Rattle.system_core.specs.Step.{Step}
 use Rattle.system_core.specs.declared.machine.event.Entry.{Entry}
 use Rattle.system_core.specs.declared.machine.event.Event.TheVariants as events
 use Rattle.system_core.specs.declared.machine.event.Reply.{Reply}
 use Rattle.system_core.specs.declared.machine.event.Reply.TheVariants as replies
-use Rattle.script_core.specs.Script.{addressed_up_to}
+use Rattle.script_core.specs.Addressed.{Asks, IsFaulty, IsAddressed}
 use Rattle.load_core.specs.declared.fault.Undone.{Undone}
 use Rattle.load_core.specs.declared.fault.Undone.TheVariants as reasons
 use Rattle.load_core.specs.declared.fault.LoadFault.{LoadFault}
@@ -28,9 +26,7 @@ use Rattle.load_core.specs.declared.fault.LoadFault.TheVariants as faults
 -- ---- a line, which may have so many bytes
 -- the line says that the user of the entry asks its statement
 pub record SaysEntry (most : ℕ) (line : List ℕ) (e : Entry) : Type 0 where
-  pub start : ℕ
-  pub speaker : addressed_up_to most line ≡ Ok (e.user, start)
-  pub spelled : Spells (drop start line) e.statement
+  pub asks : Asks most line e.user e.statement
   pub pass : e.pass ≡ 0
 
 -- and that is a change which is allowed at the journal
@@ -49,21 +45,6 @@ Loads limits before (line ∷ lines) after =
     × Loads limits (before ++ e ∷ []) lines after
 
 -- ---- a line that is no change that is done
--- the line's one fault, at this byte of it
-pub data IsFaultOfLine (most : ℕ) (line : List ℕ) : Code → ℕ → Type 0 where
-  address : {code : Code} {offset : ℕ}
-      → addressed_up_to most line ≡ Err (code, offset)
-      → IsFaultOfLine most line code offset
-  statement : {code : Code} (user : User) (start offset : ℕ)
-      → addressed_up_to most line ≡ Ok (user, start)
-      → IsReadFault (drop start line) code offset
-      → IsFaultOfLine most line code (start + offset)
-
--- whether a change was done
-abbrev pub is_done : Reply → Bool
-is_done (replies.Done at) = true
-is_done reply = false
-
 -- why what the entry says is no change that is done at the world: it is no change, or it is answered
 -- by this reply
 abbrev pub IsUndoneEntry : World → Entry → Undone → Type 0
@@ -78,9 +59,8 @@ IsUndoneEntry w e reasons.Unread = ⊥
 -- why the line says no change that is done at the world: its fault; that memory ran out while it was
 -- read, where it says who speaks; or why what it says is none
 abbrev pub IsUndone : ℕ → World → List ℕ → Undone → Type 0
-IsUndone most w line (reasons.Fault code offset) = IsFaultOfLine most line code offset
-IsUndone most w line reasons.Unread =
-    (user : User) × (start : ℕ) × (addressed_up_to most line ≡ Ok (user, start))
+IsUndone most w line (reasons.Fault code offset) = IsFaulty most line code offset
+IsUndone most w line reasons.Unread = IsAddressed most line
 IsUndone most w line reasons.NoChange =
     (e : Entry) × SaysEntry most line e × IsUndoneEntry w e reasons.NoChange
 IsUndone most w line (reasons.Answer reply) =

@@ -21,11 +21,11 @@ use Rattle.load_core.specs.declared.replayed.ReplayFault.{ReplayFault}
 use Rattle.load_core.specs.declared.replayed.ReplayFault.TheVariants as faults
 use Rattle.load_core.specs.Loading.{unmarked, IsUndone}
 use Rattle.load_core.specs.Loader.{says-too_long, undone-too_long, unmarked-too_long}
-use Rattle.load_core.specs.Replaying.{longest, ends_reading, says_no_change, Enters, LeavesOut, PassesOver, no_change, behind, StopsReading, DroppedLine, Leavings}
+use Rattle.load_core.specs.Replaying.{longest, ends_reading, says_no_change, EntersChange, LeavesOut, PassesOver, no_change, behind, StopsReading, DroppedLine, ReplayedState}
 
 -- what a replayer has come to: the world, the numbers of the lines that made a change, how many lines
 -- were left out, and the first of them; how many lines came, and the reason at which it stopped
-pub record Progress : Type 0 where
+pub record ReplayerState : Type 0 where
   pub manner : Manner
   pub world : World
   pub numbers : List ℕ
@@ -35,8 +35,8 @@ pub record Progress : Type 0 where
   pub stop : Option Undone
 
 -- no line came yet
-abbrev pub begun : Manner → World → Progress
-begun manner w = record {
+abbrev pub new_replayer : Manner → World → ReplayerState
+new_replayer manner w = record {
   manner = manner;
   world = w;
   numbers = [];
@@ -56,11 +56,11 @@ first_or None line = Some line
 first_or (Some first) line = Some first
 
 -- one line more came
-abbrev pub passing : Progress → Progress
+abbrev pub passing : ReplayerState → ReplayerState
 passing p = record p { count = p.count + 1 }
 
 -- and its change was entered
-abbrev pub entering : Progress → Entry → Progress
+abbrev pub entering : ReplayerState → Entry → ReplayerState
 entering p e = record p {
   world = with_entry p.world e;
   numbers = p.numbers ++ (p.count + 1) ∷ [];
@@ -68,33 +68,33 @@ entering p e = record p {
 }
 
 -- the line that came last was left out
-abbrev pub left_out_last : Progress → Undone → Progress
+abbrev pub left_out_last : ReplayerState → Undone → ReplayerState
 left_out_last p why = record p {
   left_out = p.left_out + 1;
   first_left_out = first_or p.first_left_out (record { number = p.count; why = why });
 }
 
-abbrev pub leaving : Progress → Undone → Progress
+abbrev pub leaving : ReplayerState → Undone → ReplayerState
 leaving p why = left_out_last (passing p) why
 
 -- what becomes of it where the line that came last says no change that is done, for this reason
-abbrev pub noted_by : Bool → Bool → Progress → Undone → Progress
+abbrev pub noted_by : Bool → Bool → ReplayerState → Undone → ReplayerState
 noted_by true none p why = record p { stop = Some why }
 noted_by false true p why = p
 noted_by false false p why = left_out_last p why
 
-abbrev pub noted : Progress → Undone → Progress
-noted p why = noted_by (ends_reading p.manner.form why) (says_no_change why) p why
+abbrev pub undone_noted : ReplayerState → Undone → ReplayerState
+undone_noted p why = noted_by (ends_reading p.manner.form why) (says_no_change why) p why
 
 -- the line that came last made a change: its number is noted, or there is no memory for that
-abbrev pub NotesEntered : Progress → Progress → Type 0
+abbrev pub NotesEntered : ReplayerState → ReplayerState → Type 0
 NotesEntered old new =
     (new ≡ record old { numbers = old.numbers ++ old.count ∷ [] })
     ⊎ ((new.stop ≡ Some reasons.Unread) × (new.count ≡ old.count))
 
 -- how it goes on by a line
-pub data TakesLine (old : Progress) (line : List ℕ) (new : Progress) : Type 0 where
-  enters : (e : Entry) → Enters old.manner old.world line e → new ≡ entering old e
+pub data TakesLine (old : ReplayerState) (line : List ℕ) (new : ReplayerState) : Type 0 where
+  enters : (e : Entry) → EntersChange old.manner old.world line e → new ≡ entering old e
       → TakesLine old line new
   leaves_out : (why : Undone) → LeavesOut old.manner old.world line why → new ≡ leaving old why
       → TakesLine old line new
@@ -104,33 +104,34 @@ pub data TakesLine (old : Progress) (line : List ℕ) (new : Progress) : Type 0 
       → TakesLine old line new
 
 -- unless it has stopped
-abbrev pub TakesUnless : Option Undone → Progress → List ℕ → Progress → Type 0
+abbrev pub TakesUnless : Option Undone → ReplayerState → List ℕ → ReplayerState → Type 0
 TakesUnless (Some why) old line new = new ≡ old
 TakesUnless None old line new = TakesLine old (line_behind old.count line) new
 
 -- a replayer goes on by the line, and nothing is written, as long as lines can be counted
-abbrev pub ReplaysLine : Progress → List ℕ → List ℕ → Progress → Type 0
+abbrev pub ReplaysLine : ReplayerState → List ℕ → List ℕ → ReplayerState → Type 0
 ReplaysLine old line text new =
     (text ≡ []) × (old.count + 1 < 2 ^ 64 → TakesUnless old.stop old line new)
 
-abbrev pub is_over : Progress → Bool
-is_over p = is_some p.stop
+abbrev pub has_ended : ReplayerState → Bool
+has_ended p = is_some p.stop
 
 -- how the reading of lines ends: of a journal with the front of a last line that was cut off, if it was
-abbrev pub ReadsLines : Form → Result (Option (Vec ℕ Global)) SessionFault → Progress → Progress
+abbrev pub ReadsLines : Form → Result (Option (Vec ℕ Global)) SessionFault
+    → ReplayerState → ReplayerState
     → Option (List ℕ) → Option (List ℕ) → Type 0
 ReadsLines forms.Journal (Ok None) old new left left' =
-    EndsWhole ReplaysLine is_over (Ok whole_endings.Whole) old new left left' None None
-    ⊎ EndsWhole ReplaysLine is_over (Ok whole_endings.Over) old new left left' None None
+    EndsWhole ReplaysLine has_ended (Ok whole_endings.Whole) old new left left' None None
+    ⊎ EndsWhole ReplaysLine has_ended (Ok whole_endings.Over) old new left left' None None
 ReadsLines forms.Journal (Ok (Some front)) old new left left' =
-    EndsWhole ReplaysLine is_over (Ok (whole_endings.CutOff front)) old new left left' None None
+    EndsWhole ReplaysLine has_ended (Ok (whole_endings.CutOff front)) old new left left' None None
 ReadsLines forms.Journal (Err fault) old new left left' =
-    EndsWhole ReplaysLine is_over (Err fault) old new left left' None None
+    EndsWhole ReplaysLine has_ended (Err fault) old new left left' None None
 ReadsLines forms.Script (Ok None) old new left left' =
-    Ends ReplaysLine is_over (Ok tt) old new left left' None None
+    Ends ReplaysLine has_ended (Ok tt) old new left left' None None
 ReadsLines forms.Script (Ok (Some front)) old new left left' = ⊥
 ReadsLines forms.Script (Err fault) old new left left' =
-    Ends ReplaysLine is_over (Err fault) old new left left' None None
+    Ends ReplaysLine has_ended (Err fault) old new left left' None None
 
 -- the fault of a reader; nothing is written that could fail
 abbrev pub IsReadingFault : SessionFault → ReplayFault → Type 0
@@ -149,10 +150,10 @@ dropped_at count None cut_lines.Drop (Some front) =
     Ok (Some (record { number = count + 1; front = front.items }))
 
 -- what the replayer leaves then
-abbrev pub left_by : Progress → Result (Option DroppedLine) ReplayFault
-    → Result Leavings ReplayFault
-left_by p (Err fault) = Err fault
-left_by p (Ok dropped) =
+abbrev pub leavings_of : ReplayerState → Result (Option DroppedLine) ReplayFault
+    → Result ReplayedState ReplayFault
+leavings_of p (Err fault) = Err fault
+leavings_of p (Ok dropped) =
     Ok (record {
       world = p.world;
       numbers = p.numbers;
@@ -175,7 +176,7 @@ longer : (form : Form) (n : ℕ) → LONGEST_LINE < n → longest form < n
 longer forms.Journal n h = h
 longer forms.Script n h = omega (arith, h)
 
-also : (old : Progress) (line other : List ℕ) (why : Undone)
+also : (old : ReplayerState) (line other : List ℕ) (why : Undone)
     → LONGEST_LINE < length line
     → LONGEST_LINE < length other
     → IsUndone (longest old.manner.form) old.world line why
@@ -184,7 +185,7 @@ also old line other why h k p =
     undone-too_long (longest old.manner.form) old.world line other why
     (longer old.manner.form (length line) h) (longer old.manner.form (length other) k) p
 
-takes-too_long : (old : Progress) (line other : List ℕ) (new : Progress)
+takes-too_long : (old : ReplayerState) (line other : List ℕ) (new : ReplayerState)
     → LONGEST_LINE < length line
     → LONGEST_LINE < length other
     → TakesLine old line new
@@ -199,7 +200,8 @@ takes-too_long old line other new h k (passes_over (behind t) is) = passes_over 
 takes-too_long old line other new h k (stops why t is count) =
     stops why (record { few = t.few; undone = also old line other why h k t.undone; ends = t.ends }) is count
 
-unless-too_long : (stop : Option Undone) (old : Progress) (line other : List ℕ) (new : Progress)
+unless-too_long :
+    (stop : Option Undone) (old : ReplayerState) (line other : List ℕ) (new : ReplayerState)
     → LONGEST_LINE < length line
     → LONGEST_LINE < length other
     → TakesUnless stop old line new
@@ -210,7 +212,7 @@ unless-too_long None old line other new h k p =
     subst To (sym (behind-too_long old.count other k))
     (takes-too_long old line other new h k (subst To (behind-too_long old.count line h) p))
 
-pub ReplaysLine-too_long : (old new : Progress) (line other text : List ℕ)
+pub ReplaysLine-too_long : (old new : ReplayerState) (line other text : List ℕ)
     → LONGEST_LINE < length line
     → LONGEST_LINE < length other
     → ReplaysLine old line text new

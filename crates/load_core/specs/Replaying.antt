@@ -11,6 +11,7 @@ use Rattle.lexer_core.specs.declared.lexer.TheConstants.{MAX_LINE}
 use Rattle.lines_core.specs.Lines.{whole_lines, IsWhole, IsCutOff}
 use Rattle.lines_core.specs.declared.line.TheConstants.{KEPT_BYTES, LONGEST_LINE}
 use Rattle.system_core.specs.World.{World, with_entry}
+use Rattle.system_core.specs.Replies.{is_refused_memory}
 use Rattle.system_core.specs.declared.machine.event.Entry.{Entry}
 use Rattle.system_core.specs.declared.machine.event.Reply.{Reply}
 use Rattle.system_core.specs.declared.machine.event.Reply.TheVariants as replies
@@ -37,21 +38,12 @@ lines_read forms.Journal bytes = whole_lines bytes
 lines_read forms.Script bytes = lines bytes
 
 -- ---- lines that end the reading
--- whether a lack is that of memory
-abbrev pub is_memory : Lack → Bool
-is_memory lacks.NoMemory = true
-is_memory lack = false
-
-abbrev pub is_memory_refused : Reply → Bool
-is_memory_refused (replies.Refused at lack) = is_memory lack
-is_memory_refused reply = false
-
 -- whether a line came to nothing since memory ran out
 abbrev pub is_out_of_memory : Undone → Bool
 is_out_of_memory (reasons.Fault code offset) = false
 is_out_of_memory reasons.Unread = true
 is_out_of_memory reasons.NoChange = false
-is_out_of_memory (reasons.Answer reply) = is_memory_refused reply
+is_out_of_memory (reasons.Answer reply) = is_refused_memory reply
 
 -- whether it is the fault of a line that is too long; a text that is too long has this fault at its
 -- quote, before byte 4,096
@@ -78,7 +70,7 @@ is_left_out form why = not (ends_reading form why) && not (says_no_change why)
 
 -- ---- a line at a world
 -- it says a change that is allowed at the journal, which has fewer than so many
-pub record Enters (manner : Manner) (w : World) (line : List ℕ) (e : Entry) : Type 0 where
+pub record EntersChange (manner : Manner) (w : World) (line : List ℕ) (e : Entry) : Type 0 where
   pub few : length w.journal < manner.most
   pub says : SaysChange (longest manner.form) w.limits w.journal line e
 
@@ -109,7 +101,7 @@ pub data Replays (manner : Manner)
   nothing : {w : World} {n : ℕ} → Replays manner w n [] w [] []
   enters : {w new : World} {n : ℕ} {line : List ℕ} {lines : List (List ℕ)} {numbers : List ℕ}
       {out : List LeftOut} (e : Entry)
-      → Enters manner w line e
+      → EntersChange manner w line e
       → Replays manner (with_entry w e) (n + 1) lines new numbers out
       → Replays manner w n (line ∷ lines) new (n ∷ numbers) out
   leaves_out : {w new : World} {n : ℕ} {line : List ℕ} {lines : List (List ℕ)} {numbers : List ℕ}
@@ -150,7 +142,7 @@ Drops manner bytes (Some cut) =
 
 -- ---- an input
 -- what a replay leaves
-pub record Leavings : Type 0 where
+pub record ReplayedState : Type 0 where
   pub world : World
   pub numbers : List ℕ
   pub left_out : ℕ
@@ -173,7 +165,7 @@ pub record StopsReplay (manner : Manner) (begins : World) (lines : List (List �
 
 -- How the replay of what a reader has left ends, from a world on. Ok: all of it was read, and its
 -- lines lead to the world; so many of them were left out, and this is the first.
-abbrev pub EndsReplay : Manner → World → Result Leavings ReplayFault
+abbrev pub EndsReplay : Manner → World → Result ReplayedState ReplayFault
     → Option (List ℕ) → Option (List ℕ) → Type 0
 EndsReplay manner begins (Ok r) left left' =
     (bytes : List ℕ) × (out : List LeftOut)

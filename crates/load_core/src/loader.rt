@@ -10,8 +10,7 @@ use base_core::{Broken, Lack, NoMemory, Sink};
 use lexer_core::{ReadFault, Token};
 use lines_core::{Ending, LONGEST_LINE, LineServer};
 use monitor_core::is_change;
-use reader_core::read_with;
-use script_core::addressed_up_to;
+use script_core::read_addressed;
 use std::alloc::Global;
 use std::marker::Model;
 use std::mem;
@@ -31,9 +30,9 @@ pub struct Loader {
 }
 
 impl Model for Loader {
-    ghost use Rattle.load_core.specs.Loader.{Loaded};
+    ghost use Rattle.load_core.specs.Loader.{LoaderState};
 
-    ghost Value = { Loaded };
+    ghost Value = { LoaderState };
 
     ghost view = { λ l. record { world = l.system; stop = l.stop } };
 }
@@ -183,12 +182,8 @@ pub fn enter_line(
 ) -> Option<Undone>
     ensures { EntersUpTo most system.old line.now result system.new }
 {
-    let (user, start) = match addressed_up_to(most, line) {
-        Ok(address) => address,
-        Err((code, offset)) => return Some(Undone::Fault { code, offset }),
-    };
-    match read_with(alloc, tokens, &line[start..]) {
-        Ok(statement) => {
+    match read_addressed(alloc, tokens, most, line) {
+        Ok((user, statement)) => {
             let entry = Entry {
                 pass: 0,
                 user,
@@ -196,10 +191,7 @@ pub fn enter_line(
             };
             enter(system, entry)
         }
-        Err(ReadFault::At { code, offset }) => {
-            let offset = start + offset;
-            Some(Undone::Fault { code, offset })
-        }
+        Err(ReadFault::At { code, offset }) => Some(Undone::Fault { code, offset }),
         Err(ReadFault::NoMemory) => Some(Undone::Unread),
     }
 }

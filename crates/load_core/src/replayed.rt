@@ -43,9 +43,9 @@ pub struct Replayed {
 }
 
 impl Model for Replayed {
-    ghost use Rattle.load_core.specs.Replaying.{Leavings};
+    ghost use Rattle.load_core.specs.Replaying.{ReplayedState};
 
-    ghost Value = { Leavings };
+    ghost Value = { ReplayedState };
 
     ghost view = { λ r. record {
       world = r.system;

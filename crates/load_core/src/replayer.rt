@@ -1,19 +1,19 @@
 //! A core that enters the changes which lines say, and leaves the other lines out.
 ghost use Rattle.std.specs.Prelude.{◌≡◌, ◌+◌, ◌<◌, ◌^◌, None, Some};
-ghost use Rattle.load_core.specs.Replaying.{is_memory_refused, is_out_of_memory, is_too_long, ends_reading, says_no_change};
-ghost use Rattle.load_core.specs.Replayer.{line_behind, begun, noted, left_out_last, NotesEntered, TakesLine, dropped_at, left_by};
+ghost use Rattle.load_core.specs.Replaying.{is_out_of_memory, is_too_long, ends_reading, says_no_change};
+ghost use Rattle.load_core.specs.Replayer.{line_behind, new_replayer, undone_noted, left_out_last, NotesEntered, TakesLine, dropped_at, leavings_of};
 
 use crate::fault::Undone;
 use crate::loader::{enter_line, stop_for, unmarked};
 use crate::manner::{CutLine, Form, Manner};
 use crate::replayed::{CutFront, LeftOut, ReplayFault, Replayed};
-use base_core::{Broken, Lack, Sink};
+use base_core::{Broken, Sink};
 use lexer_core::{Code, MAX_LINE, Token};
 use lines_core::LineServer;
 use std::alloc::Global;
 use std::marker::Model;
 use std::mem;
-use system_core::{Reply, System};
+use system_core::System;
 
 /// A core that enters the allowed changes which lines say, notes the lines that it leaves out, and
 /// stops where memory runs out. Contracts see how far it has come.
@@ -33,9 +33,9 @@ pub struct Replayer {
 
 impl Model for Replayer {
     ghost use Rattle.std.specs.Prelude.{◌≤◌};
-    ghost use Rattle.load_core.specs.Replayer.{Progress};
+    ghost use Rattle.load_core.specs.Replayer.{ReplayerState};
 
-    ghost Value = { Progress };
+    ghost Value = { ReplayerState };
 
     ghost view = { λ r. record {
       manner = r.manner;
@@ -50,26 +50,13 @@ impl Model for Replayer {
     ghost invariant = { λ r. r.left_out ≤ r.count };
 }
 
-/// Whether memory ran out.
-fn is_memory_refused(reply: &Reply) -> bool
-    ensures { result ≡ is_memory_refused reply.now }
-{
-    match reply {
-        Reply::Refused {
-            lack: Lack::NoMemory,
-            ..
-        } => true,
-        _ => false,
-    }
-}
-
 /// Whether a line came to nothing since memory ran out.
 pub fn is_out_of_memory(why: &Undone) -> bool
     ensures { result ≡ is_out_of_memory why.now }
 {
     match why {
         Undone::Unread => true,
-        Undone::Answer(reply) => is_memory_refused(reply),
+        Undone::Answer(reply) => reply.is_refused_memory(),
         Undone::Fault { .. } | Undone::NoChange => false,
     }
 }
@@ -125,7 +112,7 @@ fn note_first(first: &mut Option<LeftOut>, line: LeftOut)
 impl Replayer {
     /// Nothing came yet.
     pub fn new(alloc: Global, system: System, manner: Manner) -> Replayer
-        ensures { result ≡ begun manner system }
+        ensures { result ≡ new_replayer manner system }
     {
         Replayer {
             alloc,
@@ -143,7 +130,7 @@ impl Replayer {
     /// Notes what the line that came last came to, which says no change that is done.
     fn note_undone(&mut self, why: Undone)
         requires { self.old.left_out < self.old.count }
-        ensures { self.new ≡ noted self.old why }
+        ensures { self.new ≡ undone_noted self.old why }
     {
         if ends_reading(self.manner.form, &why) {
             stop_for(&mut self.stop, why);
@@ -201,7 +188,7 @@ impl Replayer {
     pub fn finish(self, front: Option<Vec<u8>>) -> Result<Replayed, ReplayFault>
         requires { self.count + 1 < 2 ^ 64 }
         ensures { result
-            ≡ left_by self (dropped_at self.count self.stop self.manner.cut_line front) }
+            ≡ leavings_of self (dropped_at self.count self.stop self.manner.cut_line front) }
     {
         let Replayer {
             manner,
@@ -272,11 +259,11 @@ fn dropped_at(
 }
 
 impl LineServer for Replayer {
-    ghost use Rattle.load_core.specs.Replayer.{ReplaysLine, is_over, ReplaysLine-too_long};
+    ghost use Rattle.load_core.specs.Replayer.{ReplaysLine, has_ended, ReplaysLine-too_long};
 
     ghost answers = { ReplaysLine };
 
-    ghost over = { is_over };
+    ghost over = { has_ended };
 
     fn is_over(&self) -> bool {
         self.stop.is_some()

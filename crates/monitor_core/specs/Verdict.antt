@@ -19,10 +19,10 @@ use Rattle.base_core.specs.declared.limits.Limits.{Limits}
 use Rattle.reader_core.specs.declared.privilege.Privilege.{Privilege}
 use Rattle.reader_core.specs.declared.statement.Statement.{Statement}
 use Rattle.reader_core.specs.declared.statement.Statement.TheVariants as statements
-use Rattle.tables_core.specs.Contents.{Contents, table_of, column_of}
+use Rattle.tables_core.specs.Contents.{Table, table_of, column_of}
 use Rattle.grants_core.specs.declared.grant.Grant.{Grant}
 use Rattle.grants_core.specs.Content as rights
-use Rattle.grants_core.specs.Content.{Content, count_of}
+use Rattle.grants_core.specs.Content.{Rights, count_of}
 use Rattle.monitor_core.specs.Atoms.{atoms_of, columns_given, columns_listed}
 use Rattle.monitor_core.specs.declared.allowed.Allowed.{Allowed}
 
@@ -47,17 +47,17 @@ each xs check = first_lack (map check xs)
 -- what is judged by: the tables, the rights (owners and grants in force), the limits, and the
 -- moment
 pub record State : Type 0 where
-  pub tables : List (Name × Contents)
-  pub rights : Content
+  pub tables : List (Name × Table)
+  pub rights : Rights
   pub limits : Limits
   pub moment : ℕ
 
 -- whether there is a table of this name
-abbrev pub is_table : List (Name × Contents) → Name → Bool
+abbrev pub is_table : List (Name × Table) → Name → Bool
 is_table tables name = is_some (table_of tables name)
 
 -- the columns of the table of this name, and none where there is no such table
-abbrev pub columns_of : List (Name × Contents) → Name → List Column
+abbrev pub columns_of : List (Name × Table) → Name → List Column
 columns_of tables name = option_map_or (λ t. t.columns) (table_of tables name) []
 
 -- whether so many more grants of the atom are within the limit
@@ -65,7 +65,7 @@ unfoldable pub has_room : List Grant → Atom → ℕ → ℕ → Bool
 has_room in_force atom more limit = nat_le (count_of in_force atom + more) limit
 
 -- the atoms that privileges on the table are
-abbrev pub atoms_at : List (Name × Contents) → Name → List Privilege → List Atom
+abbrev pub atoms_at : List (Name × Table) → Name → List Privilege → List Atom
 atoms_at tables table privileges = atoms_of table (columns_of tables table) privileges
 
 -- ---- the single checks

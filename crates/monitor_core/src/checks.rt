@@ -40,6 +40,7 @@ pub fn require(holds: bool, lack: Lack) -> Result<(), Lack>
     if holds { Ok(()) } else { Err(lack) }
 }
 
+/// Whether a table of this name stands.
 pub fn is_table(tables: &Tables, name: Name) -> bool
     ensures { result ≡ is_table tables.now.tables name }
 {

@@ -63,6 +63,7 @@ impl<A: Authority> Judge<'_, A> {
         }
     }
 
+    /// That the user holds the privilege, or the lack of it.
     #[inline(always)]
     pub fn may(&self, user: &User, atom: Atom) -> Result<(), Lack>
         ensures { result ≡ holds_privilege self.now user.now atom }
@@ -146,6 +147,7 @@ impl<A: Authority> Judge<'_, A> {
         each_column(&holds, table, ByColumn::Update, sets)
     }
 
+    /// That the user may grant the privilege on, or the lack of the option.
     pub fn may_grant(&self, user: &User, atom: Atom) -> Result<(), Lack>
         ensures { result ≡ holds_grant_option self.now user.now atom }
     {
@@ -166,6 +168,7 @@ impl<A: Authority> Judge<'_, A> {
         require(made, lack)
     }
 
+    /// That the user granted the privilege to each of these, or the first to whom he did not.
     pub fn has_made_each(&self, by: &User, users: &[User], atom: &Atom) -> Result<(), Lack>
         ensures { result ≡ each users.now (made_grant self.now by.now atom.now) }
     {
@@ -190,6 +193,7 @@ impl<A: Authority> Judge<'_, A> {
         require(given, lack)
     }
 
+    /// That the user gave the option to each of these, or the first to whom he did not.
     pub fn gave_option_to_each(&self, by: &User, users: &[User], atom: &Atom) -> Result<(), Lack>
         ensures { result ≡ each users.now (gave_option self.now by.now atom.now) }
     {
@@ -201,6 +205,7 @@ impl<A: Authority> Judge<'_, A> {
         Ok(())
     }
 
+    /// Whether there is room for so many grants more of the privilege.
     #[tactic(auto, unfolding(crate::specs::Verdict::has_room))]
     pub fn has_room_for(&self, atom: &Atom, more: u64) -> bool
         ensures { result ≡ has_room self.now.rights.in_force atom.now more self.now.limits.grants }

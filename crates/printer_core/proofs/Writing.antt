@@ -10,7 +10,7 @@ use Rattle.base_core.specs.declared.condition.Condition.{Condition}
 use Rattle.printer_core.specs.declared.spacing.LastToken.{LastToken}
 use Rattle.lexer_core.specs.Lexing as lexemes
 use Rattle.lexer_core.specs.Lexing.{Lexeme, IsProper}
-use Rattle.reader_core.specs.Saying.{listed, condition_says, filter_says}
+use Rattle.reader_core.specs.Saying.{separated, condition_says, filter_says}
 use Rattle.printer_core.specs.declared.spacing.Spacing.{Spacing}
 use Rattle.printer_core.specs.Printing.{Sheet, IsStarted, Adds, OpensToken, Prints, spaced_text, last_behind, gap, blank_if, is_parted, as_last, lexeme_text, at_front, colon_text, added}
 use Rattle.printer_core.proofs.Room.{added_both, added_nothing, added_short, fits_is, slice_is, within}
@@ -121,12 +121,12 @@ module _ {A : Type 0} (separator : Lexeme) (says : A → List Lexeme) (IsItem : 
   pub all_on : All IsItem (take i xs) → IsItem x → All IsItem (take (i + 1) xs)
   all_on h p = All-same IsItem (take (i + 1) xs) (take i xs ++ x ∷ []) one_more (All-push IsItem (take i xs) x h p)
 
-pub first_and_rest : {A : Type 0} (separator : Lexeme) (says : A → List Lexeme) (xs : List A) (x : A) {old mid new : Sheet} → 0 < length xs → x ≡ get_or xs 0 x → Prints (says x) old mid → Prints (flat_map (λ y. separator ∷ says y) (take (length xs - 1) (drop 1 xs))) mid new → Prints (listed separator says xs) old new
+pub first_and_rest : {A : Type 0} (separator : Lexeme) (says : A → List Lexeme) (xs : List A) (x : A) {old mid new : Sheet} → 0 < length xs → x ≡ get_or xs 0 x → Prints (says x) old mid → Prints (flat_map (λ y. separator ∷ says y) (take (length xs - 1) (drop 1 xs))) mid new → Prints (separated separator says xs) old new
 first_and_rest separator says [] x some is v w = absurd (omega arith)
 first_and_rest separator says (y ∷ ys) x {old} {mid} {new} some is v w =
     then (subst (λ z. Prints (says z) old mid) is v) (subst (λ zs. Prints (flat_map (λ z. separator ∷ says z) zs) mid new) (take_rest (y ∷ ys) 1) w)
 
-pub none_listed : {A : Type 0} (separator : Lexeme) (says : A → List Lexeme) (xs : List A) (s : Sheet) → length xs ≤ 0 → Prints (listed separator says xs) s s
+pub none_listed : {A : Type 0} (separator : Lexeme) (says : A → List Lexeme) (xs : List A) (s : Sheet) → length xs ≤ 0 → Prints (separated separator says xs) s s
 none_listed separator says [] s h = nothing s
 none_listed separator says (x ∷ xs) s h = absurd (omega arith)
 
@@ -135,7 +135,7 @@ pub no_filter : (cs : List Condition) (s : Sheet) → length cs ≤ 0 → Prints
 no_filter [] s h = nothing s
 no_filter (c ∷ cs) s h = absurd (omega arith)
 
-pub filter_written : (cs : List Condition) {old new : Sheet} → 0 < length cs → Prints (lexemes.Key keywords.Where ∷ listed (lexemes.Key keywords.And) condition_says cs) old new → Prints (filter_says cs) old new
+pub filter_written : (cs : List Condition) {old new : Sheet} → 0 < length cs → Prints (lexemes.Key keywords.Where ∷ separated (lexemes.Key keywords.And) condition_says cs) old new → Prints (filter_says cs) old new
 filter_written [] some w = absurd (omega arith)
 filter_written (c ∷ cs) some w = w
 

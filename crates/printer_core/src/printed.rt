@@ -5,7 +5,7 @@ ghost use Rattle.lexer_core.specs.Lexing as lexemes;
 ghost use Rattle.lexer_core.specs.Lexing.{Lexeme};
 ghost use Rattle.lexer_core.specs.declared.token.Mark.TheVariants as marks;
 ghost use Rattle.reader_core.specs.declared.separator.Separator.{Separator};
-ghost use Rattle.reader_core.specs.Saying.{listed, separator_lexeme, names_say, columns_say, type_lexeme, comparison_mark};
+ghost use Rattle.reader_core.specs.Saying.{separated, separator_lexeme, names_say, columns_say, type_lexeme, comparison_mark};
 ghost use Rattle.reader_core.specs.Forming.{AreNamed, IsSelection};
 ghost use Rattle.printer_core.specs.Printing.{Prints};
 
@@ -45,7 +45,7 @@ fn write_behind<T: Printed>(page: &mut Page, items: &[T])
 
 /// The items, with a separator between each two.
 pub fn write_list<T: Printed>(page: &mut Page, items: &[T])
-    ensures written { Prints (listed (separator_lexeme T.SEPARATOR) T.says items.now)
+    ensures written { Prints (separated (separator_lexeme T.SEPARATOR) T.says items.now)
         page.old page.new }
     ensures well_formed { All T.well_formed items.now }
 {

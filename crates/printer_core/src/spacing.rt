@@ -28,6 +28,7 @@ pub enum LastToken {
 }
 
 impl LastToken {
+    /// What a mark leaves behind it.
     pub fn from_mark(mark: Mark) -> LastToken
         ensures { result ≡ as_last (Sign mark) }
     {

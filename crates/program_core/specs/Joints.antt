@@ -5,7 +5,7 @@ use Rattle.std.specs.Option.{is_some}
 use Rattle.command_core.specs.declared.reading.Reading.{Reading}
 use Rattle.dump_core.specs.Ending.{EndsDump}
 use Rattle.journal_core.specs.Keeping.{EndsJournal}
-use Rattle.load_core.specs.Replaying.{EndsReplay, Leavings}
+use Rattle.load_core.specs.Replaying.{EndsReplay, ReplayedState}
 use Rattle.load_core.specs.declared.manner.Manner.{Manner}
 use Rattle.system_core.specs.World.{World}
 
@@ -19,7 +19,7 @@ status_if true = 1
 status_if false = 0
 
 -- the status behind these: 1 where a line was left out or dropped and that is to be strict
-abbrev pub status_behind : Reading → Leavings → ℕ
+abbrev pub status_behind : Reading → ReplayedState → ℕ
 status_behind reading leavings =
     status_if (reading.strict && (is_some leavings.first_left_out || is_some leavings.dropped))
 
@@ -27,7 +27,7 @@ status_behind reading leavings =
 pub record ReplaysAll {A : Type 0} (load : Option A) (reading : Reading)
     (left left' : Option (List ℕ)) : Type 0 where
   pub begins : World
-  pub leavings : Leavings
+  pub leavings : ReplayedState
   pub empty : load ≡ None → begins.journal ≡ []
   pub replays : EndsReplay (to_the_end reading) begins (Ok leavings) left left'
 

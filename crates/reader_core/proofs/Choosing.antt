@@ -3,7 +3,7 @@ use Rattle.std.proofs.Common.{◌≡◌, List, [], true, false, Result, Ok, Err,
 use Rattle.lexer_core.specs.Lexing.{Lexeme}
 use Rattle.lexer_core.specs.declared.fault.ReadFault.{ReadFault}
 use Rattle.reader_core.specs.Grammar.{Grammar, Class, One, Case}
-use Rattle.reader_core.specs.Cursor.{Cursor, Takes, Faults, Leads, Reads, fault_left, next_is}
+use Rattle.reader_core.specs.Cursor.{Cursor, Takes, Faults, Parses, Reads, fault_left, next_is}
 use Rattle.reader_core.proofs.Lists.{case_yes, case_no}
 
 module _ (c : Class) (a b : Grammar → Grammar) (old : Cursor) where
@@ -34,6 +34,6 @@ pub skipped : (c : Class) (a : Grammar → Grammar) (old : Cursor) → next_is c
 skipped c a old is = record { says = refl; line = refl; fault = λ k. case_no old c (a k) k is }
 
 -- what is left to read, said in another way
-pub leads_so : {V : Type 0} (before : Grammar → Grammar) (after then : V → Grammar → Grammar) (says : V → List Lexeme) (r : Result V ReadFault) (old new : Cursor) → ((v : V) (k : Grammar) → after v k ≡ then v k) → Leads before after says r old new → Leads before then says r old new
+pub leads_so : {V : Type 0} (before : Grammar → Grammar) (after then : V → Grammar → Grammar) (says : V → List Lexeme) (r : Result V ReadFault) (old new : Cursor) → ((v : V) (k : Grammar) → after v k ≡ then v k) → Parses before after says r old new → Parses before then says r old new
 leads_so before after then says (Ok v) old new same t = record { says = t.says; line = t.line; fault = λ k. t.fault k ∙ ap (λ (g : Grammar). fault_left g new) (same v k) }
 leads_so before after then says (Err e) old new same f = f

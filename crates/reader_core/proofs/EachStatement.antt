@@ -18,7 +18,7 @@ use Rattle.reader_core.specs.Grammar.{Grammar, End, One, Case, Items, Key, Sign,
 use Rattle.reader_core.specs.Matches.{Matches}
 use Rattle.lexer_core.specs.Lexing.{IsProper}
 use Rattle.reader_core.specs.Sentences.{names_rule, comma_separated, privileges_rule, column_item, literal_item, set_item, privilege_item, name_list, optional, filter, selection, from_table, grant_option, grant_option_for, privileges_from, only_table, statement, finish}
-use Rattle.reader_core.specs.Saying.{comma_lexeme, listed, user_says, column_says, value_says, value_lexeme, set_says, filter_says, selection_says, privilege_says, option_says, privileges_from_say, statement_says, IsFinished}
+use Rattle.reader_core.specs.Saying.{comma_lexeme, separated, user_says, column_says, value_says, value_lexeme, set_says, filter_says, selection_says, privilege_says, option_says, privileges_from_say, statement_says, IsFinished}
 use Rattle.reader_core.specs.Forming.{IsWellFormed, ArePrivileges, AreUsers}
 use Rattle.reader_core.specs.Language.{SaysStatement}
 use Rattle.reader_core.proofs.Fine.{few_if_fine, distinct_if_fine}
@@ -40,7 +40,7 @@ create_body said m =
     record {
       value = statements.CreateTable n.value cs.value;
       rest = c.rest;
-      split = then _ refl (then _ a.split (then _ n.split (then _ o.split (and_then (listed comma_lexeme column_says cs.value) (lexemes.Sign marks.Close ∷ []) c.rest cs.split c.split))));
+      split = then _ refl (then _ a.split (then _ n.split (then _ o.split (and_then (separated comma_lexeme column_says cs.value) (lexemes.Sign marks.Close ∷ []) c.rest cs.split c.split))));
       well_formed = ((cs.well_formed.0, few_if_fine (names_rule 32) (λ c. kinds.Name c.name) cs.value cs.well_formed.2), distinct_if_fine 32 (λ c. c.name) cs.value cs.well_formed.2);
       left = c.left;
     }
@@ -56,7 +56,7 @@ insert_body said m =
     record {
       value = statements.Insert n.value vs.value;
       rest = c.rest;
-      split = then _ refl (then _ a.split (then _ n.split (then _ w.split (then _ o.split (and_then (listed comma_lexeme value_says vs.value) (lexemes.Sign marks.Close ∷ []) c.rest vs.split c.split)))));
+      split = then _ refl (then _ a.split (then _ n.split (then _ w.split (then _ o.split (and_then (separated comma_lexeme value_says vs.value) (lexemes.Sign marks.Close ∷ []) c.rest vs.split c.split)))));
       well_formed = (vs.well_formed.0, few_if_fine (comma_separated 32 false) (λ v. kind_of (value_lexeme v)) vs.value vs.well_formed.2);
       left = c.left;
     }
@@ -97,7 +97,7 @@ update_body said m =
     record {
       value = statements.Update n.value xs.value cs.value;
       rest = cs.rest;
-      split = then _ refl (then _ n.split (then _ w.split (and_then (listed comma_lexeme set_says xs.value) (filter_says cs.value) cs.rest xs.split cs.split)));
+      split = then _ refl (then _ n.split (then _ w.split (and_then (separated comma_lexeme set_says xs.value) (filter_says cs.value) cs.rest xs.split cs.split)));
       well_formed = (((xs.well_formed.0, few_if_fine (names_rule 32) (λ a. kinds.Name a.column) xs.value xs.well_formed.2), distinct_if_fine 32 (λ a. a.column) xs.value xs.well_formed.2), cs.well_formed);
       left = cs.left;
     }
@@ -113,8 +113,8 @@ grant_body said m =
     record {
       value = statements.Grant ps.value n.value us.value w.value;
       rest = w.rest;
-      split = then _ refl (and_then (listed comma_lexeme privilege_says ps.value) (lexemes.Key keywords.On ∷ lexemes.Named n.value ∷ lexemes.Key keywords.To ∷ (listed comma_lexeme user_says us.value ++ option_says w.value)) w.rest ps.split
-          (then _ o.split (then _ n.split (then _ t.split (and_then (listed comma_lexeme user_says us.value) (option_says w.value) w.rest us.split w.split)))));
+      split = then _ refl (and_then (separated comma_lexeme privilege_says ps.value) (lexemes.Key keywords.On ∷ lexemes.Named n.value ∷ lexemes.Key keywords.To ∷ (separated comma_lexeme user_says us.value ++ option_says w.value)) w.rest ps.split
+          (then _ o.split (then _ n.split (then _ t.split (and_then (separated comma_lexeme user_says us.value) (option_says w.value) w.rest us.split w.split)))));
       well_formed = (ps.well_formed, us.well_formed);
       left = w.left;
     }
@@ -141,7 +141,7 @@ revoked_front said m =
     record {
       value = record { privileges = ps.value; table = n.value; users = us.value };
       rest = us.rest;
-      split = and_then (listed comma_lexeme privilege_says ps.value) (lexemes.Key keywords.On ∷ lexemes.Named n.value ∷ lexemes.Key keywords.From ∷ listed comma_lexeme user_says us.value) us.rest ps.split
+      split = and_then (separated comma_lexeme privilege_says ps.value) (lexemes.Key keywords.On ∷ lexemes.Named n.value ∷ lexemes.Key keywords.From ∷ separated comma_lexeme user_says us.value) us.rest ps.split
           (then _ o.split (then _ n.split (then _ f.split us.split)));
       well_formed = (ps.well_formed, us.well_formed);
       left = us.left;

@@ -10,7 +10,7 @@ use Rattle.lexer_core.specs.declared.fault.ReadFault.TheVariants as faults
 use Rattle.reader_core.specs.declared.statement.Statement.{Statement}
 use Rattle.reader_core.specs.declared.statement.Statement.TheVariants as statements
 use Rattle.reader_core.specs.Grammar.{Fault}
-use Rattle.reader_core.specs.Matches.{IsFault, IsWhole}
+use Rattle.reader_core.specs.Matches.{IsFault, IsSentence}
 use Rattle.reader_core.specs.Sentences.{statement}
 use Rattle.reader_core.specs.Saying.{statement_says}
 use Rattle.reader_core.specs.Language.{SaysStatement, Spells, IsReadFault, lexical, nothing, ungrammatical, IsReadFaultOf, UnlessNoMemory}
@@ -65,7 +65,7 @@ spelled_no_fault line s _ _ p (nothing a) = nothing_said line s p.said p.says p.
 spelled_no_fault line s _ _ p (ungrammatical {code} {offset} {t} {ts} a f) =
     let same : p.says.tokens_of ≡ t ∷ ts = one_list_of_tokens line p.says.tokens_of (t ∷ ts) (tokens_of line p.said p.says) a in
     let kinds : map kind_of p.said ≡ map (λ x. x.kind) (t ∷ ts) = sym (lexed_kinds line (length line) p.says.tokens_of p.said p.says.lexed) ∙ ap (map (λ x. x.kind)) same in
-    let whole = subst (λ (ks : List TokenKind). IsWhole statement ks) kinds (says_whole p.said s p.well_formed p.statement_of) in
+    let whole = subst (λ (ks : List TokenKind). IsSentence statement ks) kinds (says_whole p.said s p.well_formed p.statement_of) in
     no_fault (code, offset) (sym (first_fault_from_whole statement (length line) (t ∷ ts) sound whole) ∙ first_fault_from_fault statement (length line) (t ∷ ts) (code, offset) sound f)
 
 abbrev Agree : Code → ℕ → Code → ℕ → Type 0

@@ -3,9 +3,9 @@ use Rattle.std.proofs.Common.{◌≡◌, List, Result, Ok, Err, IsErrAnd, ap, sy
 use Rattle.lexer_core.specs.Lexing.{Lexeme}
 use Rattle.lexer_core.specs.declared.fault.ReadFault.{ReadFault}
 use Rattle.reader_core.specs.Grammar.{Grammar}
-use Rattle.reader_core.specs.Cursor.{Cursor, Leads, Faults}
+use Rattle.reader_core.specs.Cursor.{Cursor, Parses, Faults}
 
-pub exits : {V : Type 0} (before : Grammar → Grammar) (after : V → Grammar → Grammar) (says : V → List Lexeme) (r : Result V ReadFault) (e : ReadFault) (old new : Cursor) → IsErrAnd r (λ y. y ≡ e) → Faults before e old → Leads before after says r old new
+pub exits : {V : Type 0} (before : Grammar → Grammar) (after : V → Grammar → Grammar) (says : V → List Lexeme) (r : Result V ReadFault) (e : ReadFault) (old new : Cursor) → IsErrAnd r (λ y. y ≡ e) → Faults before e old → Parses before after says r old new
 exits before after says (Ok v) e old new p f = absurd p
 exits before after says (Err y) e old new p f = subst (λ (x : ReadFault). Faults before x old) (sym p) f
 

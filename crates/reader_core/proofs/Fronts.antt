@@ -23,7 +23,7 @@ use Rattle.lexer_core.specs.declared.fault.Code.{Code}
 use Rattle.reader_core.specs.Grammar.{Grammar, Class, One, Case, Items, More, Rule, Key, Sign, AnyName, AnyLiteral, AnyType, AnyTest, AtLeastOne, fits, item_fault, followed_by}
 use Rattle.reader_core.specs.Recogniser.{AreFaultless}
 use Rattle.reader_core.specs.Matches.{TokenWithFault, faultless, Matches, one, this, other, item, next, last}
-use Rattle.reader_core.specs.Saying.{listed, value_lexeme, type_lexeme, comparison_mark}
+use Rattle.reader_core.specs.Saying.{separated, value_lexeme, type_lexeme, comparison_mark}
 use Rattle.reader_core.proofs.Taking.{key_fits, sign_fits}
 
 -- what is said, as tokens none of which is wrong
@@ -211,7 +211,7 @@ module _ {A : Type 0} {r : Rule} {i : Grammar} {separator : Lexeme} {first : A �
   abbrev behind : List A → List Lexeme
   behind xs = flat_map (λ y. separator ∷ says y) xs
 
-  behind_some : (xs : List A) → 0 < length xs → separator ∷ listed separator says xs ≡ behind xs
+  behind_some : (xs : List A) → 0 < length xs → separator ∷ separated separator says xs ≡ behind xs
   behind_some [] some = absurd (omega arith)
   behind_some (x ∷ xs) some = refl
 
@@ -224,7 +224,7 @@ module _ {A : Type 0} {r : Rule} {i : Grammar} {separator : Lexeme} {first : A �
   shorter x said rest e = omega (arith, ap length e, length-append (says x) rest, ap length (of.begins x), length-map (says x) kind_of)
 
   -- an item, and those further on
-  some_items : (s : List TokenKind) (said : List Lexeme) → ((s : List TokenKind) (rest : List Lexeme) → length rest < length said → Matches (More r s i g) (faultless_all rest) → Listed r s g first behind IsItem rest) → Matches (Items r s i g) (faultless_all said) → (t : Listed r s g first (listed separator says) IsItem said) × (0 < length t.items)
+  some_items : (s : List TokenKind) (said : List Lexeme) → ((s : List TokenKind) (rest : List Lexeme) → length rest < length said → Matches (More r s i g) (faultless_all rest) → Listed r s g first behind IsItem rest) → Matches (Items r s i g) (faultless_all said) → (t : Listed r s g first (separated separator says) IsItem said) × (0 < length t.items)
   some_items s [] further m = absurd (no_item m)
   some_items s (l ∷ rest) further m =
       let p = item_back m in
@@ -260,7 +260,7 @@ module _ {A : Type 0} {r : Rule} {i : Grammar} {separator : Lexeme} {first : A �
   abbrev pub IsList : List A → Type 0
   IsList xs = (0 < length xs) × All IsItem xs × AreFaultless r [] (map first xs)
 
-  pub list_front : (said : List Lexeme) → Matches (Items r [] i g) (faultless_all said) → Front (listed separator says) IsList g said
+  pub list_front : (said : List Lexeme) → Matches (Items r [] i g) (faultless_all said) → Front (separated separator says) IsList g said
   list_front said m =
       let t = some_items [] said (λ s rest lt n. more_items (length said) s rest (omega (arith, lt)) n) m in
       record { value = t.0.items; rest = t.0.rest; split = t.0.split; well_formed = (t.1, All-from_recursion IsItem t.0.items t.0.are, t.0.free); left = t.0.left }

@@ -14,7 +14,7 @@ use Rattle.lexer_core.specs.declared.fault.Code.TheVariants as codes
 use Rattle.reader_core.specs.Grammar.{Grammar, Class, Rule, Items, More, One, Case, fits, item_fault, followed_by, same, repeated_or_too_many}
 use Rattle.reader_core.specs.Recogniser.{first_fault, with_fault, step, can_end, AreFaultless}
 use Rattle.reader_core.specs.Cursor.{Cursor, Takes, Faults, fault_of, fault_left, left_says, next_kind, next_lexeme, next_is, offset_at}
-use Rattle.reader_core.specs.Saying.{listed}
+use Rattle.reader_core.specs.Saying.{separated}
 use Rattle.reader_core.proofs.Theory.{first_fault_nil, first_fault_none, first_fault_some}
 use Rattle.reader_core.proofs.Taking.{says_taken, at_line}
 
@@ -90,7 +90,7 @@ behind_each separator says xs = flat_map (λ y. separator ∷ says y) xs
 each_push : {A : Type 0} (separator : Lexeme) (says : A → List Lexeme) (xs : List A) (x : A) (r : List Lexeme) → behind_each separator says (xs ++ x ∷ []) ++ r ≡ behind_each separator says xs ++ separator ∷ (says x ++ r)
 each_push separator says xs x r = simp (flat_map-append, append_assoc)
 
-each_listed : {A : Type 0} (separator : Lexeme) (says : A → List Lexeme) (xs : List A) (x : A) → behind_each separator says (xs ++ x ∷ []) ≡ separator ∷ listed separator says (xs ++ x ∷ [])
+each_listed : {A : Type 0} (separator : Lexeme) (says : A → List Lexeme) (xs : List A) (x : A) → behind_each separator says (xs ++ x ∷ []) ≡ separator ∷ separated separator says (xs ++ x ∷ [])
 each_listed separator says [] x = refl
 each_listed separator says (y ∷ ys) x = refl
 
@@ -139,12 +139,12 @@ module _ {A : Type 0} {r : Rule} {separator : Lexeme} {i : Grammar} {first : A �
         well_formed = lawful_on;
       }
 
-  pub list_done : next_is r.separator mid ≡ false → Takes (λ k. Items r [] i k) (λ k. k) (listed separator says (xs ++ x ∷ [])) old mid
+  pub list_done : next_is r.separator mid ≡ false → Takes (λ k. Items r [] i k) (λ k. k) (separated separator says (xs ++ x ∷ [])) old mid
   list_done is = record {
     line = t.line ∙ so_far.line;
     fault = λ k. so_far.fault k ∙ t.fault k ∙ more_done (length mid.line) mid.line mid.rest r (map first (xs ++ x ∷ [])) i k is;
     says =
-        let e : separator ∷ left_says old ≡ separator ∷ (listed separator says (xs ++ x ∷ []) ++ left_says mid) = so_far.said ∙ ap (λ z. behind_each separator says xs ++ separator ∷ z) t.says ∙ sym (each_push separator says xs x (left_says mid)) ∙ ap (λ z. z ++ left_says mid) (each_listed separator says xs x) in
+        let e : separator ∷ left_says old ≡ separator ∷ (separated separator says (xs ++ x ∷ []) ++ left_says mid) = so_far.said ∙ ap (λ z. behind_each separator says xs ++ separator ∷ z) t.says ∙ sym (each_push separator says xs x (left_says mid)) ∙ ap (λ z. z ++ left_says mid) (each_listed separator says xs x) in
         cc;
   }
 

@@ -23,7 +23,7 @@ use Rattle.reader_core.specs.declared.privilege.Privilege.TheVariants as privile
 use Rattle.reader_core.specs.declared.statement.Statement.{Statement}
 use Rattle.reader_core.specs.declared.statement.Statement.TheVariants as statements
 use Rattle.reader_core.specs.Grammar.{keyword_number}
-use Rattle.reader_core.specs.Saying.{comma_lexeme, listed, name_says, names_say, user_says, column_says, value_says, value_lexeme, type_lexeme, comparison_mark, condition_says, set_says, filter_says, selection_says, columns_say, privilege_says, option_says, only_says, privileges_from_say, statement_says}
+use Rattle.reader_core.specs.Saying.{comma_lexeme, separated, name_says, names_say, user_says, column_says, value_says, value_lexeme, type_lexeme, comparison_mark, condition_says, set_says, filter_says, selection_says, columns_say, privilege_says, option_says, only_says, privileges_from_say, statement_says}
 use Rattle.reader_core.specs.Language.{SaysStatement}
 use Rattle.reader_core.proofs.Whole.{ending, ended}
 
@@ -63,7 +63,7 @@ module _ {A : Type 0} (separator : Lexeme) (says : A → List Lexeme) (apart : s
       let r = same_each xs ys u v p q i.1 in
       (ap (λ z. z ∷ xs) i.0 ∙ ap (λ zs. y ∷ zs) r.0, r.1)
 
-  same_list : (xs ys : List A) (u v : List Lexeme) → Stops separator says u → Stops separator says v → listed separator says xs ++ u ≡ listed separator says ys ++ v → (xs ≡ ys) × (u ≡ v)
+  same_list : (xs ys : List A) (u v : List Lexeme) → Stops separator says u → Stops separator says v → separated separator says xs ++ u ≡ separated separator says ys ++ v → (xs ≡ ys) × (u ≡ v)
   same_list [] [] u v p q e = (refl, e)
   same_list [] (y ∷ ys) u v p q e = absurd (p.none y _ (e ∙ append_assoc (says y) (behind ys) v))
   same_list (x ∷ xs) [] u v p q e = absurd (q.none x _ (sym e ∙ append_assoc (says x) (behind xs) u))
@@ -73,8 +73,8 @@ module _ {A : Type 0} (separator : Lexeme) (says : A → List Lexeme) (apart : s
       (ap (λ z. z ∷ xs) i.0 ∙ ap (λ zs. y ∷ zs) r.0, r.1)
 
   -- the same before two parts
-  same_front : (xs ys : List A) (u v a b : List Lexeme) → Stops separator says (u ++ a) → Stops separator says (v ++ b) → (listed separator says xs ++ u) ++ a ≡ (listed separator says ys ++ v) ++ b → (xs ≡ ys) × (u ++ a ≡ v ++ b)
-  same_front xs ys u v a b p q e = same_list xs ys (u ++ a) (v ++ b) p q (sym (append_assoc (listed separator says xs) u a) ∙ e ∙ append_assoc (listed separator says ys) v b)
+  same_front : (xs ys : List A) (u v a b : List Lexeme) → Stops separator says (u ++ a) → Stops separator says (v ++ b) → (separated separator says xs ++ u) ++ a ≡ (separated separator says ys ++ v) ++ b → (xs ≡ ys) × (u ++ a ≡ v ++ b)
+  same_front xs ys u v a b p q e = same_list xs ys (u ++ a) (v ++ b) p q (sym (append_assoc (separated separator says xs) u a) ∙ e ∙ append_assoc (separated separator says ys) v b)
 
 -- ---- items
 same_type : (t u : ColType) → type_lexeme t ≡ type_lexeme u → t ≡ u
@@ -166,7 +166,7 @@ same_filter [] (d ∷ ds) false b e = cc
 same_filter (c ∷ cs) [] a true e = cc
 same_filter (c ∷ cs) [] a false e = cc
 same_filter (c ∷ cs) (d ∷ ds) a b e =
-    let f : listed (lexemes.Key keywords.And) condition_says (c ∷ cs) ++ ending a ≡ listed (lexemes.Key keywords.And) condition_says (d ∷ ds) ++ ending b = cc in
+    let f : separated (lexemes.Key keywords.And) condition_says (c ∷ cs) ++ ending a ≡ separated (lexemes.Key keywords.And) condition_says (d ∷ ds) ++ ending b = cc in
     (same_list (lexemes.Key keywords.And) condition_says (λ z. cc) one_condition (c ∷ cs) (d ∷ ds) (ending a) (ending b) (stops a) (stops b) f).0
   where
     stops : (b : Bool) → Stops (lexemes.Key keywords.And) condition_says (ending b)
@@ -228,7 +228,7 @@ on_stops table u b = record { calm = λ v e. cc; shut = λ v e. cc; none = none 
     none privileges_of.Delete w e = cc
     none (privileges_of.Update c) w e = cc
 
-same_privileges : (xs ys : List Privilege) (m n : Name) (u v : List Lexeme) (a b : Bool) → (listed comma_lexeme privilege_says xs ++ on m u) ++ ending a ≡ (listed comma_lexeme privilege_says ys ++ on n v) ++ ending b → (xs ≡ ys) × (on m u ++ ending a ≡ on n v ++ ending b)
+same_privileges : (xs ys : List Privilege) (m n : Name) (u v : List Lexeme) (a b : Bool) → (separated comma_lexeme privilege_says xs ++ on m u) ++ ending a ≡ (separated comma_lexeme privilege_says ys ++ on n v) ++ ending b → (xs ≡ ys) × (on m u ++ ending a ≡ on n v ++ ending b)
 same_privileges xs ys m n u v a b e = same_front comma_lexeme privilege_says (λ z. cc) one_privilege xs ys (on m u) (on n v) (ending a) (ending b) (on_stops m u a) (on_stops n v b) e
 
 close_stops_columns : (b : Bool) → Stops comma_lexeme column_says (close ∷ [] ++ ending b)
@@ -247,9 +247,9 @@ users_stop false = record { calm = λ v e. cc; shut = λ v e. cc; none = λ y z 
 
 same_revoked : (ps qs : List Privilege) (m n : Name) (us vs : List User) (a b : Bool) → privileges_from_say ps m us ++ ending a ≡ privileges_from_say qs n vs ++ ending b → (ps ≡ qs) × (m ≡ n) × (us ≡ vs)
 same_revoked ps qs m n us vs a b f =
-    let l = same_privileges ps qs m n (lexemes.Key keywords.From ∷ listed comma_lexeme user_says us) (lexemes.Key keywords.From ∷ listed comma_lexeme user_says vs) a b f in
-    let behind : on m (lexemes.Key keywords.From ∷ listed comma_lexeme user_says us) ++ ending a ≡ on n (lexemes.Key keywords.From ∷ listed comma_lexeme user_says vs) ++ ending b = l.1 in
-    let g : listed comma_lexeme user_says us ++ ending a ≡ listed comma_lexeme user_says vs ++ ending b = cc in
+    let l = same_privileges ps qs m n (lexemes.Key keywords.From ∷ separated comma_lexeme user_says us) (lexemes.Key keywords.From ∷ separated comma_lexeme user_says vs) a b f in
+    let behind : on m (lexemes.Key keywords.From ∷ separated comma_lexeme user_says us) ++ ending a ≡ on n (lexemes.Key keywords.From ∷ separated comma_lexeme user_says vs) ++ ending b = l.1 in
+    let g : separated comma_lexeme user_says us ++ ending a ≡ separated comma_lexeme user_says vs ++ ending b = cc in
     let r = same_list comma_lexeme user_says (λ z. cc) one_user us vs (ending a) (ending b) (users_stop a) (users_stop b) g in
     (l.0, cc, r.0)
 
@@ -299,12 +299,12 @@ same_word s t u v e =
 
 same_statement : (s t : Statement) (a b : Bool) → eqb (keyword_number (word s)) (keyword_number (word t)) ≡ true → statement_says s ++ ending a ≡ statement_says t ++ ending b → s ≡ t
 same_statement (statements.CreateTable m xs) (statements.CreateTable n ys) a b w e =
-    let f : (listed comma_lexeme column_says xs ++ close ∷ []) ++ ending a ≡ (listed comma_lexeme column_says ys ++ close ∷ []) ++ ending b = cc in
+    let f : (separated comma_lexeme column_says xs ++ close ∷ []) ++ ending a ≡ (separated comma_lexeme column_says ys ++ close ∷ []) ++ ending b = cc in
     let l = same_front comma_lexeme column_says (λ z. cc) one_column xs ys (close ∷ []) (close ∷ []) (ending a) (ending b) (close_stops_columns a) (close_stops_columns b) f in
     let same : xs ≡ ys = l.0 in
     cc
 same_statement (statements.Insert m xs) (statements.Insert n ys) a b w e =
-    let f : (listed comma_lexeme value_says xs ++ close ∷ []) ++ ending a ≡ (listed comma_lexeme value_says ys ++ close ∷ []) ++ ending b = cc in
+    let f : (separated comma_lexeme value_says xs ++ close ∷ []) ++ ending a ≡ (separated comma_lexeme value_says ys ++ close ∷ []) ++ ending b = cc in
     let l = same_front comma_lexeme value_says (λ z. cc) one_value xs ys (close ∷ []) (close ∷ []) (ending a) (ending b) (close_stops_values a) (close_stops_values b) f in
     let same : xs ≡ ys = l.0 in
     cc
@@ -321,19 +321,19 @@ same_statement (statements.Delete m cs) (statements.Delete n ds) a b w e =
     let table : m ≡ n = cc in
     cc
 same_statement (statements.Update m xs cs) (statements.Update n ys ds) a b w e =
-    let f : (listed comma_lexeme set_says xs ++ filter_says cs) ++ ending a ≡ (listed comma_lexeme set_says ys ++ filter_says ds) ++ ending b = cc in
+    let f : (separated comma_lexeme set_says xs ++ filter_says cs) ++ ending a ≡ (separated comma_lexeme set_says ys ++ filter_says ds) ++ ending b = cc in
     let l = same_front comma_lexeme set_says (λ z. cc) one_set xs ys (filter_says cs) (filter_says ds) (ending a) (ending b) (filter_stops cs a) (filter_stops ds b) f in
     let sets : xs ≡ ys = l.0 in
     let same : cs ≡ ds = same_filter cs ds a b l.1 in
     let table : m ≡ n = cc in
     cc
 same_statement (statements.Grant ps m us o) (statements.Grant qs n vs p) a b w e =
-    let f : (listed comma_lexeme privilege_says ps ++ on m (lexemes.Key keywords.To ∷ (listed comma_lexeme user_says us ++ option_says o))) ++ ending a ≡ (listed comma_lexeme privilege_says qs ++ on n (lexemes.Key keywords.To ∷ (listed comma_lexeme user_says vs ++ option_says p))) ++ ending b = cc in
+    let f : (separated comma_lexeme privilege_says ps ++ on m (lexemes.Key keywords.To ∷ (separated comma_lexeme user_says us ++ option_says o))) ++ ending a ≡ (separated comma_lexeme privilege_says qs ++ on n (lexemes.Key keywords.To ∷ (separated comma_lexeme user_says vs ++ option_says p))) ++ ending b = cc in
     let l = same_privileges ps qs m n _ _ a b f in
     let privileges : ps ≡ qs = l.0 in
-    let behind : on m (lexemes.Key keywords.To ∷ (listed comma_lexeme user_says us ++ option_says o)) ++ ending a ≡ on n (lexemes.Key keywords.To ∷ (listed comma_lexeme user_says vs ++ option_says p)) ++ ending b = l.1 in
+    let behind : on m (lexemes.Key keywords.To ∷ (separated comma_lexeme user_says us ++ option_says o)) ++ ending a ≡ on n (lexemes.Key keywords.To ∷ (separated comma_lexeme user_says vs ++ option_says p)) ++ ending b = l.1 in
     let table : m ≡ n = cc in
-    let g : (listed comma_lexeme user_says us ++ option_says o) ++ ending a ≡ (listed comma_lexeme user_says vs ++ option_says p) ++ ending b = cc in
+    let g : (separated comma_lexeme user_says us ++ option_says o) ++ ending a ≡ (separated comma_lexeme user_says vs ++ option_says p) ++ ending b = cc in
     let r = same_front comma_lexeme user_says (λ z. cc) one_user us vs (option_says o) (option_says p) (ending a) (ending b) (option_stops o a) (option_stops p b) g in
     let users : us ≡ vs = r.0 in
     let option : o ≡ p = same_option o p a b r.1 in

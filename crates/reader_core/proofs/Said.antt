@@ -11,7 +11,7 @@ use Rattle.reader_core.specs.Grammar.{Grammar, One, Items, Key, Sign, AnyName, f
 use Rattle.reader_core.specs.Matches.{Matches}
 use Rattle.reader_core.specs.Privileges.{word_of, word_keyword}
 use Rattle.reader_core.specs.Sentences.{comma_separated, names_rule, conditions_rule, privileges_rule, column_item, literal_item, name_item, name_list, set_item, condition_item, privilege_item, optional, filter, selection, grant_option, in_brackets, only_table}
-use Rattle.reader_core.specs.Saying.{comma_lexeme, listed, name_says, names_say, user_says, column_says, value_says, value_lexeme, type_lexeme, comparison_mark, condition_says, set_says, filter_says, selection_says, columns_say, privilege_says, privilege_columns, option_says, only_says}
+use Rattle.reader_core.specs.Saying.{comma_lexeme, separated, name_says, names_say, user_says, column_says, value_says, value_lexeme, type_lexeme, comparison_mark, condition_says, set_says, filter_says, selection_says, columns_say, privilege_says, privilege_columns, option_says, only_says}
 use Rattle.reader_core.specs.Forming.{AreNamed, IsSelection, IsWellFormedPrivilege, ArePrivileges, AreUsers}
 use Rattle.reader_core.proofs.Fine.{few_if_fine, distinct_if_fine, different_if_fine}
 use Rattle.reader_core.proofs.Fronts.{Front, TellsItem, Any, faultless_all, key_only, sign_only, key_front, sign_front, name_front, literal_front, type_front, test_front, case_front, list_front, then, and_then}
@@ -71,7 +71,7 @@ names_front limit k said m =
     let t = list_front (name_of limit) k said m in
     record { value = t.value; rest = t.rest; split = t.split; well_formed = ((t.well_formed.0, few_if_fine (names_rule limit) (λ n. kinds.Name n) t.value t.well_formed.2), distinct_if_fine limit (λ n. n) t.value t.well_formed.2); left = t.left }
 
-pub users_front : (k : Grammar) (said : List Lexeme) → Matches (name_list 16 k) (faultless_all said) → Front (listed comma_lexeme user_says) AreUsers k said
+pub users_front : (k : Grammar) (said : List Lexeme) → Matches (name_list 16 k) (faultless_all said) → Front (separated comma_lexeme user_says) AreUsers k said
 users_front k said m =
     let t = list_front user_of k said m in
     record { value = t.value; rest = t.rest; split = t.split; well_formed = ((t.well_formed.0, few_if_fine (names_rule 16) (λ u. kinds.Name u.0) t.value t.well_formed.2), distinct_if_fine 16 (λ u. u.0) t.value t.well_formed.2); left = t.left }
@@ -103,7 +103,7 @@ privilege_front k said m = elim (case_front (Key keywords.Select) (lexemes.Key k
 privilege_of : TellsItem privileges_rule privilege_item comma_lexeme (λ p. kinds.Keyword (word_keyword (word_of p))) privilege_says IsWellFormedPrivilege
 privilege_of = record { tail = λ p. map kind_of (columns_say (privilege_columns p)); begins = λ p. refl; separates = sign_only marks.Comma; one_item = privilege_front }
 
-pub privileges_front : (k : Grammar) (said : List Lexeme) → Matches (Items privileges_rule [] privilege_item k) (faultless_all said) → Front (listed comma_lexeme privilege_says) ArePrivileges k said
+pub privileges_front : (k : Grammar) (said : List Lexeme) → Matches (Items privileges_rule [] privilege_item k) (faultless_all said) → Front (separated comma_lexeme privilege_says) ArePrivileges k said
 privileges_front k said m =
     let t = list_front privilege_of k said m in
     record { value = t.value; rest = t.rest; split = t.split; well_formed = ((t.well_formed.0, few_if_fine privileges_rule (λ p. kinds.Keyword (word_keyword (word_of p))) t.value t.well_formed.2), different_if_fine t.value t.well_formed.2, t.well_formed.1); left = t.left }
@@ -118,7 +118,7 @@ filter_front k said m = elim (case_front (Key keywords.Where) (lexemes.Key keywo
   | inr n ↦ record { value = []; rest = said; split = refl; well_formed = omega arith; left = n }
 ]
   where
-    where_some : (cs : List Condition) → 0 < length cs → lexemes.Key keywords.Where ∷ listed (lexemes.Key keywords.And) condition_says cs ≡ filter_says cs
+    where_some : (cs : List Condition) → 0 < length cs → lexemes.Key keywords.Where ∷ separated (lexemes.Key keywords.And) condition_says cs ≡ filter_says cs
     where_some [] some = absurd (omega arith)
     where_some (c ∷ cs) some = refl
 

@@ -11,7 +11,7 @@ use Rattle.lexer_core.specs.declared.fault.Code.TheVariants as codes
 use Rattle.reader_core.specs.Grammar.{Grammar, End, One, Case, Items, More, Class, Key, Sign, AnyName, AnyLiteral, AnyType, AnyTest, AtLeastOne, fits, item_fault, repeated_or_too_many, followed_by, Fault}
 use Rattle.reader_core.specs.Recogniser.{with_fault, enter, step, can_end, first_fault}
 use Rattle.reader_core.specs.Sentences.{statement}
-use Rattle.reader_core.specs.Matches.{TokenWithFault, faultless, is_next, Matches, done, one, this, other, item, next, last, IsWhole, IsViablePrefix, CanFollow, IsWrongAt, IsWrongHere, IsFault}
+use Rattle.reader_core.specs.Matches.{TokenWithFault, faultless, is_next, Matches, done, one, this, other, item, next, last, IsSentence, IsViablePrefix, CanFollow, IsWrongAt, IsWrongHere, IsFault}
 
 -- ---- grammars whose items begin with a token of their own, and whose lists are followed by no comma
 abbrev pub BeginsWithToken : Grammar → Type 0
@@ -237,10 +237,10 @@ reaches_step {all} {g} {g'} before t r h e = record {
       subst (λ (x : Grammar). Matches x ss) (sym q) n.2;
 }
 
-whole_at : {all g : Grammar} (before : List TokenKind) → Reaches all before g → Matches g [] → IsWhole all before
+whole_at : {all g : Grammar} (before : List TokenKind) → Reaches all before g → Matches g [] → IsSentence all before
 whole_at {all} before r m = subst (λ (x : List TokenWithFault). Matches all x) (append-nil _) (r.to [] m)
 
-at_whole : {all g : Grammar} (before : List TokenKind) → Reaches all before g → IsWhole all before → Matches g []
+at_whole : {all g : Grammar} (before : List TokenKind) → Reaches all before g → IsSentence all before → Matches g []
 at_whole {all} before r m = r.back [] (subst (λ (x : List TokenWithFault). Matches all x) (sym (append-nil _)) m)
 
 map_push : (ts : List tokens.Token) (t : tokens.Token) → map (λ x. x.kind) (ts ++ t ∷ []) ≡ map (λ x. x.kind) ts ++ t.kind ∷ []
@@ -308,16 +308,16 @@ left_fault all end line (t ∷ ts) before g f split r h e =
         let p : (code, t.start) ≡ f = let z : Some (code, t.start) ≡ Some f = sym (first_fault_some end g t ts (Some code) g' q) ∙ e in cc in
         record { before = before; rest = t ∷ ts; split = split; begins = begins_at _ r h; wrong = subst (IsWrongHere all _ end (t ∷ ts)) p (wrong_some _ end t ts code g' r h q) }
 
-left_whole : (all : Grammar) (end : ℕ) (ts before : List tokens.Token) (g : Grammar) → Reaches all (map (λ x. x.kind) before) g → IsSound g → first_fault end g ts ≡ None → IsWhole all (map (λ x. x.kind) (before ++ ts))
+left_whole : (all : Grammar) (end : ℕ) (ts before : List tokens.Token) (g : Grammar) → Reaches all (map (λ x. x.kind) before) g → IsSound g → first_fault end g ts ≡ None → IsSentence all (map (λ x. x.kind) (before ++ ts))
 left_whole all end [] before g r h e = elim (choose (can_end g) (sym (first_fault_nil end g) ∙ e)) [
-  | inl p ↦ subst (λ (x : List tokens.Token). IsWhole all (map (λ t. t.kind) x)) (sym (append-nil before)) (whole_at _ r (can_end_yes g p.0))
+  | inl p ↦ subst (λ (x : List tokens.Token). IsSentence all (map (λ t. t.kind) x)) (sym (append-nil before)) (whole_at _ r (can_end_yes g p.0))
   | inr p ↦ cc
 ]
 left_whole all end (t ∷ ts) before g r h e =
-    go (step g t.kind) refl (λ g' q. subst (λ (x : List tokens.Token). IsWhole all (map (λ t. t.kind) x)) (append_assoc before (t ∷ []) ts) (left_whole all end ts (before ++ t ∷ []) g'
+    go (step g t.kind) refl (λ g' q. subst (λ (x : List tokens.Token). IsSentence all (map (λ t. t.kind) x)) (append_assoc before (t ∷ []) ts) (left_whole all end ts (before ++ t ∷ []) g'
     (subst (λ (ks : List TokenKind). Reaches all ks g') (sym (map_push before t)) (reaches_step _ t.kind r h q)) (sound_step g t.kind h q) (sym (first_fault_some end g t ts None g' q) ∙ e)))
   where
-    go : (st : Option (Option Code × Grammar)) → step g t.kind ≡ st → ((g' : Grammar) → step g t.kind ≡ Some (None, g') → IsWhole all (map (λ x. x.kind) (before ++ t ∷ ts))) → IsWhole all (map (λ x. x.kind) (before ++ t ∷ ts))
+    go : (st : Option (Option Code × Grammar)) → step g t.kind ≡ st → ((g' : Grammar) → step g t.kind ≡ Some (None, g') → IsSentence all (map (λ x. x.kind) (before ++ t ∷ ts))) → IsSentence all (map (λ x. x.kind) (before ++ t ∷ ts))
     go None q k = let z = sym (first_fault_none end g t ts q) ∙ e in cc
     go (Some (None, g')) q k = k g' q
     go (Some (Some code, g')) q k = let z = sym (first_fault_some end g t ts (Some code) g' q) ∙ e in cc
@@ -329,7 +329,7 @@ reaches_start all = record { to = λ ss m. m; back = λ ss m. m }
 pub fault_from_first_fault : (all : Grammar) (end : ℕ) (ts : List tokens.Token) (f : Fault) → IsSound all → first_fault end all ts ≡ Some f → IsFault all end ts f
 fault_from_first_fault all end ts f h e = left_fault all end ts ts [] all f refl (reaches_start all) h e
 
-pub whole_from_first_fault : (all : Grammar) (end : ℕ) (ts : List tokens.Token) → IsSound all → first_fault end all ts ≡ None → IsWhole all (map (λ x. x.kind) ts)
+pub whole_from_first_fault : (all : Grammar) (end : ℕ) (ts : List tokens.Token) → IsSound all → first_fault end all ts ≡ None → IsSentence all (map (λ x. x.kind) ts)
 whole_from_first_fault all end ts h e = left_whole all end ts [] all (reaches_start all) h e
 
 -- ---- and back: a whole sentence has no fault, and no line has two
@@ -359,7 +359,7 @@ stuck {all} {g} before t r h nowhere = go (step g t) refl
     go None e = refl
     go (Some p) e = let s = sentence p.1 (sound_step g t h e) in absurd (nowhere p.0 (s.0, r.to _ (step_back g e s.1)))
 
-ends_or_not : {all g : Grammar} (before : List TokenKind) → Reaches all before g → (IsWhole all before → ⊥) → can_end g ≡ false
+ends_or_not : {all g : Grammar} (before : List TokenKind) → Reaches all before g → (IsSentence all before → ⊥) → can_end g ≡ false
 ends_or_not {all} {g} before r nowhere = go (can_end g) refl
   where
     go : (b : Bool) → can_end g ≡ b → b ≡ false

@@ -21,10 +21,10 @@ use Rattle.reader_core.specs.declared.statement.Statement.{Statement}
 use Rattle.reader_core.specs.declared.statement.Statement.TheVariants as statements
 use Rattle.reader_core.specs.Grammar.{Grammar, Class, Key, Sign, Rule, Items, More, One, fits, item_fault, followed_by}
 use Rattle.reader_core.specs.Recogniser.{AreFaultless}
-use Rattle.reader_core.specs.Matches.{TokenWithFault, faultless, is_next, Matches, done, one, this, other, item, next, last, IsWhole}
+use Rattle.reader_core.specs.Matches.{TokenWithFault, faultless, is_next, Matches, done, one, this, other, item, next, last, IsSentence}
 use Rattle.reader_core.specs.Privileges.{word_of, word_keyword}
 use Rattle.reader_core.specs.Sentences.{comma_separated, names_rule, conditions_rule, privileges_rule, column_item, literal_item, name_item, set_item, condition_item, privilege_item, optional, filter, selection, from_table, grant_option, grant_option_for, privileges_from, only_table, statement, finish}
-use Rattle.reader_core.specs.Saying.{comma_lexeme, listed, name_says, names_say, user_says, column_says, value_says, value_lexeme, type_lexeme, comparison_mark, condition_says, set_says, filter_says, selection_says, columns_say, privilege_says, privilege_columns, option_says, only_says, privileges_from_say, statement_says}
+use Rattle.reader_core.specs.Saying.{comma_lexeme, separated, name_says, names_say, user_says, column_says, value_says, value_lexeme, type_lexeme, comparison_mark, condition_says, set_says, filter_says, selection_says, columns_say, privilege_says, privilege_columns, option_says, only_says, privileges_from_say, statement_says}
 use Rattle.reader_core.specs.Forming.{AreNamed, IsSelection, IsWellFormedPrivilege, ArePrivileges, AreUsers, IsWellFormed}
 use Rattle.reader_core.specs.Language.{SaysStatement}
 use Rattle.reader_core.proofs.Taking.{value_fits, type_fits, comparison_fits}
@@ -81,7 +81,7 @@ module _ {A : Type 0} {r : Rule} {i : Grammar} {separator : Lexeme} {first : A �
   more_matches [] s is f = last calm m
   more_matches (x ∷ xs) s is f = next of.separates (subst (Matches (Items r s i g)) (split (says x) (behind xs)) (item_matches x s _ (All-head IsItem x xs is) (behind_shut xs) f.0 (more_matches xs (s ++ first x ∷ []) (All-tail IsItem x xs is) f.1)))
 
-  list_matches : (xs : List A) → 0 < length xs → All IsItem xs → AreFaultless r [] (map first xs) → Matches (Items r [] i g) (faultless_all (listed separator says xs) ++ ss)
+  list_matches : (xs : List A) → 0 < length xs → All IsItem xs → AreFaultless r [] (map first xs) → Matches (Items r [] i g) (faultless_all (separated separator says xs) ++ ss)
   list_matches [] some is f = absurd (omega arith)
   list_matches (x ∷ xs) some is f = subst (Matches (Items r [] i g)) (split (says x) (behind xs)) (item_matches x [] _ (All-head IsItem x xs is) (behind_shut xs) f.0 (more_matches xs (first x ∷ []) (All-tail IsItem x xs is) f.1))
 
@@ -133,10 +133,10 @@ privilege_matches (privileges_of.Update columns) k ss is shut m = other refl (ot
 privilege_of : SaysItem privileges_rule privilege_item comma_lexeme (λ p. kinds.Keyword (word_keyword (word_of p))) privilege_says IsWellFormedPrivilege
 privilege_of = record { tail = λ p. faultless_all (columns_say (privilege_columns p)); begins = λ p. refl; separates = refl; shut = refl; one_item = privilege_matches }
 
-privileges_match : (g : Grammar) (ss : List TokenWithFault) → Matches g ss → is_next (Sign marks.Comma) ss ≡ false → is_next bracket ss ≡ false → (ps : List Privilege) → ArePrivileges ps → Matches (Items privileges_rule [] privilege_item g) (faultless_all (listed comma_lexeme privilege_says ps) ++ ss)
+privileges_match : (g : Grammar) (ss : List TokenWithFault) → Matches g ss → is_next (Sign marks.Comma) ss ≡ false → is_next bracket ss ≡ false → (ps : List Privilege) → ArePrivileges ps → Matches (Items privileges_rule [] privilege_item g) (faultless_all (separated comma_lexeme privilege_says ps) ++ ss)
 privileges_match g ss m calm shut ps h = list_matches privilege_of g ss m calm shut ps h.0.0 h.2 (fine_if_different ps h.0.1 h.1)
 
-users_match : (g : Grammar) (ss : List TokenWithFault) → Matches g ss → is_next (Sign marks.Comma) ss ≡ false → is_next bracket ss ≡ false → (users : List User) → AreUsers users → Matches (Items (names_rule 16) [] name_item g) (faultless_all (listed comma_lexeme user_says users) ++ ss)
+users_match : (g : Grammar) (ss : List TokenWithFault) → Matches g ss → is_next (Sign marks.Comma) ss ≡ false → is_next bracket ss ≡ false → (users : List User) → AreUsers users → Matches (Items (names_rule 16) [] name_item g) (faultless_all (separated comma_lexeme user_says users) ++ ss)
 users_match g ss m calm shut users h = list_matches user_of g ss m calm shut users h.0.0 (any users) (fine_if_distinct 16 (λ u. u.0) users h.0.1 h.1)
 
 -- ---- the ends of statements
@@ -163,7 +163,7 @@ no_key false c e = refl
 
 filter_matches : (cs : List Condition) (b : Bool) → length cs ≤ 32 → Matches (optional filter finish) (faultless_all (filter_says cs ++ ending b))
 filter_matches [] b h = other (no_key b (Key keywords.Where) refl) (ends b)
-filter_matches (c ∷ cs) b h = this refl (apart (listed (lexemes.Key keywords.And) condition_says (c ∷ cs)) (ending b)
+filter_matches (c ∷ cs) b h = this refl (apart (separated (lexemes.Key keywords.And) condition_says (c ∷ cs)) (ending b)
     (list_matches condition_of finish (faultless_all (ending b)) (ends b) (no_key b (Key keywords.And) refl) (no_open b) (c ∷ cs) (omega arith) (any (c ∷ cs)) (fine_if_few conditions_rule (λ x. kinds.Name x.column) (c ∷ cs) refl h)))
 
 filter_next : (cs : List Condition) (b : Bool) (c : Class) → fits c (kinds.Keyword keywords.Where) ≡ false → fits c (kinds.Mark marks.Semicolon) ≡ false → is_next c (faultless_all (filter_says cs ++ ending b)) ≡ false
@@ -192,8 +192,8 @@ selection_matches (Some (n ∷ names)) table cs b is h =
 
 revoked_matches : (ps : List Privilege) (table : Name) (users : List User) (b : Bool) → ArePrivileges ps → AreUsers users → Matches (privileges_from finish) (faultless_all (privileges_from_say ps table users ++ ending b))
 revoked_matches ps table users b privileged named =
-    regrouped (listed comma_lexeme privilege_says ps) _ (ending b)
-    (privileges_match _ _ (one refl (one refl (one refl (apart (listed comma_lexeme user_says users) (ending b)
+    regrouped (separated comma_lexeme privilege_says ps) _ (ending b)
+    (privileges_match _ _ (one refl (one refl (one refl (apart (separated comma_lexeme user_says users) (ending b)
     (users_match finish _ (ends b) (no_comma b) (no_open b) users named))))) refl refl ps privileged)
 
 -- no privilege begins with GRANT
@@ -204,21 +204,21 @@ revoked_only (privileges_of.Insert ∷ ps) table users b some m = other refl m
 revoked_only (privileges_of.Delete ∷ ps) table users b some m = other refl m
 revoked_only (privileges_of.Update columns ∷ ps) table users b some m = other refl m
 
-said_matches : (s : Statement) (b : Bool) → IsWellFormed s → IsWhole statement (kinds_of (statement_says s ++ ending b))
+said_matches : (s : Statement) (b : Bool) → IsWellFormed s → IsSentence statement (kinds_of (statement_says s ++ ending b))
 said_matches (statements.CreateTable table columns) b h =
-    this refl (one refl (one refl (one refl (regrouped (listed comma_lexeme column_says columns) (lexemes.Sign marks.Close ∷ []) (ending b)
+    this refl (one refl (one refl (one refl (regrouped (separated comma_lexeme column_says columns) (lexemes.Sign marks.Close ∷ []) (ending b)
     (list_matches column_of (One (Sign marks.Close) finish) _ (one refl (ends b)) refl refl columns h.0.0 (any columns) (fine_if_distinct 32 (λ c. c.name) columns h.0.1 h.1))))))
 said_matches (statements.Insert table values) b h =
-    other refl (this refl (one refl (one refl (one refl (one refl (regrouped (listed comma_lexeme value_says values) (lexemes.Sign marks.Close ∷ []) (ending b)
+    other refl (this refl (one refl (one refl (one refl (one refl (regrouped (separated comma_lexeme value_says values) (lexemes.Sign marks.Close ∷ []) (ending b)
     (list_matches literal_of (One (Sign marks.Close) finish) _ (one refl (ends b)) refl refl values h.0 (any values) (fine_if_few (comma_separated 32 false) (λ v. kind_of (value_lexeme v)) values refl h.1))))))))
 said_matches (statements.Select list table cs) b h = other refl (other refl (this refl (selection_matches list table cs b h.0 h.1)))
 said_matches (statements.Delete table cs) b h = other refl (other refl (other refl (this refl (one refl (one refl (filter_matches cs b h))))))
 said_matches (statements.Update table sets cs) b h =
-    other refl (other refl (other refl (other refl (this refl (one refl (one refl (regrouped (listed comma_lexeme set_says sets) (filter_says cs) (ending b)
+    other refl (other refl (other refl (other refl (this refl (one refl (one refl (regrouped (separated comma_lexeme set_says sets) (filter_says cs) (ending b)
     (list_matches set_of (optional filter finish) _ (filter_matches cs b h.1) (filter_next cs b (Sign marks.Comma) refl refl) (filter_next cs b bracket refl refl) sets h.0.0.0 (any sets) (fine_if_distinct 32 (λ a. a.column) sets h.0.0.1 h.0.1)))))))))
 said_matches (statements.Grant ps table users o) b h =
-    other refl (other refl (other refl (other refl (other refl (this refl (regrouped (listed comma_lexeme privilege_says ps) _ (ending b)
-    (privileges_match _ _ (one refl (one refl (one refl (regrouped (listed comma_lexeme user_says users) (option_says o) (ending b)
+    other refl (other refl (other refl (other refl (other refl (this refl (regrouped (separated comma_lexeme privilege_says ps) _ (ending b)
+    (privileges_match _ _ (one refl (one refl (one refl (regrouped (separated comma_lexeme user_says users) (option_says o) (ending b)
     (users_match (optional grant_option finish) _ (option_matches o b) (option_next o b (Sign marks.Comma) refl refl) (option_next o b bracket refl refl) users h.1))))) refl refl ps h.0)))))))
 said_matches (statements.Revoke ps table users) b h =
     other refl (other refl (other refl (other refl (other refl (other refl (this refl (revoked_only ps table users b h.0.0.0 (revoked_matches ps table users b h.0 h.1))))))))
@@ -235,5 +235,5 @@ pub ended : (said : List Lexeme) (s : Statement) → SaysStatement said s → (b
 ended said s (inl e) = (false, e ∙ sym (append-nil (statement_says s)))
 ended said s (inr e) = (true, e)
 
-pub says_whole : (said : List Lexeme) (s : Statement) → IsWellFormed s → SaysStatement said s → IsWhole statement (kinds_of said)
-says_whole said s h p = let e = ended said s p in subst (λ (x : List Lexeme). IsWhole statement (kinds_of x)) (sym e.1) (said_matches s e.0 h)
+pub says_whole : (said : List Lexeme) (s : Statement) → IsWellFormed s → SaysStatement said s → IsSentence statement (kinds_of said)
+says_whole said s h p = let e = ended said s p in subst (λ (x : List Lexeme). IsSentence statement (kinds_of x)) (sym e.1) (said_matches s e.0 h)

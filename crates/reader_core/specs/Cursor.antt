@@ -64,15 +64,15 @@ pub record Faults (before : Grammar → Grammar) (e : ReadFault) (old : Cursor) 
   pub fault : e ≢ faults.NoMemory → (k : Grammar) → fault_left (before k) old ≡ fault_of e
 
 -- A part of the language: where it was read, the tokens say its value; else it is what is wrong.
-abbrev pub Leads : {V : Type 0} → (Grammar → Grammar) → (V → Grammar → Grammar) → (V → List Lexeme)
+abbrev pub Parses : {V : Type 0} → (Grammar → Grammar) → (V → Grammar → Grammar) → (V → List Lexeme)
     → Result V ReadFault → Cursor → Cursor → Type 0
-Leads before after says (Ok v) old new = Takes before (after v) (says v) old new
-Leads before after says (Err e) old new = Faults before e old
+Parses before after says (Ok v) old new = Takes before (after v) (says v) old new
+Parses before after says (Err e) old new = Faults before e old
 
 -- the same of a part that is read whole
 abbrev pub Reads : {V : Type 0} → (Grammar → Grammar) → (V → List Lexeme) → Result V ReadFault
     → Cursor → Cursor → Type 0
-Reads g says r old new = Leads g (λ _ k. k) says r old new
+Reads g says r old new = Parses g (λ _ k. k) says r old new
 
 -- a check of an item's first token: passed, or the code at its place
 abbrev pub Checks : {V : Type 0} → Option Code → Cursor → Result V ReadFault → Type 0

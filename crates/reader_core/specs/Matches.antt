@@ -39,8 +39,8 @@ pub data Matches : Grammar → List TokenWithFault → Type 0 where
       → is_next r.separator ss ≡ false → Matches g ss → Matches (More r s i g) ss
 
 -- the tokens are a sentence, and no item of a list is wrong
-abbrev pub IsWhole : Grammar → List TokenKind → Type 0
-IsWhole g ks = Matches g (map faultless ks)
+abbrev pub IsSentence : Grammar → List TokenKind → Type 0
+IsSentence g ks = Matches g (map faultless ks)
 
 -- without fault so far, they begin a sentence
 abbrev pub IsViablePrefix : Grammar → List TokenKind → Type 0
@@ -55,16 +55,16 @@ CanFollow g ks t wrong =
 -- the token is wrong with this code, behind these
 abbrev pub IsWrongAt : Grammar → List TokenKind → TokenKind → Code → Type 0
 IsWrongAt g ks t codes.Trailing =
-    IsWhole g ks × ((wrong : Option Code) → CanFollow g ks t wrong → ⊥)
+    IsSentence g ks × ((wrong : Option Code) → CanFollow g ks t wrong → ⊥)
 IsWrongAt g ks t codes.Expected =
-    (IsWhole g ks → ⊥) × ((wrong : Option Code) → CanFollow g ks t wrong → ⊥)
+    (IsSentence g ks → ⊥) × ((wrong : Option Code) → CanFollow g ks t wrong → ⊥)
 IsWrongAt g ks t codes.Duplicate = CanFollow g ks t (Some codes.Duplicate)
 IsWrongAt g ks t codes.TooMany = CanFollow g ks t (Some codes.TooMany)
 IsWrongAt g ks t _ = ⊥
 
 -- the same of what comes next, a token or the end
 abbrev pub IsWrongHere : Grammar → List TokenKind → ℕ → List tokens.Token → Fault → Type 0
-IsWrongHere g ks end [] fault = (IsWhole g ks → ⊥) × (fault ≡ (codes.Expected, end))
+IsWrongHere g ks end [] fault = (IsSentence g ks → ⊥) × (fault ≡ (codes.Expected, end))
 IsWrongHere g ks end (t ∷ ts) fault = IsWrongAt g ks t.kind fault.0 × (fault.1 ≡ t.start)
 
 -- The tokens before begin a sentence, and none of them is wrong; what comes then is.

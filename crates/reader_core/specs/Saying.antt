@@ -41,9 +41,9 @@ separator_lexeme separators.Comma = comma_lexeme
 separator_lexeme separators.And = lexemes.Key keywords.And
 
 -- the items, with a separator between each two
-abbrev pub listed : {A : Type 0} → Lexeme → (A → List Lexeme) → List A → List Lexeme
-listed separator says [] = []
-listed separator says (x ∷ xs) = says x ++ flat_map (λ y. separator ∷ says y) xs
+abbrev pub separated : {A : Type 0} → Lexeme → (A → List Lexeme) → List A → List Lexeme
+separated separator says [] = []
+separated separator says (x ∷ xs) = says x ++ flat_map (λ y. separator ∷ says y) xs
 
 -- a name
 abbrev pub name_says : Name → List Lexeme
@@ -73,7 +73,7 @@ value_says v = value_lexeme v ∷ []
 
 -- names with commas
 abbrev pub names_say : List Name → List Lexeme
-names_say names = listed comma_lexeme name_says names
+names_say names = separated comma_lexeme name_says names
 
 -- the user's name
 abbrev pub user_says : User → List Lexeme
@@ -101,7 +101,7 @@ condition_says c =
 abbrev pub filter_says : List Condition → List Lexeme
 filter_says [] = []
 filter_says (c ∷ cs) =
-    lexemes.Key keywords.Where ∷ listed (lexemes.Key keywords.And) condition_says (c ∷ cs)
+    lexemes.Key keywords.Where ∷ separated (lexemes.Key keywords.And) condition_says (c ∷ cs)
 
 -- column = value
 abbrev pub set_says : Assignment → List Lexeme
@@ -148,9 +148,9 @@ option_for_says false = []
 -- the privileges, ON and the table, FROM and the users
 abbrev pub privileges_from_say : List Privilege → Name → List User → List Lexeme
 privileges_from_say privileges table users =
-    listed comma_lexeme privilege_says privileges
+    separated comma_lexeme privilege_says privileges
     ++ lexemes.Key keywords.On ∷ lexemes.Named table ∷ lexemes.Key keywords.From
-    ∷ listed comma_lexeme user_says users
+    ∷ separated comma_lexeme user_says users
 
 -- the number of a checkpoint
 abbrev pub number_says : ℕ → List Lexeme
@@ -166,11 +166,11 @@ abbrev pub statement_says : Statement → List Lexeme
 statement_says (statements.CreateTable table columns) =
     lexemes.Key keywords.Create ∷ lexemes.Key keywords.Table ∷ lexemes.Named table
     ∷ lexemes.Sign marks.Open
-    ∷ (listed comma_lexeme column_says columns ++ lexemes.Sign marks.Close ∷ [])
+    ∷ (separated comma_lexeme column_says columns ++ lexemes.Sign marks.Close ∷ [])
 statement_says (statements.Insert table values) =
     lexemes.Key keywords.Insert ∷ lexemes.Key keywords.Into ∷ lexemes.Named table
     ∷ lexemes.Key keywords.Values ∷ lexemes.Sign marks.Open
-    ∷ (listed comma_lexeme value_says values ++ lexemes.Sign marks.Close ∷ [])
+    ∷ (separated comma_lexeme value_says values ++ lexemes.Sign marks.Close ∷ [])
 statement_says (statements.Select list table filter) =
     lexemes.Key keywords.Select
     ∷ (selection_says list ++ lexemes.Key keywords.From ∷ lexemes.Named table ∷ filter_says filter)
@@ -179,12 +179,12 @@ statement_says (statements.Delete table filter) =
     ∷ filter_says filter
 statement_says (statements.Update table sets filter) =
     lexemes.Key keywords.Update ∷ lexemes.Named table ∷ lexemes.Key keywords.Set
-    ∷ (listed comma_lexeme set_says sets ++ filter_says filter)
+    ∷ (separated comma_lexeme set_says sets ++ filter_says filter)
 statement_says (statements.Grant privileges table users option) =
     lexemes.Key keywords.Grant
-    ∷ (listed comma_lexeme privilege_says privileges
+    ∷ (separated comma_lexeme privilege_says privileges
     ++ lexemes.Key keywords.On ∷ lexemes.Named table ∷ lexemes.Key keywords.To
-    ∷ (listed comma_lexeme user_says users ++ option_says option))
+    ∷ (separated comma_lexeme user_says users ++ option_says option))
 statement_says (statements.Revoke privileges table users) =
     lexemes.Key keywords.Revoke ∷ privileges_from_say privileges table users
 statement_says (statements.RevokeOption privileges table users) =

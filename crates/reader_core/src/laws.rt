@@ -3,7 +3,7 @@ ghost use Rattle.std.specs.Prelude.{◌≡◌, ◌⊎◌, ℕ, List, All, map};
 ghost use Rattle.lexer_core.specs.Lexing.{Lexeme, IsProper, kind_of};
 ghost use Rattle.lexer_core.specs.declared.fault.Code.{Code};
 ghost use Rattle.reader_core.specs.declared.statement.Statement.{Statement};
-ghost use Rattle.reader_core.specs.Matches.{TokenWithFault, Matches, IsWhole};
+ghost use Rattle.reader_core.specs.Matches.{TokenWithFault, Matches, IsSentence};
 ghost use Rattle.reader_core.specs.Choices.{Derives, IsPredictive, no_token};
 ghost use Rattle.reader_core.specs.Sentences.{statement};
 ghost use Rattle.reader_core.specs.Forming.{IsWellFormed};
@@ -39,7 +39,7 @@ pub fn one_choice()
 /// Tokens that are a whole sentence of the grammar, none of them wrong as an item's first, say a
 /// well-formed statement, where names, numbers and texts are as they may be (`IsProper`).
 pub fn whole_tokens_are_said()
-    ensures { (said : List Lexeme) → All IsProper said → IsWhole statement (map kind_of said)
+    ensures { (said : List Lexeme) → All IsProper said → IsSentence statement (map kind_of said)
         → (s : Statement) × SaysStatement said s × IsWellFormed s }
 {}
 

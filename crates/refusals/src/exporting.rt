@@ -1,5 +1,5 @@
 //! The steps of a checkpoint, and a ticket that outlives its checkpoint.
-use crate::telling::{ask, event, is_refused, say, tell, tell_reply, unchanged};
+use crate::telling::{ask, event, say, tell, tell_reply, unchanged};
 use export_core::Ticket;
 use reply_core::reply_text;
 use std::alloc::Global;
@@ -54,7 +54,7 @@ fn nothing_taken(rt: &HostRuntime, alloc: Global, system: &mut System) -> Option
 /// A step, which is taken again where it was refused.
 fn stepped(rt: &HostRuntime, alloc: Global, system: &mut System) -> Option<Reply> {
     let reply = system.step(Event::Step);
-    if !is_refused(&reply) {
+    if !reply.is_refused_memory() {
         return Some(reply);
     }
     drop(reply);

@@ -1,5 +1,5 @@
 //! A run of three events.
-use crate::telling::{event, is_refused, tell_reply, unchanged};
+use crate::telling::{event, tell_reply, unchanged};
 use base_core::Moment;
 use std::alloc::Global;
 use system_core::{Event, Reply, System};
@@ -29,7 +29,7 @@ fn is_kept(system: &System, replies: &[Reply]) -> bool {
 
 /// Writes the replies, where no memory was refused: whether that is so.
 fn told(rt: &HostRuntime, alloc: Global, system: &System, replies: &[Reply]) -> Option<bool> {
-    if replies.len() < 3 || replies.iter().any(is_refused) {
+    if replies.len() < 3 || replies.iter().any(Reply::is_refused_memory) {
         unchanged(rt, is_kept(system, replies));
         return Some(false);
     }

@@ -1,5 +1,5 @@
 //! What is written, and what is said to a core.
-use base_core::{Lack, Name, User};
+use base_core::{Name, User};
 use reader_core::read;
 use reply_core::reply_text;
 use std::alloc::Global;
@@ -38,16 +38,6 @@ pub fn event(alloc: Global, line: &str) -> Option<Event> {
     })
 }
 
-pub fn is_refused(reply: &Reply) -> bool {
-    matches!(
-        reply,
-        Reply::Refused {
-            lack: Lack::NoMemory,
-            ..
-        }
-    )
-}
-
 /// Writes the text of a reply.
 pub fn tell_reply(rt: &HostRuntime, alloc: Global, reply: &Reply) -> Option<()> {
     let text = reply_text(alloc, reply).ok()?;
@@ -59,7 +49,7 @@ pub fn tell_reply(rt: &HostRuntime, alloc: Global, reply: &Reply) -> Option<()> 
 pub fn ask(rt: &HostRuntime, alloc: Global, system: &mut System, line: &str) -> Option<Reply> {
     let before = system.moment();
     let reply = system.step(event(alloc, line)?);
-    if !is_refused(&reply) {
+    if !reply.is_refused_memory() {
         return Some(reply);
     }
     drop(reply);

@@ -5,7 +5,7 @@ use Rattle.std.proofs.KnownBytes.{Appends-trans}
 use Rattle.std.proofs.lemmas.List.{take_more}
 use Rattle.std.proofs.lemmas.List.Concat.{flat_map-append}
 use Rattle.base_core.specs.Streams.{WritesFront}
-use Rattle.reply_core.proofs.WritingLemmas.{WritesFront-before, WritesFront-after}
+use Rattle.base_core.proofs.Fronts.{front-first, front-second}
 
 -- the pieces up to one, that one, and those behind it
 pub flat_map_at : {X : Type 0} (f : X → List ℕ) (xs : List X) (i : ℕ) (d : X) → i < length xs
@@ -33,17 +33,4 @@ module _ {X : Type 0} (f : X → List ℕ) (xs : List X) (i : ℕ) (d x : X) (be
       let done_text = flat_map f (take i xs) in
       let behind = flat_map f (drop (suc i) xs) in
       let whole : flat_map f xs ≡ done_text ++ (f x ++ behind) = flat_map_at f xs i d lt ∙ ap (λ y. done_text ++ (f y ++ behind)) (sym is) in
-      subst (λ t. WritesFront before after t) (sym whole) (WritesFront-after before between after done_text (f x ++ behind) done (WritesFront-before between after (f x) behind this))
-
-module _ (before between near after : Option (List ℕ)) (x y z : List ℕ) where
-  -- three texts were written
-  pub three : Appends before between x → Appends between near y → Appends near after z → Appends before after (x ++ (y ++ z))
-  three p q r = Appends-trans before between after x (y ++ z) p (Appends-trans between near after y z q r)
-
-  -- the writer failed at the third
-  pub broken_third : Appends before between x → Appends between near y → WritesFront near after z → WritesFront before after (x ++ (y ++ z))
-  broken_third p q w = WritesFront-after before between after x (y ++ z) p (WritesFront-after between near after y z q w)
-
--- the writer failed at the second of three texts
-pub broken_second : (before between after : Option (List ℕ)) (x y z : List ℕ) → Appends before between x → WritesFront between after y → WritesFront before after (x ++ (y ++ z))
-broken_second before between after x y z p w = WritesFront-after before between after x (y ++ z) p (WritesFront-before between after y z w)
+      subst (λ t. WritesFront before after t) (sym whole) (front-second before between after done_text (f x ++ behind) done (front-first between after (f x) behind this))

@@ -1,77 +1,14 @@
--- Texts that are written one after another, and what is written of a reply.
-use Rattle.std.proofs.Common.{◌≡◌, ℕ, zero, suc, List, [], ◌∷◌, ◌++◌, take, drop, slice_get, IfSome, Option, Some, Result, Ok, Err, refl, sym, ap, ◌∙◌, append_assoc, append-nil, subst, inl}
+-- What is written of a reply.
+use Rattle.std.proofs.Common.{◌≡◌, ℕ, zero, suc, List, [], ◌∷◌, ◌++◌, take, drop, slice_get, IfSome, Option, Some, refl, sym, ap, ◌∙◌, append_assoc, append-nil, subst, inl}
 use Rattle.std.specs.List.{concat}
-use Rattle.std.specs.Result.{OnErr}
 use Rattle.std.specs.Io.KnownBytes.{Appends}
-use Rattle.std.proofs.KnownBytes.{Appends-nil, Appends-trans}
-use Rattle.base_core.specs.Streams.{WritesFront, Writes, WritesFrontOf}
-use Rattle.export_core.specs.Ticket.{Exporting}
+use Rattle.base_core.specs.Streams.{WritesFront}
+use Rattle.base_core.proofs.Fronts.{Both}
+use Rattle.export_core.specs.Ticket.{TicketState}
 use Rattle.system_core.specs.declared.machine.event.Reply.{Reply}
 use Rattle.system_core.specs.declared.machine.event.Reply.TheVariants as replies
 use Rattle.reply_core.specs.Texts.{reply_text, head_text, list_text}
 use Rattle.reply_core.specs.Telling.{TellsReply, TellsRecords}
-
-pub OnErr-from : {T E P : Type 0} (r : Result T E) → P → OnErr r P
-OnErr-from (Ok x) p = tt
-OnErr-from (Err e) p = p
-
--- the writer failed at the first of two texts
-pub WritesFront-before : (before after : Option (List ℕ)) (text more : List ℕ) → WritesFront before after text → WritesFront before after (text ++ more)
-WritesFront-before before after text more w = record {
-  part = w.part;
-  unwritten = w.unwritten ++ more;
-  front = ap (λ t. t ++ more) w.front ∙ append_assoc w.part w.unwritten more;
-  wrote = w.wrote;
-}
-
--- the writer failed at what comes behind a text
-pub WritesFront-after : (before between after : Option (List ℕ)) (text more : List ℕ)
-    → Appends before between text → WritesFront between after more → WritesFront before after (text ++ more)
-WritesFront-after before between after text more p q = record {
-  part = text ++ q.part;
-  unwritten = q.unwritten;
-  front = ap (λ x. text ++ x) q.front ∙ sym (append_assoc text q.part q.unwritten);
-  wrote = Appends-trans before between after text q.part p q.wrote;
-}
-
-module _ (P Q : List ℕ → Type 0) (before after : Option (List ℕ)) where
-  pub Writes-map : ((text : List ℕ) → P text → Q text) → Writes P before after → Writes Q before after
-  Writes-map f w = record { text = w.text; is = f w.text w.is; wrote = w.wrote }
-
-  pub WritesFrontOf-map : ((text : List ℕ) → P text → Q text) → WritesFrontOf P before after → WritesFrontOf Q before after
-  WritesFrontOf-map f w = record { text = w.text; is = f w.text w.is; wrote = w.wrote }
-
--- one text after another
-abbrev pub Both : (List ℕ → Type 0) → (List ℕ → Type 0) → List ℕ → Type 0
-Both P Q text = (first : List ℕ) × (second : List ℕ) × P first × Q second × (text ≡ first ++ second)
-
-module _ (P Q : List ℕ → Type 0) (before mid after : Option (List ℕ)) where
-  pub both-written : Writes P before mid → Writes Q mid after → Writes (Both P Q) before after
-  both-written w v = record {
-    text = w.text ++ v.text;
-    is = (w.text, v.text, w.is, v.is, refl);
-    wrote = Appends-trans before mid after w.text v.text w.wrote v.wrote;
-  }
-
-  -- the writer failed at the second
-  pub both-broken : Writes P before mid → WritesFrontOf Q mid after → WritesFrontOf (Both P Q) before after
-  both-broken w v = record {
-    text = w.text ++ v.text;
-    is = (w.text, v.text, w.is, v.is, refl);
-    wrote = WritesFront-after before mid after w.text v.text w.wrote v.wrote;
-  }
-
--- the writer failed at the first of two
-pub first-broken : (P Q : List ℕ → Type 0) (before after : Option (List ℕ)) (second : List ℕ) → Q second → WritesFrontOf P before after → WritesFrontOf (Both P Q) before after
-first-broken P Q before after second q w = record {
-  text = w.text ++ second;
-  is = (w.text, second, w.is, q, refl);
-  wrote = WritesFront-before before after w.text second w.wrote;
-}
-
--- nothing more is written
-pub nothing-written : (P : List ℕ → Type 0) (taken : Option (List ℕ)) → P [] → Writes P taken taken
-nothing-written P taken p = record { text = []; is = p; wrote = Appends-nil taken }
 
 -- the text of a reply is its first line, and the records of a list
 pub head_then_list : (reply : Reply) → reply_text reply ≡ head_text reply ++ list_text reply
@@ -88,7 +25,7 @@ head_then_list (replies.Stepped number left) = refl
 head_then_list (replies.Finished number) = refl
 
 -- a reply that is no export has no records
-pub no_records : (reply : Reply) → ((ticket : Exporting) → reply ≡ replies.Export ticket → ⊥) → TellsRecords reply []
+pub no_records : (reply : Reply) → ((ticket : TicketState) → reply ≡ replies.Export ticket → ⊥) → TellsRecords reply []
 no_records (replies.Done at) h = refl
 no_records (replies.Rows at rows) h = refl
 no_records (replies.Listed at entries) h = refl

@@ -1,8 +1,7 @@
 //! The lines of rows and of checkpoints, straight to a writer: no line of them takes memory.
-ghost use Rattle.std.specs.Prelude.{◌≡◌, ◌+◌, ◌^◌, ◌<◌, ◌==◌, ◌++◌, ◌∷◌, [], false, true, length, position, IfSome, OnOk, OnErr, MatchResult};
+ghost use Rattle.std.specs.Prelude.{◌≡◌, ◌+◌, ◌^◌, ◌<◌, ◌==◌, ◌++◌, ◌∷◌, [], false, length, position, IfSome};
 ghost use Rattle.std.specs.List.{flat_map, list_any};
-ghost use Rattle.std.specs.Io.KnownBytes.{Appends};
-ghost use Rattle.base_core.specs.Streams.{WritesFront};
+ghost use Rattle.base_core.specs.Streams.{MayWriteText};
 ghost use Rattle.export_core.specs.Record.{doubled_byte, field_text, forces_quotes, quote, row_line, row_lines, value_field};
 ghost use Rattle.reply_core.specs.Texts.{checkpoint_line, value_text};
 
@@ -31,12 +30,7 @@ fn needs_quotes(field: &[u8]) -> bool
 /// Writes a run of bytes and a quote behind it.
 fn write_run<W: Sink>(writer: &mut W, run: &[u8]) -> Result<(), Broken>
     requires { W.failed writer.old ≡ false }
-    ensures failed { MatchResult result (λ _. W.failed writer.new ≡ false)
-        (λ _. W.failed writer.new ≡ true) }
-    ensures ok { OnOk result
-        (Appends (W.taken writer.old) (W.taken writer.new) (run.now ++ quote ∷ [])) }
-    ensures err { OnErr result
-        (WritesFront (W.taken writer.old) (W.taken writer.new) (run.now ++ quote ∷ [])) }
+    ensures { MayWriteText W.failed W.taken (run.now ++ quote ∷ []) result writer.old writer.new }
 {
     write_all(writer, run)?;
     write_all(writer, b"\"")
@@ -45,12 +39,8 @@ fn write_run<W: Sink>(writer: &mut W, run: &[u8]) -> Result<(), Broken>
 /// Writes a text with each quote twice, in runs up to the next quote.
 fn write_doubled<W: Sink>(writer: &mut W, text: &[u8]) -> Result<(), Broken>
     requires { W.failed writer.old ≡ false }
-    ensures failed { MatchResult result (λ _. W.failed writer.new ≡ false)
-        (λ _. W.failed writer.new ≡ true) }
-    ensures ok { OnOk result
-        (Appends (W.taken writer.old) (W.taken writer.new) (flat_map doubled_byte text.now)) }
-    ensures err { OnErr result
-        (WritesFront (W.taken writer.old) (W.taken writer.new) (flat_map doubled_byte text.now)) }
+    ensures { MayWriteText W.failed W.taken (flat_map doubled_byte text.now)
+        result writer.old writer.new }
 {
     let mut rest = text;
     while let Some(n) = quote_at(rest) {
@@ -63,12 +53,8 @@ fn write_doubled<W: Sink>(writer: &mut W, text: &[u8]) -> Result<(), Broken>
 /// Writes a text in quotes, with each quote inside doubled.
 fn write_quoted<W: Sink>(writer: &mut W, text: &[u8]) -> Result<(), Broken>
     requires { W.failed writer.old ≡ false }
-    ensures failed { MatchResult result (λ _. W.failed writer.new ≡ false)
-        (λ _. W.failed writer.new ≡ true) }
-    ensures ok { OnOk result (Appends (W.taken writer.old) (W.taken writer.new)
-        (quote ∷ (flat_map doubled_byte text.now ++ quote ∷ []))) }
-    ensures err { OnErr result (WritesFront (W.taken writer.old) (W.taken writer.new)
-        (quote ∷ (flat_map doubled_byte text.now ++ quote ∷ []))) }
+    ensures { MayWriteText W.failed W.taken (quote ∷ (flat_map doubled_byte text.now ++ quote ∷ []))
+        result writer.old writer.new }
 {
     write_all(writer, b"\"")?;
     write_doubled(writer, text)?;
@@ -78,12 +64,7 @@ fn write_quoted<W: Sink>(writer: &mut W, text: &[u8]) -> Result<(), Broken>
 /// Writes a field: in quotes exactly where it has a comma or a quote, with each quote doubled.
 fn write_field<W: Sink>(writer: &mut W, field: &[u8]) -> Result<(), Broken>
     requires { W.failed writer.old ≡ false }
-    ensures failed { MatchResult result (λ _. W.failed writer.new ≡ false)
-        (λ _. W.failed writer.new ≡ true) }
-    ensures ok { OnOk result
-        (Appends (W.taken writer.old) (W.taken writer.new) (field_text field.now)) }
-    ensures err { OnErr result
-        (WritesFront (W.taken writer.old) (W.taken writer.new) (field_text field.now)) }
+    ensures { MayWriteText W.failed W.taken (field_text field.now) result writer.old writer.new }
 {
     if needs_quotes(field) {
         return write_quoted(writer, field);
@@ -94,13 +75,8 @@ fn write_field<W: Sink>(writer: &mut W, field: &[u8]) -> Result<(), Broken>
 /// Writes a value as a field: a number in plain decimal, and a text as it is or in quotes.
 fn write_value<W: Sink>(writer: &mut W, value: &Value) -> Result<(), Broken>
     requires { W.failed writer.old ≡ false }
-    ensures failed { MatchResult result (λ _. W.failed writer.new ≡ false)
-        (λ _. W.failed writer.new ≡ true) }
-    ensures ok { OnOk result
-        (Appends (W.taken writer.old) (W.taken writer.new) (field_text (value_field value.now))) }
-    ensures err { OnErr result
-        (WritesFront (W.taken writer.old) (W.taken writer.new)
-        (field_text (value_field value.now))) }
+    ensures { MayWriteText W.failed W.taken (field_text (value_field value.now))
+        result writer.old writer.new }
 {
     match value {
         Value::Int(number) => {
@@ -114,12 +90,7 @@ fn write_value<W: Sink>(writer: &mut W, value: &Value) -> Result<(), Broken>
 /// Writes a further field of a record: a comma and the value.
 fn write_further<W: Sink>(writer: &mut W, value: &Value) -> Result<(), Broken>
     requires { W.failed writer.old ≡ false }
-    ensures failed { MatchResult result (λ _. W.failed writer.new ≡ false)
-        (λ _. W.failed writer.new ≡ true) }
-    ensures ok { OnOk result
-        (Appends (W.taken writer.old) (W.taken writer.new) (value_text value.now)) }
-    ensures err { OnErr result
-        (WritesFront (W.taken writer.old) (W.taken writer.new) (value_text value.now)) }
+    ensures { MayWriteText W.failed W.taken (value_text value.now) result writer.old writer.new }
 {
     write_all(writer, b",")?;
     write_value(writer, value)
@@ -127,12 +98,8 @@ fn write_further<W: Sink>(writer: &mut W, value: &Value) -> Result<(), Broken>
 
 fn write_values<W: Sink>(writer: &mut W, values: &[Value]) -> Result<(), Broken>
     requires { W.failed writer.old ≡ false }
-    ensures failed { MatchResult result (λ _. W.failed writer.new ≡ false)
-        (λ _. W.failed writer.new ≡ true) }
-    ensures ok { OnOk result
-        (Appends (W.taken writer.old) (W.taken writer.new) (flat_map value_text values.now)) }
-    ensures err { OnErr result
-        (WritesFront (W.taken writer.old) (W.taken writer.new) (flat_map value_text values.now)) }
+    ensures { MayWriteText W.failed W.taken (flat_map value_text values.now)
+        result writer.old writer.new }
 {
     for value in values {
         write_further(writer, value)?;
@@ -143,12 +110,7 @@ fn write_values<W: Sink>(writer: &mut W, values: &[Value]) -> Result<(), Broken>
 /// Writes the line of a row: the word `row`, the values, and a line feed.
 fn write_row<W: Sink>(writer: &mut W, values: &[Value]) -> Result<(), Broken>
     requires { W.failed writer.old ≡ false }
-    ensures failed { MatchResult result (λ _. W.failed writer.new ≡ false)
-        (λ _. W.failed writer.new ≡ true) }
-    ensures ok { OnOk result
-        (Appends (W.taken writer.old) (W.taken writer.new) (row_line values.now)) }
-    ensures err { OnErr result
-        (WritesFront (W.taken writer.old) (W.taken writer.new) (row_line values.now)) }
+    ensures { MayWriteText W.failed W.taken (row_line values.now) result writer.old writer.new }
 {
     write_all(writer, b"row")?;
     write_values(writer, values)?;
@@ -158,12 +120,7 @@ fn write_row<W: Sink>(writer: &mut W, values: &[Value]) -> Result<(), Broken>
 /// Writes the lines of rows.
 pub fn write_rows<W: Sink>(writer: &mut W, rows: &[Row]) -> Result<(), Broken>
     requires { W.failed writer.old ≡ false }
-    ensures failed { MatchResult result (λ _. W.failed writer.new ≡ false)
-        (λ _. W.failed writer.new ≡ true) }
-    ensures ok { OnOk result
-        (Appends (W.taken writer.old) (W.taken writer.new) (row_lines rows.now)) }
-    ensures err { OnErr result
-        (WritesFront (W.taken writer.old) (W.taken writer.new) (row_lines rows.now)) }
+    ensures { MayWriteText W.failed W.taken (row_lines rows.now) result writer.old writer.new }
 {
     for row in rows {
         write_row(writer, row.values.as_slice())?;
@@ -178,12 +135,8 @@ fn write_checkpoint<W: Sink>(
     checkpoint: &Checkpoint,
 ) -> Result<(), Broken>
     requires { W.failed writer.old ≡ false }
-    ensures failed { MatchResult result (λ _. W.failed writer.new ≡ false)
-        (λ _. W.failed writer.new ≡ true) }
-    ensures ok { OnOk result
-        (Appends (W.taken writer.old) (W.taken writer.new) (checkpoint_line checkpoint.now)) }
-    ensures err { OnErr result
-        (WritesFront (W.taken writer.old) (W.taken writer.new) (checkpoint_line checkpoint.now)) }
+    ensures { MayWriteText W.failed W.taken (checkpoint_line checkpoint.now)
+        result writer.old writer.new }
 {
     buffer.clear();
     push_checkpoint(buffer, checkpoint);
@@ -197,12 +150,8 @@ pub fn write_checkpoints<W: Sink>(
     entries: &[Checkpoint],
 ) -> Result<(), Broken>
     requires { W.failed writer.old ≡ false }
-    ensures failed { MatchResult result (λ _. W.failed writer.new ≡ false)
-        (λ _. W.failed writer.new ≡ true) }
-    ensures ok { OnOk result (Appends (W.taken writer.old) (W.taken writer.new)
-        (flat_map checkpoint_line entries.now)) }
-    ensures err { OnErr result (WritesFront (W.taken writer.old) (W.taken writer.new)
-        (flat_map checkpoint_line entries.now)) }
+    ensures { MayWriteText W.failed W.taken (flat_map checkpoint_line entries.now)
+        result writer.old writer.new }
 {
     for checkpoint in entries {
         write_checkpoint(buffer, writer, checkpoint)?;

@@ -1,15 +1,14 @@
 //! What is written of a reply, of a fault, and of a line that was not read.
-ghost use Rattle.std.specs.Prelude.{◌≡◌, false, true, OnOk, OnErr, MatchResult};
-ghost use Rattle.std.specs.Io.KnownBytes.{Appends};
-ghost use Rattle.base_core.specs.Streams.{Writes, WritesFront, WritesFrontOf};
+ghost use Rattle.std.specs.Prelude.{◌≡◌, false};
+ghost use Rattle.base_core.specs.Streams.{MayWrite, MayWriteText};
 ghost use Rattle.reply_core.specs.Texts.{fault_text, list_text, reply_text, unread_text};
 ghost use Rattle.reply_core.specs.Telling.{TellsReply, TellsRecords};
 
 use crate::buffer::ReplyBuffer;
 use crate::records::{write_checkpoints, write_rows};
 use crate::wording::{push_done, push_fault, push_head};
-use base_core::{Broken, Moment, Sink, write_all};
-use export_core::{ExportFault, Gate, Ticket};
+use base_core::{Broken, Gate, Moment, Sink, write_all};
+use export_core::{ExportFault, Ticket};
 use lexer_core::Code;
 use system_core::Reply;
 
@@ -26,13 +25,8 @@ fn write_ticket<W: Sink, G: Gate>(
     gate: &G,
 ) -> Result<(), Broken>
     requires { W.failed writer.old ≡ false }
-    ensures failed { MatchResult result (λ _. W.failed writer.new ≡ false)
-        (λ _. W.failed writer.new ≡ true) }
-    ensures ok { OnOk result
-        (Writes (TellsRecords (Reply.Export ticket)) (W.taken writer.old) (W.taken writer.new)) }
-    ensures err { OnErr result
-        (WritesFrontOf (TellsRecords (Reply.Export ticket))
-        (W.taken writer.old) (W.taken writer.new)) }
+    ensures { MayWrite W.failed W.taken (TellsRecords (Reply.Export ticket))
+        result writer.old writer.new }
 {
     match ticket.write_to(writer, gate) {
         Ok(()) => Ok(()),
@@ -44,12 +38,7 @@ fn write_ticket<W: Sink, G: Gate>(
 /// Writes the records of an export, and of any other reply nothing.
 fn write_records<W: Sink, G: Gate>(reply: Reply, writer: &mut W, gate: &G) -> Result<(), Broken>
     requires { W.failed writer.old ≡ false }
-    ensures failed { MatchResult result (λ _. W.failed writer.new ≡ false)
-        (λ _. W.failed writer.new ≡ true) }
-    ensures ok { OnOk result
-        (Writes (TellsRecords reply) (W.taken writer.old) (W.taken writer.new)) }
-    ensures err { OnErr result
-        (WritesFrontOf (TellsRecords reply) (W.taken writer.old) (W.taken writer.new)) }
+    ensures { MayWrite W.failed W.taken (TellsRecords reply) result writer.old writer.new }
 {
     let Reply::Export(ticket) = reply else {
         return Ok(());
@@ -64,12 +53,7 @@ fn write_list<W: Sink>(
     writer: &mut W,
 ) -> Result<(), Broken>
     requires { W.failed writer.old ≡ false }
-    ensures failed { MatchResult result (λ _. W.failed writer.new ≡ false)
-        (λ _. W.failed writer.new ≡ true) }
-    ensures ok { OnOk result
-        (Appends (W.taken writer.old) (W.taken writer.new) (list_text reply.now)) }
-    ensures err { OnErr result
-        (WritesFront (W.taken writer.old) (W.taken writer.new) (list_text reply.now)) }
+    ensures { MayWriteText W.failed W.taken (list_text reply.now) result writer.old writer.new }
 {
     match reply {
         Reply::Rows { rows, .. } => write_rows(writer, rows.as_slice()),
@@ -85,12 +69,7 @@ pub fn write_text<W: Sink>(
     writer: &mut W,
 ) -> Result<(), Broken>
     requires { W.failed writer.old ≡ false }
-    ensures failed { MatchResult result (λ _. W.failed writer.new ≡ false)
-        (λ _. W.failed writer.new ≡ true) }
-    ensures ok { OnOk result
-        (Appends (W.taken writer.old) (W.taken writer.new) (reply_text reply.now)) }
-    ensures err { OnErr result
-        (WritesFront (W.taken writer.old) (W.taken writer.new) (reply_text reply.now)) }
+    ensures { MayWriteText W.failed W.taken (reply_text reply.now) result writer.old writer.new }
 {
     buffer.clear();
     push_head(buffer, reply);
@@ -111,11 +90,7 @@ pub fn write_reply<W: Sink, G: Gate>(
     gate: &G,
 ) -> Result<(), Broken>
     requires { W.failed writer.old ≡ false }
-    ensures failed { MatchResult result (λ _. W.failed writer.new ≡ false)
-        (λ _. W.failed writer.new ≡ true) }
-    ensures ok { OnOk result (Writes (TellsReply reply) (W.taken writer.old) (W.taken writer.new)) }
-    ensures err { OnErr result
-        (WritesFrontOf (TellsReply reply) (W.taken writer.old) (W.taken writer.new)) }
+    ensures { MayWrite W.failed W.taken (TellsReply reply) result writer.old writer.new }
 {
     write_text(buffer, &reply, writer)?;
     write_records(reply, writer, gate)
@@ -132,12 +107,7 @@ pub fn write_done<W: Sink>(
     writer: &mut W,
 ) -> Result<(), Broken>
     requires { W.failed writer.old ≡ false }
-    ensures failed { MatchResult result (λ _. W.failed writer.new ≡ false)
-        (λ _. W.failed writer.new ≡ true) }
-    ensures ok { OnOk result
-        (Writes (TellsReply (Reply.Done at)) (W.taken writer.old) (W.taken writer.new)) }
-    ensures err { OnErr result
-        (WritesFrontOf (TellsReply (Reply.Done at)) (W.taken writer.old) (W.taken writer.new)) }
+    ensures { MayWrite W.failed W.taken (TellsReply (Reply.Done at)) result writer.old writer.new }
 {
     buffer.clear();
     push_done(buffer, at);
@@ -154,12 +124,7 @@ pub fn write_fault<W: Sink>(
     writer: &mut W,
 ) -> Result<(), Broken>
     requires { W.failed writer.old ≡ false }
-    ensures failed { MatchResult result (λ _. W.failed writer.new ≡ false)
-        (λ _. W.failed writer.new ≡ true) }
-    ensures ok { OnOk result
-        (Appends (W.taken writer.old) (W.taken writer.new) (fault_text code offset)) }
-    ensures err { OnErr result
-        (WritesFront (W.taken writer.old) (W.taken writer.new) (fault_text code offset)) }
+    ensures { MayWriteText W.failed W.taken (fault_text code offset) result writer.old writer.new }
 {
     buffer.clear();
     push_fault(buffer, code, offset);
@@ -170,11 +135,7 @@ pub fn write_fault<W: Sink>(
 /// memory itself. `Broken` exactly where the writer has failed, and then a front was written.
 pub fn write_unread<W: Sink>(writer: &mut W) -> Result<(), Broken>
     requires { W.failed writer.old ≡ false }
-    ensures failed { MatchResult result (λ _. W.failed writer.new ≡ false)
-        (λ _. W.failed writer.new ≡ true) }
-    ensures ok { OnOk result (Appends (W.taken writer.old) (W.taken writer.new) unread_text) }
-    ensures err { OnErr result
-        (WritesFront (W.taken writer.old) (W.taken writer.new) unread_text) }
+    ensures { MayWriteText W.failed W.taken unread_text result writer.old writer.new }
 {
     write_all(writer, UNREAD)
 }

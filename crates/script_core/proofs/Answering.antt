@@ -2,7 +2,8 @@
 use Rattle.std.proofs.Common.{◌≡◌, ℕ, true, false, not, List, [], ◌++◌, Option, Some, None, Ok, is_some, refl, sym, subst}
 use Rattle.reply_core.specs.Texts.{reply_text}
 use Rattle.reply_core.specs.Telling.{TellsReply}
-use Rattle.reply_core.proofs.WritingLemmas.{Both, some_records}
+use Rattle.base_core.proofs.Fronts.{Both}
+use Rattle.reply_core.proofs.WritingLemmas.{some_records}
 use Rattle.std.proofs.lemmas.List.{append-nil}
 use Rattle.base_core.specs.declared.name.User.{User}
 use Rattle.reader_core.specs.declared.statement.Statement.{Statement}
@@ -15,14 +16,17 @@ use Rattle.system_core.specs.declared.machine.event.Entry.{Entry}
 use Rattle.system_core.proofs.Judged.{change-responds}
 use Rattle.system_core.specs.declared.machine.event.Reply.TheVariants as replies
 use Rattle.system_core.specs.declared.machine.event.Event.TheVariants as events
-use Rattle.script_core.specs.Script.{is_refused, Answers, Asks, AnswersLine, faulty, said, unread, Follows, stepped, gave_up}
+use Rattle.lexer_core.specs.declared.lexer.TheConstants.{MAX_LINE}
+use Rattle.script_core.specs.Addressed.{Asks}
+use Rattle.script_core.specs.Script.{Answers, AnswersLine, faulty, said, unread, Follows, stepped, gave_up}
+use Rattle.system_core.specs.Replies.{is_refused}
 use Rattle.script_core.specs.Replying.{ComesTo, TellsSaid, Advanced, TellsAdvanced, TellsBoth, TellsThen, TellsAsked}
 use Rattle.script_core.specs.declared.scripts.answer.Said.{Said}
 use Rattle.script_core.specs.declared.scripts.answer.Said.TheVariants as says
 
 pub said-answers : (old new : World) (line : List ℕ) (what : Said) (text : List ℕ) → ComesTo old line what new → TellsSaid what text → AnswersLine old line text new
 said-answers old new line (says.Fault code offset) text (h, same) e = subst (λ w. AnswersLine old line text w) (sym same) (subst (λ t. AnswersLine old line t old) (sym e) (faulty h))
-said-answers old new line says.Unread text (user, start, a, same) e = subst (λ w. AnswersLine old line text w) (sym same) (subst (λ t. AnswersLine old line t old) (sym e) (unread user start a))
+said-answers old new line says.Unread text (a, same) e = subst (λ w. AnswersLine old line text w) (sym same) (subst (λ t. AnswersLine old line t old) (sym e) (unread a))
 said-answers old new line (says.Answer reply) text (user, asked, a, step) tells = said user asked reply a step tells
 
 pub advanced-follows : (old new : World) (what : Option Reply) (text : List ℕ) → Advanced old what new → TellsAdvanced what text → Follows old text new
@@ -57,7 +61,7 @@ pub said-then : (what : Said) (old mid new : World) (refusal reply : Reply) → 
 said-then what old mid new refusal reply step refused up text both = (Some reply, (refusal, mid, step, refused, up), both)
 
 -- what is said of what was asked
-pub asked-answers : (old new : World) (line : List ℕ) (user : User) (asked : Statement) → Asks line user asked → (text : List ℕ) → TellsAsked (entry 0 user asked) old new text → Answers old line text new
+pub asked-answers : (old new : World) (line : List ℕ) (user : User) (asked : Statement) → Asks MAX_LINE line user asked → (text : List ℕ) → TellsAsked (entry 0 user asked) old new text → Answers old line text new
 asked-answers old new line user asked asks text (reply, mid, step, tells) = then-answers old mid new line (says.Answer reply) (user, asked, asks, step) text tells
 
 idle-with : (w : World) (active : Option ActiveCheckpoint) → not (is_some active) ≡ true → Advances w active replies.Idle w

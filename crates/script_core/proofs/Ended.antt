@@ -16,11 +16,11 @@ use Rattle.lexer_core.specs.declared.fault.Code.{Code}
 use Rattle.reader_core.specs.declared.statement.Statement.{Statement}
 use Rattle.reader_core.specs.declared.statement.Statement.TheVariants as statements
 use Rattle.lines_core.specs.Lines.{IsWhole}
-use Rattle.tables_core.specs.Contents.{Contents}
+use Rattle.tables_core.specs.Contents.{Table}
 use Rattle.monitor_core.specs.Verdict.{Check}
 use Rattle.export_core.specs.Export.{is_any, cut, withheld_line, end_line}
 use Rattle.export_core.specs.Record.{value_field, fields_text, record_line, row_line, row_lines}
-use Rattle.export_core.specs.Ticket.{Exporting, header_line}
+use Rattle.export_core.specs.Ticket.{TicketState, header_line}
 use Rattle.system_core.specs.declared.machine.event.Checkpoint.{Checkpoint}
 use Rattle.system_core.specs.declared.machine.event.Checkpoint.TheVariants as checkpoints
 use Rattle.system_core.specs.declared.machine.event.Entry.{Entry}
@@ -28,7 +28,7 @@ use Rattle.system_core.specs.declared.machine.event.Event.TheVariants as events
 use Rattle.system_core.specs.declared.machine.event.Reply.{Reply}
 use Rattle.system_core.specs.declared.machine.event.Reply.TheVariants as replies
 use Rattle.system_core.specs.Exports.{shown, could_select, table_lines, table_told, tables_told, export_lines, export_of, journal_at}
-use Rattle.system_core.specs.Journal.{contents}
+use Rattle.system_core.specs.Journal.{tables_at}
 use Rattle.system_core.specs.Judging.{point_of, verdict_of, judged_at}
 use Rattle.system_core.specs.Step.{IsExport, CarriesOut, Responds, Step}
 use Rattle.system_core.specs.World.{World, entry}
@@ -95,7 +95,7 @@ refusal_ended : (at : ℕ) (lack : Lack) → Ended (refusal_text at lack)
 refusal_ended at lacks.Worn = (codes "refused: worn", refl)
 refusal_ended at lack = stamped_ended (codes "refused @") at lack
 
-header_ended : (ticket : Exporting) → Ended (header_line ticket)
+header_ended : (ticket : TicketState) → Ended (header_line ticket)
 header_ended ticket =
     (codes "export " ++ decimal ticket.number ++ codes " point " ++ decimal ticket.point.0 ++ codes " @" ++ decimal ticket.at.0, refl)
 
@@ -117,11 +117,11 @@ rows_lines_whole : (marks : List Bool) (rows : List (ℕ × Row)) → AllWhole (
 rows_lines_whole marks [] = tt
 rows_lines_whole marks (row ∷ rows) = (row_whole (cut marks row.1.values), rows_lines_whole marks rows)
 
-told_by : (some : Bool) (marks : List Bool) (t : Name × Contents) (why : List ℕ) → AllWhole (if some then table_lines marks t else withheld_line t.0 why ∷ [])
+told_by : (some : Bool) (marks : List Bool) (t : Name × Table) (why : List ℕ) → AllWhole (if some then table_lines marks t else withheld_line t.0 why ∷ [])
 told_by true marks t why = (record_whole (codes "table" ∷ t.0 ∷ cut marks (map (λ (c : Column). c.name) t.1.columns)), rows_lines_whole marks t.1.rows)
 told_by false marks t why = (record_whole (codes "withheld" ∷ t.0 ∷ why ∷ []), tt)
 
-tables_whole : (past now : List Entry) (user : User) (tables : List (Name × Contents)) → AllWhole (flat_map (table_told past now user) tables)
+tables_whole : (past now : List Entry) (user : User) (tables : List (Name × Table)) → AllWhole (flat_map (table_told past now user) tables)
 tables_whole past now user [] = tt
 tables_whole past now user (t ∷ tables) =
     let marks = shown past now user t.0 t.1.columns in
@@ -133,19 +133,19 @@ end_whole number = inr (codes "end " ++ decimal number, refl)
 
 lines_whole : (past now : List Entry) (number : ℕ) (user : User) (only : Option Name) → AllWhole (export_lines past now number user only)
 lines_whole past now number user only =
-    all_both (flat_map (table_told past now user) (tables_told (contents past) only)) (end_line number ∷ []) (tables_whole past now user (tables_told (contents past) only)) (end_whole number, tt)
+    all_both (flat_map (table_told past now user) (tables_told (tables_at past) only)) (end_line number ∷ []) (tables_whole past now user (tables_told (tables_at past) only)) (end_whole number, tt)
 
 -- the records that are to come behind the text of a reply
 abbrev pub to_come : Reply → List (List ℕ)
 to_come (replies.Export ticket) = ticket.to_come
 to_come reply = []
 
-by_point : (journal : List Entry) (number : ℕ) (user : User) (only : Option Name) (ticket : Exporting) (o : Option Moment) → IsSomeAnd o (λ point. ticket ≡ export_of journal number point user only) → AllWhole ticket.to_come
+by_point : (journal : List Entry) (number : ℕ) (user : User) (only : Option Name) (ticket : TicketState) (o : Option Moment) → IsSomeAnd o (λ point. ticket ≡ export_of journal number point user only) → AllWhole ticket.to_come
 by_point journal number user only ticket None is = absurd is
 by_point journal number user only ticket (Some point) is =
-    subst (λ (t : Exporting). AllWhole t.to_come) (sym is) (lines_whole (journal_at journal point) journal number user only)
+    subst (λ (t : TicketState). AllWhole t.to_come) (sym is) (lines_whole (journal_at journal point) journal number user only)
 
-export_whole : (w : World) (user : User) (asked : Statement) (ticket : Exporting) → IsExport w user asked ticket → AllWhole ticket.to_come
+export_whole : (w : World) (user : User) (asked : Statement) (ticket : TicketState) → IsExport w user asked ticket → AllWhole ticket.to_come
 export_whole w user (statements.Export number only) ticket is = by_point w.journal number user only ticket (point_of w number) is
 export_whole w user asked ticket is = absurd is
 

@@ -1,7 +1,6 @@
 -- What is written for a line is an answer to it, and its change is kept.
 use Rattle.std.proofs.Common.{◌≡◌, ℕ, Bool, true, false, not, List, [], ◌∷◌, ◌++◌, Option, Some, None, Ok, Err, is_some, Result, if◌then◌else◌, refl, ap, ◌∙◌, subst, append-nil}
 use Rattle.base_core.specs.Lacks.{is_denial}
-use Rattle.base_core.specs.Streams.{Writes, WritesFrontOf}
 use Rattle.base_core.specs.declared.name.User.{User}
 use Rattle.base_core.specs.declared.value.Moment.{Moment}
 use Rattle.base_core.specs.declared.lack.Lack.{Lack}
@@ -20,8 +19,9 @@ use Rattle.system_core.specs.declared.machine.event.Reply.TheVariants as replies
 use Rattle.system_core.proofs.Entered.{step_enters}
 use Rattle.system_core.proofs.Judged.{change-responds}
 use Rattle.reply_core.specs.Telling.{TellsReply}
-use Rattle.reply_core.proofs.WritingLemmas.{Writes-map, WritesFrontOf-map}
-use Rattle.script_core.specs.Script.{Asks, said}
+use Rattle.lexer_core.specs.declared.lexer.TheConstants.{MAX_LINE}
+use Rattle.script_core.specs.Addressed.{Asks}
+use Rattle.script_core.specs.Script.{said}
 use Rattle.script_core.specs.Keeping.{WithKeeper, with_keeper, AnswersKept, answered, withheld}
 use Rattle.script_core.specs.Replying.{ComesTo, Advanced, TellsThen, TellsAsked, TellsKept}
 use Rattle.script_core.specs.Replying as replying
@@ -109,7 +109,7 @@ module _ {K : Type 0} (keeps fails : K → Entry → K → Type 0) (failed : K �
       (record { entry = e; journal = done-journal old mid e made carries; unkept = lost })
 
   -- ---- what is written for a line
-  pub kept-answers : (old new : WithKeeper K) (line : List ℕ) (user : User) (asked : Statement) → failed old.keeper ≡ false → Asks line user asked
+  pub kept-answers : (old new : WithKeeper K) (line : List ℕ) (user : User) (asked : Statement) → failed old.keeper ≡ false → Asks MAX_LINE line user asked
       → (text : List ℕ) → TellsKept keeps fails failed (entry 0 user asked) old new text → AnswersKept keeps fails failed old line text new
   kept-answers old new line user asked f asks text (replying.told n tells k) = answered f n (asked-answers old.world new.world line user asked asks text tells) k
   kept-answers old new line user asked f asks _ (replying.withheld reply n step lost) =
@@ -120,20 +120,3 @@ module _ {K : Type 0} (keeps fails : K → Entry → K → Type 0) (failed : K �
       → (text : List ℕ) → TellsThen what old new text → AnswersKept keeps fails failed (with_keeper old k) line text (with_keeper new k)
   then-kept old new k line what f comes text follow =
       answered f f (then-answers old old new line what comes text follow) (KeepsNew-none keeps (with_keeper old k) (with_keeper new k) (then-journal what old new text follow) refl)
-
-  module _ (before after : Option (List ℕ)) where
-    pub then-writes : (old new : World) (k : K) (line : List ℕ) (what : Said) → failed k ≡ false → ComesTo old line what old → Writes (TellsThen what old new) before after
-        → Writes (λ text. AnswersKept keeps fails failed (with_keeper old k) line text (with_keeper new k)) before after
-    then-writes old new k line what f comes = Writes-map (TellsThen what old new) (λ text. AnswersKept keeps fails failed (with_keeper old k) line text (with_keeper new k)) before after (then-kept old new k line what f comes)
-
-    pub then-breaks : (old new : World) (k : K) (line : List ℕ) (what : Said) → failed k ≡ false → ComesTo old line what old → WritesFrontOf (TellsThen what old new) before after
-        → WritesFrontOf (λ text. AnswersKept keeps fails failed (with_keeper old k) line text (with_keeper new k)) before after
-    then-breaks old new k line what f comes = WritesFrontOf-map (TellsThen what old new) (λ text. AnswersKept keeps fails failed (with_keeper old k) line text (with_keeper new k)) before after (then-kept old new k line what f comes)
-
-    pub kept-writes : (old new : WithKeeper K) (line : List ℕ) (user : User) (asked : Statement) → failed old.keeper ≡ false → Asks line user asked
-        → Writes (TellsKept keeps fails failed (entry 0 user asked) old new) before after → Writes (λ text. AnswersKept keeps fails failed old line text new) before after
-    kept-writes old new line user asked f asks = Writes-map (TellsKept keeps fails failed (entry 0 user asked) old new) (λ text. AnswersKept keeps fails failed old line text new) before after (kept-answers old new line user asked f asks)
-
-    pub kept-breaks : (old new : WithKeeper K) (line : List ℕ) (user : User) (asked : Statement) → failed old.keeper ≡ false → Asks line user asked
-        → WritesFrontOf (TellsKept keeps fails failed (entry 0 user asked) old new) before after → WritesFrontOf (λ text. AnswersKept keeps fails failed old line text new) before after
-    kept-breaks old new line user asked f asks = WritesFrontOf-map (TellsKept keeps fails failed (entry 0 user asked) old new) (λ text. AnswersKept keeps fails failed old line text new) before after (kept-answers old new line user asked f asks)

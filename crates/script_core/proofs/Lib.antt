@@ -1,3 +1,4 @@
+pub mod Addressed
 pub mod Offsets
 pub mod Answering
 pub mod OneOutput

@@ -12,7 +12,8 @@ use Rattle.reply_core.specs.Texts.{reply_text, unread_text, cut_text}
 use Rattle.reply_core.specs.Telling.{TellsReply}
 use Rattle.lines_core.specs.Lines.{IsWhole}
 use Rattle.script_core.proofs.Ended.{AllWhole, both_whole, concat_whole, take_whole, reply_whole, to_come, stepped_whole, full_whole}
-use Rattle.script_core.specs.Script.{Asks, is_refused, AnswersLine, Follows, Answers}
+use Rattle.script_core.specs.Script.{AnswersLine, Follows, Answers}
+use Rattle.system_core.specs.Replies.{is_refused}
 use Rattle.script_core.specs.Script as script
 use Rattle.script_core.specs.InFull.{tells_want, records_of, AnswersLineInFull, faulty, said, AnswersInFull, IsMemoryLine, refused, unread, cut, given_up, TellsOfMemory}
 
@@ -79,7 +80,7 @@ line_told : (old new : World) (line text : List ℕ) → AnswersLine old line te
 line_told old _ line _ (script.faulty {code} {offset} f) = inl (faulty code offset f refl refl)
 line_told old new line text (script.said user asked reply a step tells) =
     elim (reply_told reply text (stepped_whole old new user asked reply step) tells) [ inl h ↦ inl (said user asked reply a step h.0 h.1) | inr t ↦ inr t ]
-line_told old _ line _ (script.unread user start e) = inr (alone unread_text unread_text unread refl)
+line_told old _ line _ (script.unread a) = inr (alone unread_text unread_text unread refl)
 
 -- what is told where the checkpoint is given up
 idle_refuses : (reply : Reply) → reply ≡ replies.Idle → is_refused reply ≡ true → {A : Type 0} → A

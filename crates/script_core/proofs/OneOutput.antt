@@ -3,20 +3,17 @@ use Rattle.std.proofs.Common.{◌≡◌, ◌⊎◌, ◌≤◌, ◌<◌, ◌-◌,
 use Rattle.base_core.specs.declared.name.User.{User}
 use Rattle.base_core.specs.declared.value.Moment.{Moment}
 use Rattle.base_core.specs.declared.value.Row.{Row}
-use Rattle.lexer_core.specs.declared.fault.Code.{Code}
-use Rattle.reader_core.specs.Language.{Spells, IsReadFault}
 use Rattle.reader_core.specs.declared.statement.Statement.{Statement}
 use Rattle.reader_core.specs.declared.statement.Statement.TheVariants as statements
-use Rattle.reader_core.proofs.Exactness.{one_line_fault, spelled_once, spelled_no_fault}
 use Rattle.lines_core.specs.Serving.{AnswersAll}
 use Rattle.tables_core.specs.Contents.{selected_rows, table_of}
 use Rattle.monitor_core.specs.Verdict.{Check, columns_of, is_change}
-use Rattle.export_core.specs.Ticket.{Exporting}
+use Rattle.export_core.specs.Ticket.{TicketState}
 use Rattle.system_core.specs.declared.machine.event.Entry.{Entry}
 use Rattle.system_core.specs.declared.machine.event.Event.TheVariants as events
 use Rattle.system_core.specs.declared.machine.event.Reply.{Reply}
 use Rattle.system_core.specs.declared.machine.event.Reply.TheVariants as replies
-use Rattle.system_core.specs.Journal.{contents}
+use Rattle.system_core.specs.Journal.{tables_at}
 use Rattle.system_core.specs.Exports.{export_of}
 use Rattle.system_core.specs.World.{World, ActiveCheckpoint, entry, moment_of, next_moment, with_entry}
 use Rattle.system_core.specs.Judging.{point_of, verdict_of}
@@ -24,38 +21,26 @@ use Rattle.monitor_core.specs.Atoms.{columns_given}
 use Rattle.system_core.specs.Step.{listed_checkpoints, with_begun, with_left, with_finished, IsAnswer, IsExport, CarriesOut, Responds, Advances, Step}
 use Rattle.reply_core.specs.Texts.{reply_text, fault_text}
 use Rattle.reply_core.specs.Telling.{TellsRecords}
-use Rattle.script_core.specs.Script.{addressed, Asks, IsFaulty, address, statement, is_refused, AnswersLine, Answers}
+use Rattle.lexer_core.specs.declared.lexer.TheConstants.{MAX_LINE}
+use Rattle.script_core.specs.Script.{AnswersLine, Answers}
+use Rattle.script_core.proofs.Addressed.{parts, one_faulty, asked_or_faulty, asked_once}
+use Rattle.system_core.specs.Replies.{is_refused}
 use Rattle.script_core.specs.Script as script
 use Rattle.script_core.specs.InFull.{tells_want, records_of, AnswersLineInFull, faulty, said, AnswersInFull}
 
 -- ---- pairs
-parts : {A B : Type 0} (p q : A × B) → p ≡ q → (p.0 ≡ q.0) × (p.1 ≡ q.1)
-parts {A} {B} p q e = (ap (λ (x : A × B). x.0) e, ap (λ (x : A × B). x.1) e)
-
 some_once : {A : Type 0} (p q : A) (e : Option A) → e ≡ Some p → e ≡ Some q → p ≡ q
 some_once p q e h k = cc
 
-ok_once : {A E : Type 0} (p q : A) (e : Result A E) → e ≡ Ok p → e ≡ Ok q → p ≡ q
-ok_once p q e h k = cc
-
-err_once : {A E : Type 0} (p q : E) (e : Result A E) → e ≡ Err p → e ≡ Err q → p ≡ q
-err_once p q e h k = cc
-
 some_pair : {A B : Type 0} (a c : A) (b d : B) (e : Option (A × B)) → e ≡ Some (a, b) → e ≡ Some (c, d) → (a ≡ c) × (b ≡ d)
 some_pair {A} {B} a c b d e h k = parts {A = A} {B = B} (a, b) (c, d) (some_once {A = A × B} (a, b) (c, d) e h k)
-
-ok_pair : {A B E : Type 0} (a c : A) (b d : B) (e : Result (A × B) E) → e ≡ Ok (a, b) → e ≡ Ok (c, d) → (a ≡ c) × (b ≡ d)
-ok_pair {A} {B} {E} a c b d e h k = parts {A = A} {B = B} (a, b) (c, d) (ok_once {A = A × B} {E = E} (a, b) (c, d) e h k)
-
-err_pair : {T A B : Type 0} (a c : A) (b d : B) (e : Result T (A × B)) → e ≡ Err (a, b) → e ≡ Err (c, d) → (a ≡ c) × (b ≡ d)
-err_pair {T} {A} {B} a c b d e h k = parts {A = A} {B = B} (a, b) (c, d) (err_once {A = T} {E = A × B} (a, b) (c, d) e h k)
 
 -- ---- what comes of an allowed statement
 -- the reply and the next world, where memory suffices
 abbrev outcome : World → Entry → Statement → Option (Reply × World)
 outcome old e (statements.Select list table filter) =
     option_map (λ (rows : List Row). (replies.Rows (moment_of old) rows, old))
-    (option_map (selected_rows (columns_given (columns_of (contents old.journal) table) list) filter) (table_of (contents old.journal) table))
+    (option_map (selected_rows (columns_given (columns_of (tables_at old.journal) table) list) filter) (table_of (tables_at old.journal) table))
 outcome old e statements.Checkpoint = Some (replies.Begun (old.begun + 1) (moment_of old), with_begun old)
 outcome old e statements.Checkpoints = Some (replies.Listed (moment_of old) (listed_checkpoints old), old)
 outcome old e (statements.Export number only) =
@@ -63,47 +48,23 @@ outcome old e (statements.Export number only) =
 outcome old e asked = Some (replies.Done (next_moment old), with_entry old e)
 
 done-outcome : (old : World) (e : Entry) (asked : Statement) → is_change asked ≡ true → outcome old e asked ≡ Some (replies.Done (next_moment old), with_entry old e)
-done-outcome old e (statements.CreateTable table columns) h = refl
-done-outcome old e (statements.Insert table values) h = refl
 done-outcome old e (statements.Select list table filter) h = cc
-done-outcome old e (statements.Delete table filter) h = refl
-done-outcome old e (statements.Update table sets filter) h = refl
-done-outcome old e (statements.Grant privileges table users option) h = refl
-done-outcome old e (statements.Revoke privileges table users) h = refl
-done-outcome old e (statements.RevokeOption privileges table users) h = refl
 done-outcome old e statements.Checkpoint h = cc
 done-outcome old e statements.Checkpoints h = cc
 done-outcome old e (statements.Export number only) h = cc
+done-outcome old e _ h = refl
 
 rows-outcome : (old : World) (e : Entry) (asked : Statement) (rows : List Row) → IsAnswer old.journal asked rows → outcome old e asked ≡ Some (replies.Rows (moment_of old) rows, old)
 rows-outcome old e (statements.Select list table filter) rows h = ap (option_map (λ (r : List Row). (replies.Rows (moment_of old) r, old))) h
-rows-outcome old e (statements.CreateTable table columns) rows h = absurd h
-rows-outcome old e (statements.Insert table values) rows h = absurd h
-rows-outcome old e (statements.Delete table filter) rows h = absurd h
-rows-outcome old e (statements.Update table sets filter) rows h = absurd h
-rows-outcome old e (statements.Grant privileges table users option) rows h = absurd h
-rows-outcome old e (statements.Revoke privileges table users) rows h = absurd h
-rows-outcome old e (statements.RevokeOption privileges table users) rows h = absurd h
-rows-outcome old e statements.Checkpoint rows h = absurd h
-rows-outcome old e statements.Checkpoints rows h = absurd h
-rows-outcome old e (statements.Export number only) rows h = absurd h
+rows-outcome old e _ rows h = absurd h
 
-by_point : (old : World) (o : Option Moment) (f : Moment → Exporting) (ticket : Exporting) → IsSomeAnd o (λ point. ticket ≡ f point) → option_map {U = Reply × World} (λ (point : Moment). (replies.Export (f point), old)) o ≡ Some (replies.Export ticket, old)
+by_point : (old : World) (o : Option Moment) (f : Moment → TicketState) (ticket : TicketState) → IsSomeAnd o (λ point. ticket ≡ f point) → option_map {U = Reply × World} (λ (point : Moment). (replies.Export (f point), old)) o ≡ Some (replies.Export ticket, old)
 by_point old None f ticket h = absurd h
-by_point old (Some point) f ticket h = ap (λ (t : Exporting). Some (replies.Export t, old)) (sym h)
+by_point old (Some point) f ticket h = ap (λ (t : TicketState). Some (replies.Export t, old)) (sym h)
 
-export-outcome : (old : World) (e : Entry) (asked : Statement) (ticket : Exporting) → IsExport old e.user asked ticket → outcome old e asked ≡ Some (replies.Export ticket, old)
+export-outcome : (old : World) (e : Entry) (asked : Statement) (ticket : TicketState) → IsExport old e.user asked ticket → outcome old e asked ≡ Some (replies.Export ticket, old)
 export-outcome old e (statements.Export number only) ticket h = by_point old (point_of old number) (λ point. export_of old.journal number point e.user only) ticket h
-export-outcome old e (statements.Select list table filter) ticket h = absurd h
-export-outcome old e (statements.CreateTable table columns) ticket h = absurd h
-export-outcome old e (statements.Insert table values) ticket h = absurd h
-export-outcome old e (statements.Delete table filter) ticket h = absurd h
-export-outcome old e (statements.Update table sets filter) ticket h = absurd h
-export-outcome old e (statements.Grant privileges table users option) ticket h = absurd h
-export-outcome old e (statements.Revoke privileges table users) ticket h = absurd h
-export-outcome old e (statements.RevokeOption privileges table users) ticket h = absurd h
-export-outcome old e statements.Checkpoint ticket h = absurd h
-export-outcome old e statements.Checkpoints ticket h = absurd h
+export-outcome old e _ ticket h = absurd h
 
 carried : (old new : World) (e : Entry) (reply : Reply) → CarriesOut old e reply new → tells_want reply ≡ false → outcome old e e.statement ≡ Some (reply, new)
 carried old new e (replies.Done at) h w = let d = done-outcome old e e.statement h.0 in let a = h.1 in let n = h.2 in cc
@@ -155,39 +116,15 @@ one_advance old new last None reply other h k w v = h.1 ∙ sym k.1
 one_advance old new last (Some a) reply other h k w v =
     one_of_two old.chunk a.left (with_left old a (a.left - old.chunk)) (with_finished old a) new last (advanced old new a reply h w) (advanced old last a other k v)
 
--- ---- what a line says
-ok_or_err : {T E : Type 0} (a : T) (b : E) → (e : Result T E) → e ≡ Ok a → e ≡ Err b → ⊥
-ok_or_err a b e h k = let no = sym h ∙ k in cc
-
-one_faulty : (line : List ℕ) (code other : Code) (offset place : ℕ) → IsFaulty line code offset → IsFaulty line other place → (code ≡ other) × (offset ≡ place)
-one_faulty line code other offset place (address e) (address f) = err_pair code other offset place (addressed line) e f
-one_faulty line code other _ place (statement user start offset e h) (address f) = absurd (ok_or_err _ _ (addressed line) e f)
-one_faulty line code other offset _ (address e) (statement user start place f h) = absurd (ok_or_err _ _ (addressed line) f e)
-one_faulty line code other _ _ (statement user start offset e h) (statement person begin place f k) =
-    let starts = (ok_pair user person start begin (addressed line) e f).1 in
-    let one = one_line_fault (drop start line) code other offset place h (subst (λ n. IsReadFault (drop n line) other place) (sym starts) k) in
-    (one.0, ap (λ n. n + offset) starts ∙ ap (λ n. begin + n) one.1)
-
-asked_or_faulty : (line : List ℕ) (user : User) (asked : Statement) (code : Code) (offset : ℕ) → Asks line user asked → IsFaulty line code offset → ⊥
-asked_or_faulty line user asked code offset a (address e) = ok_or_err _ _ (addressed line) a.speaker e
-asked_or_faulty line user asked code _ a (statement person begin place f k) =
-    let starts = (ok_pair person user begin a.start (addressed line) f a.speaker).1 in
-    spelled_no_fault (drop a.start line) asked code place a.spelled (subst (λ n. IsReadFault (drop n line) code place) starts k)
-
-asked_once : (line : List ℕ) (user person : User) (asked other : Statement) → Asks line user asked → Asks line person other → (user ≡ person) × (asked ≡ other)
-asked_once line user person asked other a b =
-    let same = ok_pair user person a.start b.start (addressed line) a.speaker b.speaker in
-    (same.0, spelled_once (drop a.start line) asked other a.spelled (subst (λ n. Spells (drop n line) other) (sym same.1) b.spelled))
-
 -- ---- one answer
 one_line : (old new last : World) (line text other : List ℕ) → AnswersLineInFull old line text new → AnswersLineInFull old line other last → (text ≡ other) × (new ≡ last)
 one_line old new last line text other (faulty code offset h e n) (faulty code' offset' k f m) =
-    let one = one_faulty line code code' offset offset' h k in
+    let one = one_faulty MAX_LINE line code code' offset offset' h k in
     (e ∙ ap (λ c. fault_text c offset) one.0 ∙ ap (λ o. fault_text code' o) one.1 ∙ sym f, n ∙ sym m)
-one_line old new last line text other (faulty code offset h e n) (said user asked reply a step w f) = absurd (asked_or_faulty line user asked code offset a h)
-one_line old new last line text other (said user asked reply a step w e) (faulty code offset h f n) = absurd (asked_or_faulty line user asked code offset a h)
+one_line old new last line text other (faulty code offset h e n) (said user asked reply a step w f) = absurd (asked_or_faulty MAX_LINE line user asked code offset a h)
+one_line old new last line text other (said user asked reply a step w e) (faulty code offset h f n) = absurd (asked_or_faulty MAX_LINE line user asked code offset a h)
 one_line old new last line text other (said user asked reply a step w e) (said user' asked' reply' b next v f) =
-    let one = asked_once line user user' asked asked' a b in
+    let one = asked_once MAX_LINE line user user' asked asked' a b in
     let second : Step old (events.Say 0 user asked) reply' last =
     subst (λ u. Step old (events.Say 0 u asked) reply' last) (sym one.0) (subst (λ q. Step old (events.Say 0 user' q) reply' last) (sym one.1) next) in
     let both = responded old new last (entry 0 user asked) (verdict_of old user asked) reply reply' step second w v in

@@ -10,7 +10,9 @@ use Rattle.lines_core.specs.Lines.{IsWhole}
 use Rattle.reply_core.specs.Texts.{reply_text, fault_text, unread_text, cut_text}
 use Rattle.system_core.specs.World.{World}
 use Rattle.system_core.specs.Step.{Step}
-use Rattle.script_core.specs.Script.{Asks, IsFaulty, is_refused}
+use Rattle.lexer_core.specs.declared.lexer.TheConstants.{MAX_LINE}
+use Rattle.script_core.specs.Addressed.{Asks, IsFaulty}
+use Rattle.system_core.specs.Replies.{is_refused}
 use Rattle.system_core.specs.declared.machine.event.Event.TheVariants as events
 use Rattle.system_core.specs.declared.machine.event.Reply.{Reply}
 use Rattle.system_core.specs.declared.machine.event.Reply.TheVariants as replies
@@ -28,9 +30,9 @@ records_of reply = []
 -- from old, the line itself is answered in full by the text, and new is the next world: its fault is
 -- told, or the whole reply to what it asks
 pub data AnswersLineInFull (old : World) (line text : List ℕ) (new : World) : Type 0 where
-  faulty : (code : Code) (offset : ℕ) → IsFaulty line code offset
+  faulty : (code : Code) (offset : ℕ) → IsFaulty MAX_LINE line code offset
       → text ≡ fault_text code offset → new ≡ old → AnswersLineInFull old line text new
-  said : (user : User) (asked : Statement) (reply : Reply) → Asks line user asked
+  said : (user : User) (asked : Statement) (reply : Reply) → Asks MAX_LINE line user asked
       → Step old (events.Say 0 user asked) reply new → tells_want reply ≡ false
       → text ≡ reply_text reply ++ records_of reply → AnswersLineInFull old line text new
 

@@ -2,11 +2,9 @@
 -- Of a keeper, `keeps old e new`: from the state old the entry e may be kept, and new is the next;
 -- `fails old e new`: from old it could not be kept whole, and new is the next; `failed k`: an entry
 -- could not be kept. The other names are those of lines_core's Serving.
-use Rattle.std.specs.Prelude.{◌≡◌, ◌⊎◌, ◌<◌, ℕ, Bool, true, false, List, [], ◌∷◌, ◌++◌, length, codes, Option, Result, Ok, Err}
+use Rattle.std.specs.Prelude.{◌≡◌, ◌⊎◌, ℕ, Bool, true, false, List, [], ◌∷◌, ◌++◌, codes, Option, Result, Ok, Err}
 use Rattle.base_core.specs.Full.{IsFull}
 use Rattle.base_core.specs.declared.limits.Limits.{Limits}
-use Rattle.std.proofs.Common.{arith}
-use Rattle.lines_core.specs.declared.line.TheConstants.{LONGEST_LINE}
 use Rattle.lines_core.specs.Endings.{session_fault_text}
 use Rattle.lines_core.specs.Serving.{AnswersAll, Ends}
 use Rattle.lines_core.specs.declared.serving.SessionFault.{SessionFault}
@@ -14,7 +12,7 @@ use Rattle.lines_core.specs.declared.serving.SessionFault.TheVariants as session
 use Rattle.system_core.specs.World.{World, opening}
 use Rattle.system_core.specs.declared.machine.event.Entry.{Entry}
 use Rattle.journal_core.specs.Keeping.{KeepsAll}
-use Rattle.script_core.specs.Script.{AnswersLine, AnswersLine-too_long, Answers, Answers-too_long}
+use Rattle.script_core.specs.Script.{AnswersLine, Answers}
 use Rattle.script_core.specs.declared.scripts.fault.ScriptFault.{ScriptFault}
 use Rattle.script_core.specs.declared.scripts.fault.ScriptFault.TheVariants as faults
 
@@ -76,19 +74,6 @@ pub data AnswersFront {K : Type 0} (keeps fails : K → Entry → K → Type 0) 
       → AnswersLine mid.world line reply new.world
       → FailsNew fails mid new
       → AnswersFront keeps fails failed old lines text new
-
--- lines that are too long are answered alike
-pub AnswersKept-too_long : {K : Type 0} (keeps fails : K → Entry → K → Type 0) (failed : K → Bool)
-    (old new : WithKeeper K) (line other text : List ℕ)
-    → LONGEST_LINE < length line
-    → LONGEST_LINE < length other
-    → AnswersKept keeps fails failed old line text new
-    → AnswersKept keeps fails failed old other text new
-AnswersKept-too_long keeps fails failed old _ line other _ h k (over o) = over o
-AnswersKept-too_long keeps fails failed old new line other text h k (answered o n a kept) =
-    answered o n (Answers-too_long old.world new.world line other text h k a) kept
-AnswersKept-too_long keeps fails failed old new line other _ h k (withheld {text} o n a lost) =
-    withheld o n (AnswersLine-too_long old.world new.world line other text (omega (arith, h)) (omega (arith, k)) a) lost
 
 abbrev pub has_failed : {K : Type 0} → (K → Bool) → WithKeeper K → Bool
 has_failed failed s = failed s.keeper

@@ -1,7 +1,9 @@
+pub mod Addressed
 pub mod Script
 pub mod Replying
 pub mod InFull
 pub mod Keeping
+pub mod TooLong
 pub use Rattle.lines_core.specs.Lines
 pub use Rattle.lines_core.specs.Serving
 pub use Rattle.lines_core.specs.Endings

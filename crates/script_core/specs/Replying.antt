@@ -1,12 +1,14 @@
 -- What is said of a line before it is written, and how that comes of the line.
-use Rattle.std.specs.Prelude.{ℕ, ◌≡◌, Bool, true, false, List, [], ◌++◌, Option, Some, None, Ok}
+use Rattle.std.specs.Prelude.{ℕ, ◌≡◌, Bool, true, false, List, [], ◌++◌, Option, Some, None}
 use Rattle.base_core.specs.declared.name.User.{User}
 use Rattle.reader_core.specs.declared.statement.Statement.{Statement}
 use Rattle.reply_core.specs.Texts.{fault_text, unread_text}
 use Rattle.reply_core.specs.Telling.{TellsReply}
 use Rattle.system_core.specs.World.{World}
 use Rattle.system_core.specs.Step.{Step}
-use Rattle.script_core.specs.Script.{addressed, Asks, IsFaulty, is_refused}
+use Rattle.lexer_core.specs.declared.lexer.TheConstants.{MAX_LINE}
+use Rattle.script_core.specs.Addressed.{Asks, IsFaulty, IsAddressed}
+use Rattle.system_core.specs.Replies.{is_refused}
 use Rattle.script_core.specs.Keeping.{WithKeeper, KeepsNew, FailsNew}
 use Rattle.system_core.specs.declared.machine.event.Event.TheVariants as events
 use Rattle.system_core.specs.declared.machine.event.Entry.{Entry}
@@ -16,13 +18,13 @@ use Rattle.script_core.specs.declared.scripts.answer.Said.TheVariants as says
 
 -- what a line comes to
 abbrev pub ComesTo : World → List ℕ → Said → World → Type 0
-ComesTo old line (says.Fault code offset) new = IsFaulty line code offset × (new ≡ old)
-ComesTo old line says.Unread new =
-    (user : User) × (start : ℕ) × (addressed line ≡ Ok (user, start)) × (new ≡ old)
+ComesTo old line (says.Fault code offset) new =
+    IsFaulty MAX_LINE line code offset × (new ≡ old)
+ComesTo old line says.Unread new = IsAddressed MAX_LINE line × (new ≡ old)
 ComesTo old line (says.Answer reply) new =
     (user : User)
     × (asked : Statement)
-    × Asks line user asked
+    × Asks MAX_LINE line user asked
     × Step old (events.Say 0 user asked) reply new
 
 -- what may be written of it

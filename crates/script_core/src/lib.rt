@@ -31,6 +31,6 @@ pub mod laws;
 mod scripts;
 
 pub use lines_core::SessionFault;
-pub use scripts::address::addressed_up_to;
+pub use scripts::address::read_addressed;
 pub use scripts::fault::{ScriptFault, script_fault_text};
 pub use scripts::server::{script, script_from};

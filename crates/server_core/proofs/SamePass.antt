@@ -6,11 +6,11 @@ use Rattle.session_core.specs.declared.session_end.SessionEnd.TheVariants as ses
 use Rattle.session_core.specs.declared.summary.Summary.{Summary}
 use Rattle.turnstile.specs.Passes.{IsSamePass}
 use Rattle.desk_core.specs.Guarded.{DeskLock, DeskPass}
-use Rattle.session_core.specs.Session.{Progress, EndsBy}
+use Rattle.session_core.specs.Session.{SessionState, EndsBy}
 use Rattle.session_core.proofs.Sessions.{same_pass}
 use Rattle.server_core.specs.Sessions.{Attends, Working, Attended, nobody, another}
 
-ends_same : {K : Type 0} (desk : DeskLock K) (ending : Result (Unit {0}) SessionEnd) (last : Progress K) (old new : DeskPass K) (left left' taken taken' : Option (List ℕ)) → EndsBy desk ending last old new left left' taken taken' → IsSamePass old new
+ends_same : {K : Type 0} (desk : DeskLock K) (ending : Result (Unit {0}) SessionEnd) (last : SessionState K) (old new : DeskPass K) (left left' taken taken' : Option (List ℕ)) → EndsBy desk ending last old new left left' taken taken' → IsSamePass old new
 ends_same desk (Ok x) last old new _ _ _ _ (fine, at) = same_pass last.user old new at.gained
 ends_same desk (Err (session_ends.Session fault)) last old new _ _ _ _ (fine, at) = same_pass last.user old new at.gained
 ends_same desk (Err session_ends.Journal) last old new _ _ _ _ (unkept, inl at) = same_pass last.user old new at.gained

@@ -58,8 +58,8 @@ abbrev pub new_worker : {K : Type 0} → List Entry → DeskLock K → ℕ → W
 new_worker journal desk number = record { pass = new_pass journal desk number; sessions = 0 }
 
 -- he has served nobody yet
-abbrev pub IsIdle : {K : Type 0} → List Entry → DeskLock K → Working K → Type 0
-IsIdle journal desk worker = worker ≡ new_worker journal desk worker.pass.number
+abbrev pub IsNewWorker : {K : Type 0} → List Entry → DeskLock K → Working K → Type 0
+IsNewWorker journal desk worker = worker ≡ new_worker journal desk worker.pass.number
 
 -- since the desk was built, sessions were served through the worker's pass, as many as he counts, and
 -- nothing else was done

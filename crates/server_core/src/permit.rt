@@ -2,8 +2,7 @@
 ghost use Rattle.std.specs.Prelude.{◌≡◌};
 
 use crate::permits::Permits;
-use base_core::Moment;
-use export_core::Gate;
+use base_core::{Gate, Moment};
 use std::cell::Cell;
 use std::io::{Read, Result, Write};
 use std::sync::Wait;

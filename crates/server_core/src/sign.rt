@@ -26,6 +26,7 @@ impl Sign {
         close(listener);
     }
 
+    /// Whether the door was shut.
     pub fn is_closed(&self) -> bool {
         self.is_closed.load(Ordering::SeqCst)
     }

@@ -9,11 +9,11 @@ use Rattle.desk_core.specs.Guarded.{DeskLock, DeskPass, origin_of}
 use Rattle.desk_core.specs.Turns.{asked_by, journal_of, begun_of, Ended}
 use Rattle.system_core.specs.World.{World}
 use Rattle.system_core.specs.declared.machine.event.Entry.{Entry}
-use Rattle.session_core.specs.Checking.{Checks, unchecked, checked, HasChecked, told, cut_off}
+use Rattle.session_core.specs.Checking.{LooksRepeatedly, unchecked, checked, HasChecked, told, cut_off}
 use Rattle.session_core.specs.Gains.{Watches}
 use Rattle.session_core.proofs.Checked.{looks_watches, cut_watches}
 use Rattle.session_core.proofs.Growing.{Watches-refl, Watches-trans}
-use Rattle.server_core.specs.Sessions.{IsOf, IsNew, new_pass, Working, new_worker, IsIdle, Attended, IsWorkers, IsCheckpointers, AreServers, Leaves}
+use Rattle.server_core.specs.Sessions.{IsOf, IsNew, new_pass, Working, new_worker, IsNewWorker, Attended, IsWorkers, IsCheckpointers, AreServers, Leaves}
 use Rattle.server_core.proofs.SamePass.{attended_same}
 
 all_from : {K : Type 0} (journal : List Entry) (desk : DeskLock K) (first count : ℕ) → All (IsNew journal desk) (passes_from journal desk first count)
@@ -24,13 +24,13 @@ pub all_new : {K : Type 0} (journal : List Entry) (desk : DeskLock K) (passes : 
 all_new journal desk passes e = subst (λ z. All (IsNew journal desk) z) (sym e) (all_from journal desk 0 desk.count)
 
 -- since the pass was new, sessions were served through it
-pub worker_of : {K : Type 0} (journal : List Entry) (desk : DeskLock K) (old new : Working K) → IsIdle journal desk old → Attended desk old new → IsWorkers journal desk new
+pub worker_of : {K : Type 0} (journal : List Entry) (desk : DeskLock K) (old new : Working K) → IsNewWorker journal desk old → Attended desk old new → IsWorkers journal desk new
 worker_of journal desk old new idle served =
     let same = attended_same desk old new served in
     let start : old ≡ new_worker journal desk new.pass.number = idle ∙ ap (new_worker journal desk) (sym same.1) in
     subst (λ z. Attended desk z new) start served
 
-checks_watch : {K : Type 0} (desk : DeskLock K) (old new : DeskPass K) → Checks desk old new → Watches old new
+checks_watch : {K : Type 0} (desk : DeskLock K) (old new : DeskPass K) → LooksRepeatedly desk old new → Watches old new
 checks_watch desk old _ unchecked = Watches-refl old
 checks_watch desk old _ (checked reply between new before look) = Watches-trans old between new (checks_watch desk old between before) (looks_watches desk reply between new look)
 

@@ -1,6 +1,6 @@
 //! How passes and tokens are dealt to the threads of a server, and gathered again.
 ghost use Rattle.std.specs.Prelude.{◌≡◌, ◌+◌, ◌≤◌, length, All, IfOk};
-ghost use Rattle.server_core.specs.Sessions.{IsNew, IsIdle, IsWorkers, IsCheckpointers, AreServers};
+ghost use Rattle.server_core.specs.Sessions.{IsNew, IsNewWorker, IsWorkers, IsCheckpointers, AreServers};
 
 use base_core::NoMemory;
 use desk_core::{Desk, Pass};
@@ -24,7 +24,7 @@ pub fn workers_of<K: Keeper + Drop, L: Ledger>(
     requires parts { length passes.items ≤ rest.old.parts }
     requires nothing { rest.old.amount ≡ 0 }
     ensures idle { IfOk result
-        (λ workers. All (IsIdle begun.now.value.journal desk.now) workers.items) }
+        (λ workers. All (IsNewWorker begun.now.value.journal desk.now) workers.items) }
     ensures parts { IfOk result
         (λ workers. rest.new.parts + length passes.items ≡ rest.old.parts) }
     ensures nothing { rest.new.amount ≡ 0 }

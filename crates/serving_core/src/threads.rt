@@ -1,10 +1,10 @@
 //! The threads of a server.
 ghost use Rattle.std.specs.Prelude.{◌≡◌, All, IfOk};
 ghost use Rattle.std.specs.Thread.{IsSend, IsSync};
-ghost use Rattle.server_core.specs.Sessions.{IsNew, IsIdle, IsWorkers, IsCheckpointers};
+ghost use Rattle.server_core.specs.Sessions.{IsNew, IsNewWorker, IsWorkers, IsCheckpointers};
 
+use base_core::NoGate;
 use desk_core::{Desk, Pass};
-use export_core::NoGate;
 use journal_core::Keeper;
 use server_core::{Door, Log, Permits, ServeFault, Sign, Worker, work};
 use session_core::checkpointer;
@@ -74,7 +74,7 @@ fn attend<K: Keeper + Drop, L: Ledger, R: Wait + Clock, G: Log>(
     idle: Option<Duration>,
     log: &G,
 ) -> Worker<K, L>
-    requires { IsIdle begun.now.value.journal desk.now worker }
+    requires { IsNewWorker begun.now.value.journal desk.now worker }
     ensures { IsWorkers begun.now.value.journal desk.now result }
 {
     work(
@@ -137,7 +137,7 @@ where
     L: Ledger + Send + Sync,
     R: Threads + Wait + Clock + Sync,
     G: Log + Sync,
-    requires workers { All (IsIdle begun.now.value.journal desk.now) workers.items }
+    requires workers { All (IsNewWorker begun.now.value.journal desk.now) workers.items }
     requires own { IsNew begun.now.value.journal desk.now own }
     ensures workers { IfOk result
         (λ b. All (IsWorkers begun.now.value.journal desk.now) b.0.items) }
@@ -149,7 +149,8 @@ where
         rt,
         move |scope| -> Result<(Vec<Worker<K, L>>, Pass<K>), ServeFault>
             requires crosses { IsSend K.row × IsSync R.row × IsSync G.row }
-            requires workers { All (IsIdle begun.now.value.journal desk.now) dealt.workers.items }
+            requires workers { All (IsNewWorker begun.now.value.journal desk.now)
+                dealt.workers.items }
             requires own { IsNew begun.now.value.journal desk.now dealt.own }
             ensures workers { IfOk result
                 (λ b. All (IsWorkers begun.entry.now.value.journal desk.entry.now) b.0.items) }
@@ -175,7 +176,7 @@ where
                 match scope.spawn_with(
                     Works(desk, begun),
                     move || -> Worker<K, L>
-                        requires { IsIdle begun.now.value.journal desk.now worker }
+                        requires { IsNewWorker begun.now.value.journal desk.now worker }
                         ensures { IsWorkers begun.entry.now.value.journal desk.entry.now result }
                     {
                         attend(

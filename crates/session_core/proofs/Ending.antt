@@ -7,7 +7,7 @@ use Rattle.lines_core.specs.declared.serving.SessionFault.{SessionFault}
 use Rattle.lines_core.specs.declared.serving.SessionFault.TheVariants as session_faults
 use Rattle.desk_core.specs.Guarded.{DeskLock, DeskPass}
 use Rattle.session_core.specs.declared.session_end.SessionEnd.TheVariants as session_ends
-use Rattle.session_core.specs.Session.{Progress, EndsAt, EndsBy, end_of}
+use Rattle.session_core.specs.Session.{SessionState, EndsAt, EndsBy, end_of}
 
 -- a test has one outcome
 pub never-both : {A : Type 0} (b : Bool) → b ≡ true → b ≡ false → A
@@ -28,7 +28,7 @@ pub not-read : (ending : Result (Unit {0}) SessionFault) → (ending ≡ Ok tt) 
 not-read ending (inl e) r = cc
 not-read ending (inr e) r = cc
 
-module _ {K : Type 0} (desk : DeskLock K) (last : Progress K) (old new : DeskPass K) (left left' taken taken' : Option (List ℕ)) where
+module _ {K : Type 0} (desk : DeskLock K) (last : SessionState K) (old new : DeskPass K) (left left' taken taken' : Option (List ℕ)) where
   pub ends-by : (unkept : Bool) (served : Result (Unit {0}) SessionFault) → last.unkept ≡ unkept → EndsAt desk served last old new left left' taken taken'
       → (unkept ≡ true → (served ≡ Ok tt) ⊎ (served ≡ Err session_faults.Write)) → EndsBy desk (end_of unkept served) last old new left left' taken taken'
   ends-by true served is ends how = (is, either-end (λ r. EndsAt desk r last old new left left' taken taken') served (how refl) ends)

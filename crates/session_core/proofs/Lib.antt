@@ -1,4 +1,3 @@
-pub mod Pieces
 pub mod Ending
 pub mod Telling
 pub mod Growing

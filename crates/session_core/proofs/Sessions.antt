@@ -11,7 +11,7 @@ use Rattle.lines_core.proofs.Seen.{ends-seen}
 use Rattle.turnstile.specs.Passes.{IsSamePass}
 use Rattle.desk_core.specs.Guarded.{DeskLock, DeskPass}
 use Rattle.session_core.specs.Gains.{Gains}
-use Rattle.session_core.specs.Session.{Progress, progress, opened, AnswersUser, faulty, said, unread, Withholds, AnswersSession, ended, greeted, dismissed, served, withheld, is_over, GainsOf}
+use Rattle.session_core.specs.Session.{SessionState, progress, opened, AnswersUser, faulty, said, unread, Withholds, AnswersSession, ended, greeted, dismissed, served, withheld, is_over, GainsOf}
 use Rattle.session_core.proofs.Growing.{said_gains, Gains-refl, Gains-trans}
 
 answered_gains : {K : Type 0} (desk : DeskLock K) (user : User) (line text : List ℕ) (at : Option Moment) (old new : DeskPass K) → AnswersUser desk user line old text at new → Gains user old new
@@ -32,7 +32,7 @@ gained_greeted start user found old e m =
     let same : old ≡ start = subst (λ z. GainsOf z start old) e m in
     subst (λ z. Gains user start z) (sym same) (Gains-refl user start)
 
-gained_step : {K : Type 0} (desk : DeskLock K) (start : DeskPass K) (old new : Progress K) (line text : List ℕ) → GainsOf old.user start old.pass → AnswersSession desk old line text new → GainsOf new.user start new.pass
+gained_step : {K : Type 0} (desk : DeskLock K) (start : DeskPass K) (old new : SessionState K) (line text : List ℕ) → GainsOf old.user start old.pass → AnswersSession desk old line text new → GainsOf new.user start new.pass
 gained_step desk start old _ line _ m (ended o) = m
 gained_step desk start old _ line _ m (greeted {user} o n e) = gained_greeted start user old.user old.pass n m
 gained_step desk start old _ line _ m (dismissed o n e) = m
@@ -40,7 +40,7 @@ gained_step desk start old _ line text m (served {at = at} {pass = pass} user o 
 gained_step desk start old _ line _ m (withheld {pass = pass} user o n w) = gained_withheld desk start user old.user line old.pass pass n m w
 
 -- a session of which a reply was withheld is over
-over_step : {K : Type 0} (desk : DeskLock K) (old new : Progress K) (line text : List ℕ) → (old.unkept ≡ true → old.over ≡ true) → AnswersSession desk old line text new → new.unkept ≡ true → new.over ≡ true
+over_step : {K : Type 0} (desk : DeskLock K) (old new : SessionState K) (line text : List ℕ) → (old.unkept ≡ true → old.over ≡ true) → AnswersSession desk old line text new → new.unkept ≡ true → new.over ≡ true
 over_step desk old _ line _ m (ended o) = m
 over_step desk old _ line _ m (greeted {user} o n e) = m
 over_step desk old _ line _ m (dismissed o n e) = λ _. refl
@@ -53,7 +53,7 @@ same_pass None old new m = (ap (λ z. z.lock) m, ap (λ z. z.number) m)
 
 -- what a session's server told of its fields, told of its progress
 module _ {K X N D : Type 0} (user : X → Option User) (over unkept : X → Bool) (answered : X → ℕ) (moment : X → Option Moment) (pass : X → DeskPass K) (name : X → N) (desk : X → D) (lock : D → DeskLock K) where
-  abbrev pub progress_of : X → Progress K
+  abbrev pub progress_of : X → SessionState K
   progress_of x = progress (user x) (over x) (unkept x) (answered x) (moment x) (pass x)
 
   abbrev pub Served : X → List ℕ → List ℕ → X → Type 0

@@ -4,20 +4,16 @@ use Rattle.base_core.specs.declared.value.Moment.{Moment}
 use Rattle.base_core.specs.declared.lack.Lack.TheVariants as lacks
 use Rattle.turnstile.specs.Passes.{IsSamePass}
 use Rattle.desk_core.specs.Guarded.{DeskLock, DeskPass}
+use Rattle.system_core.specs.Replies.{is_refused_memory}
 use Rattle.system_core.specs.declared.machine.event.Reply.{Reply}
 use Rattle.system_core.specs.declared.machine.event.Reply.TheVariants as replies
 use Rattle.desk_core.specs.declared.object.Ask.TheVariants as asks
 use Rattle.desk_core.specs.Turns.{Answered, Took}
 
--- the reply says that memory was refused
-abbrev pub is_memory_refused : Reply → Bool
-is_memory_refused (replies.Refused at lacks.NoMemory) = true
-is_memory_refused _ = false
-
 -- One look of the checkpointer: a step of the active checkpoint. Where the step was refused memory,
 -- and only there, the checkpoint is given up in the next turn.
 pub data Looks {K : Type 0} (desk : DeskLock K) (reply : Reply) (old new : DeskPass K) : Type 0 where
-  stepped : is_memory_refused reply ≡ false
+  stepped : is_refused_memory reply ≡ false
       → IsSamePass old new
       → Answered desk asks.Step reply old new
       → Looks desk reply old new
@@ -29,12 +25,13 @@ pub data Looks {K : Type 0} (desk : DeskLock K) (reply : Reply) (old new : DeskP
       → Looks desk reply old new
 
 -- looks, one after another, from what the pass knew to what it knows
-pub data Checks {K : Type 0} (desk : DeskLock K) (old : DeskPass K) : DeskPass K → Type 0 where
-  unchecked : Checks desk old old
+pub data LooksRepeatedly {K : Type 0} (desk : DeskLock K) (old : DeskPass K)
+    : DeskPass K → Type 0 where
+  unchecked : LooksRepeatedly desk old old
   checked : (reply : Reply) (between new : DeskPass K)
-      → Checks desk old between
+      → LooksRepeatedly desk old between
       → Looks desk reply between new
-      → Checks desk old new
+      → LooksRepeatedly desk old new
 
 -- A look of which a reply was withheld: that of the step; or that of the turn in which the checkpoint
 -- was to be given up.
@@ -49,8 +46,8 @@ pub data CutOff {K : Type 0} (desk : DeskLock K) (reply : Reply) (old new : Desk
 
 -- looks, and behind them perhaps one of which a reply was withheld
 pub data HasChecked {K : Type 0} (desk : DeskLock K) (old new : DeskPass K) : Type 0 where
-  told : Checks desk old new → HasChecked desk old new
+  told : LooksRepeatedly desk old new → HasChecked desk old new
   cut_off : (reply : Reply) (between : DeskPass K)
-      → Checks desk old between
+      → LooksRepeatedly desk old between
       → CutOff desk reply between new
       → HasChecked desk old new

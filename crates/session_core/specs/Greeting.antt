@@ -17,8 +17,8 @@ abbrev pub first_word : List ℕ → List ℕ
 first_word bytes = take (prefix_len is_word_byte bytes) bytes
 
 -- what stands behind them
-abbrev pub behind_word : List ℕ → List ℕ
-behind_word bytes = drop (prefix_len is_word_byte bytes) bytes
+abbrev pub behind_first_word : List ℕ → List ℕ
+behind_first_word bytes = drop (prefix_len is_word_byte bytes) bytes
 
 -- what stands behind the spaces that bytes begin with
 abbrev pub behind_spaces : List ℕ → List ℕ
@@ -27,7 +27,7 @@ behind_spaces bytes = drop (prefix_len is_space bytes) bytes
 -- the name that bytes begin with, where nothing but spaces stands behind it
 abbrev pub name_alone : List ℕ → Option Name
 name_alone bytes =
-    if list_all is_space (behind_word bytes) then name_of (first_word bytes) else None
+    if list_all is_space (behind_first_word bytes) then name_of (first_word bytes) else None
 
 -- the word is USER, in any case
 abbrev pub is_user_word : List ℕ → Bool
@@ -36,7 +36,8 @@ is_user_word word = bytes_eq (folded word) (codes "user")
 -- the name that a line gives: the word USER, spaces, the name, and nothing but spaces
 abbrev pub given_name : List ℕ → Option Name
 given_name line =
-    if is_user_word (first_word line) then name_alone (behind_spaces (behind_word line)) else None
+    if is_user_word (first_word line) then name_alone (behind_spaces (behind_first_word line))
+    else None
 
 abbrev pub user_or_fault : Option Name → Result User (Code × ℕ)
 user_or_fault (Some name) = Ok (record { 0 = name })

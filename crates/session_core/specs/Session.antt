@@ -7,6 +7,7 @@ use Rattle.reader_core.specs.Language.{Spells, IsReadFault}
 use Rattle.reader_core.specs.declared.statement.Statement.{Statement}
 use Rattle.lines_core.specs.Serving.{Ends}
 use Rattle.lines_core.specs.declared.serving.SessionFault.{SessionFault}
+use Rattle.system_core.specs.Replies.{told_moment}
 use Rattle.turnstile.specs.Passes.{IsSamePass}
 use Rattle.system_core.specs.declared.machine.event.Reply.{Reply}
 use Rattle.system_core.specs.declared.machine.event.Reply.TheVariants as replies
@@ -23,20 +24,6 @@ use Rattle.lines_core.specs.declared.serving.SessionFault.TheVariants as session
 use Rattle.session_core.specs.Greeting.{greeting}
 use Rattle.session_core.specs.Gains.{Gains}
 
--- the moment that a reply bears
-abbrev pub moment_of : Reply → Option Moment
-moment_of (replies.Done at) = Some at
-moment_of (replies.Rows at rows) = Some at
-moment_of (replies.Listed at entries) = Some at
-moment_of (replies.Begun number at) = Some at
-moment_of (replies.Export ticket) = Some ticket.at
-moment_of (replies.Denied at lack) = Some at
-moment_of (replies.Refused at lack) = Some at
-moment_of replies.Idle = None
-moment_of (replies.Stepped number left) = None
-moment_of (replies.Finished number) = None
-moment_of (replies.Abandoned number) = None
-
 -- A line of a user at a desk: this text, which bears this moment, may be written for it, and the pass
 -- knows this afterwards. The last is out of memory, where the line is not too long, so that it had to
 -- be read.
@@ -50,7 +37,7 @@ pub data AnswersUser {K : Type 0} (desk : DeskLock K) (user : User) (line : List
       → IsSamePass old new
       → Answered desk (asks.Say (record { user = user; statement = asked })) reply old new
       → TellsReply reply text
-      → AnswersUser desk user line old text (moment_of reply) new
+      → AnswersUser desk user line old text (told_moment reply) new
   unread : length line ≤ MAX_LINE → AnswersUser desk user line old unread_text None old
 
 -- the last moment that was told, behind a reply that bears this one, if it bears one
@@ -78,7 +65,7 @@ pub record Withholds {K : Type 0} (desk : DeskLock K) (user : User) (line : List
 -- How far a session has come: its user, once the first line has named one; whether it is over;
 -- whether a reply was withheld; how many lines came after the first; the moment of the last of their
 -- replies that bore one; and what its pass knows.
-pub record Progress (K : Type 0) : Type 0 where
+pub record SessionState (K : Type 0) : Type 0 where
   pub user : Option User
   pub over : Bool
   pub unkept : Bool
@@ -87,7 +74,7 @@ pub record Progress (K : Type 0) : Type 0 where
   pub pass : DeskPass K
 
 abbrev pub progress : {K : Type 0}
-    → Option User → Bool → Bool → ℕ → Option Moment → DeskPass K → Progress K
+    → Option User → Bool → Bool → ℕ → Option Moment → DeskPass K → SessionState K
 progress user over unkept answered moment pass =
     record {
       user = user;
@@ -99,7 +86,7 @@ progress user over unkept answered moment pass =
     }
 
 -- a session of which no line was answered yet
-abbrev pub opened : {K : Type 0} → DeskPass K → Progress K
+abbrev pub opened : {K : Type 0} → DeskPass K → SessionState K
 opened pass = progress None false false 0 None pass
 
 -- what is written for a first line that names the user
@@ -112,8 +99,8 @@ one_more n = min (n + 1) (2 ^ 64 - 1)
 
 -- A line of a session: the first is greeted, or else it ends the session; each later one is its
 -- user's, and ends the session if its reply is withheld. Once the session is over nothing is written.
-pub data AnswersSession {K : Type 0} (desk : DeskLock K) (old : Progress K) (line : List ℕ)
-    : List ℕ → Progress K → Type 0 where
+pub data AnswersSession {K : Type 0} (desk : DeskLock K) (old : SessionState K) (line : List ℕ)
+    : List ℕ → SessionState K → Type 0 where
   ended : old.over ≡ true → AnswersSession desk old line [] old
   greeted : {user : User} → old.over ≡ false → old.user ≡ None → greeting line ≡ Ok user
       → AnswersSession desk old line (welcome_text user) (record old { user = Some user })
@@ -136,7 +123,7 @@ pub data AnswersSession {K : Type 0} (desk : DeskLock K) (old : Progress K) (lin
       → AnswersSession desk old line []
       (record old { pass = pass; answered = one_more old.answered; over = true; unkept = true })
 
-abbrev pub is_over : {K : Type 0} → Progress K → Bool
+abbrev pub is_over : {K : Type 0} → SessionState K → Bool
 is_over progress = progress.over
 
 -- what the session's pass gained: entries of its user, and nothing before a line has named him
@@ -146,7 +133,7 @@ GainsOf None old new = new ≡ old
 
 -- how a session ends: its lines were answered one after another up to here
 pub record EndsAt {K : Type 0} (desk : DeskLock K) (ending : Result (Unit {0}) SessionFault)
-    (last : Progress K) (old new : DeskPass K) (left left' taken taken' : Option (List ℕ))
+    (last : SessionState K) (old new : DeskPass K) (left left' taken taken' : Option (List ℕ))
     : Type 0 where
   pub ends : Ends (AnswersSession desk) is_over ending (opened old) last left left' taken taken'
   pub pass_is : last.pass ≡ new
@@ -160,7 +147,7 @@ end_of false (Err fault) = Err (session_ends.Session fault)
 
 -- The end is that of the journal exactly where a reply was withheld; then the session was over, or the
 -- writer failed besides.
-abbrev pub EndsBy : {K : Type 0} → DeskLock K → Result (Unit {0}) SessionEnd → Progress K
+abbrev pub EndsBy : {K : Type 0} → DeskLock K → Result (Unit {0}) SessionEnd → SessionState K
     → DeskPass K → DeskPass K
     → Option (List ℕ) → Option (List ℕ) → Option (List ℕ) → Option (List ℕ) → Type 0
 EndsBy desk (Ok x) last old new left left' taken taken' =
@@ -176,7 +163,7 @@ EndsBy desk (Err session_ends.Journal) last old new left left' taken taken' =
 -- moment of the last reply that bore one, as they are where its lines were answered up to.
 pub record EndsSession {K : Type 0} (desk : DeskLock K) (summary : Summary)
     (old new : DeskPass K) (left left' taken taken' : Option (List ℕ)) : Type 0 where
-  pub last : Progress K
+  pub last : SessionState K
   pub user_is : summary.user ≡ last.user
   pub lines_are : summary.lines ≡ last.answered
   pub moment_is : summary.moment ≡ last.moment

@@ -12,32 +12,32 @@ use Rattle.lexer_core.specs.Lexing.{long_line, behind}
 use Rattle.reader_core.specs.Language.{IsReadFault, lexical, nothing, ungrammatical}
 use Rattle.desk_core.specs.Guarded.{DeskLock, DeskPass}
 use Rattle.session_core.specs.Greeting.{greeting}
-use Rattle.session_core.specs.Session.{Progress, AnswersUser, faulty, said, unread, AnswersSession, ended, greeted, dismissed, served, withheld}
+use Rattle.session_core.specs.Session.{SessionState, AnswersUser, faulty, said, unread, AnswersSession, ended, greeted, dismissed, served, withheld}
 
 greeting-too_long : (line : List ℕ) → MAX_LINE < length line → greeting line ≡ Err (faults.TooLong, MAX_LINE)
 greeting-too_long line h = grind (arith, nat_tests)
 
-fault-too_long : (line other : List ℕ) (code : Code) (offset : ℕ)
+read_fault-too_long : (line other : List ℕ) (code : Code) (offset : ℕ)
     → MAX_LINE < length line
     → MAX_LINE < length other
     → IsReadFault line code offset
     → IsReadFault other code offset
-fault-too_long line other _ _ h k (lexical (long_line l)) = lexical (long_line k)
-fault-too_long line other _ _ h k (lexical (behind short lexed fails)) = absurd (omega (arith, h, short))
-fault-too_long line other _ _ h k (nothing are) = let s = are.short in absurd (omega (arith, h, s))
-fault-too_long line other _ _ h k (ungrammatical are fault) = let s = are.short in absurd (omega (arith, h, s))
+read_fault-too_long line other _ _ h k (lexical (long_line l)) = lexical (long_line k)
+read_fault-too_long line other _ _ h k (lexical (behind short lexed fails)) = absurd (omega (arith, h, short))
+read_fault-too_long line other _ _ h k (nothing are) = let s = are.short in absurd (omega (arith, h, s))
+read_fault-too_long line other _ _ h k (ungrammatical are fault) = let s = are.short in absurd (omega (arith, h, s))
 
 AnswersUser-too_long : {K : Type 0} (desk : DeskLock K) (user : User) (old new : DeskPass K) (line other text : List ℕ) (at : Option Moment)
     → MAX_LINE < length line
     → MAX_LINE < length other
     → AnswersUser desk user line old text at new
     → AnswersUser desk user other old text at new
-AnswersUser-too_long desk user old _ line other _ _ h k (faulty {code} {offset} f) = faulty (fault-too_long line other code offset h k f)
+AnswersUser-too_long desk user old _ line other _ _ h k (faulty {code} {offset} f) = faulty (read_fault-too_long line other code offset h k f)
 AnswersUser-too_long desk user old new line other text _ h k (said asked reply spelled same a tells) =
     let s = spelled.says.short in absurd (omega (arith, h, s))
 AnswersUser-too_long desk user old _ line other _ _ h k (unread s) = absurd (omega (arith, h, s))
 
-pub AnswersSession-too_long : {K : Type 0} (desk : DeskLock K) (old new : Progress K) (line other text : List ℕ)
+pub AnswersSession-too_long : {K : Type 0} (desk : DeskLock K) (old new : SessionState K) (line other text : List ℕ)
     → LONGEST_LINE < length line
     → LONGEST_LINE < length other
     → AnswersSession desk old line text new

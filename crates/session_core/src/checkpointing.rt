@@ -1,12 +1,11 @@
 //! The checkpointer.
 ghost use Rattle.std.specs.Prelude.{◌≡◌, ◌^◌, Some, IfOk, OnOk, OnErr, IsErrOf};
 ghost use Rattle.system_core.specs.declared.machine.event.Reply.{Reply};
-ghost use Rattle.session_core.specs.Checking.{Looks, CutOff, Checks, HasChecked};
+ghost use Rattle.session_core.specs.Checking.{Looks, CutOff, LooksRepeatedly, HasChecked};
 ghost use Rattle.session_core.specs.Gains.{Watches};
 
-use base_core::Lack;
+use base_core::{Gate, Lack};
 use desk_core::{Desk, Pass, Unkept};
-use export_core::Gate;
 use journal_core::Keeper;
 use std::sync::Wait;
 use std::sync::atomic::{AtomicBool, Ordering};
@@ -62,10 +61,10 @@ pub fn checkpointer<K: Keeper + Drop, R: Wait + Clock, G: Gate>(
 ) -> Result<(), CheckFault>
     requires { pass.old.lock ≡ Some desk.now }
     ensures checks { HasChecked desk.now pass.old pass.new }
-    ensures told { OnOk result (Checks desk.now pass.old pass.new) }
+    ensures told { OnOk result (LooksRepeatedly desk.now pass.old pass.new) }
     ensures watches { Watches pass.old pass.new }
     ensures worn { IsErrOf result CheckFault.Worn
-        → Checks desk.now pass.old pass.new × (pass.new.drawn ≡ 2 ^ 62) }
+        → LooksRepeatedly desk.now pass.old pass.new × (pass.new.drawn ≡ 2 ^ 62) }
 {
     let mut pause = SHORTEST_MILLIS;
     for _ in rt.forever() {

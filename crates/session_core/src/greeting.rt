@@ -1,7 +1,7 @@
 //! Whom the first line of a session names.
 ghost use Rattle.std.specs.Prelude.{◌≡◌, ◌≤◌, length};
 ghost use Rattle.std.specs.List.{list_all, prefix_len};
-ghost use Rattle.session_core.specs.Greeting.{is_space, is_user_word, first_word, behind_word, behind_spaces, name_alone, given_name, greeting};
+ghost use Rattle.session_core.specs.Greeting.{is_space, is_user_word, first_word, behind_first_word, behind_spaces, name_alone, given_name, greeting};
 
 use base_core::{Name, User};
 use lexer_core::{Code, MAX_LINE, word_len};
@@ -17,7 +17,7 @@ fn is_user_word(word: &[u8]) -> bool
 /// The letters, digits and `_` at the front, and what stands behind them.
 fn split_word(bytes: &[u8]) -> (&[u8], &[u8])
     ensures word { result.0.now ≡ first_word bytes.now }
-    ensures behind { result.1.now ≡ behind_word bytes.now }
+    ensures behind { result.1.now ≡ behind_first_word bytes.now }
 {
     bytes.split_at(word_len(bytes))
 }

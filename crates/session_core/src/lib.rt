@@ -26,7 +26,7 @@
 //! A line is read before the turn, and the reply is written after it: a turn is the core's one
 //! step, and neither reads, writes nor takes memory for a text. The records of an export are read
 //! from the image that its ticket shares, outside every turn, so that a client that reads slowly
-//! holds nobody up but itself. A [`Gate`](export_core::Gate) is called before each of them, and
+//! holds nobody up but itself. A [`Gate`](base_core::Gate) is called before each of them, and
 //! between the steps of a checkpoint, so that a test can hold them there. It is told too of the
 //! user whom a session names, and of each line that was answered, so that it can let others run.
 //!

@@ -3,35 +3,16 @@ ghost use Rattle.std.specs.Prelude.{◌≡◌, ◌≤◌, Some, Ok, Err, true, f
 ghost use Rattle.lexer_core.specs.declared.lexer.TheConstants.{MAX_LINE};
 ghost use Rattle.base_core.specs.Streams.{Writes, WritesFrontOf};
 ghost use Rattle.turnstile.specs.Passes.{IsSamePass};
-ghost use Rattle.session_core.specs.Session.{moment_of, last_moment, AnswersNoted, Withholds};
+ghost use Rattle.session_core.specs.Session.{last_moment, AnswersNoted, Withholds};
 
-use base_core::{Broken, Moment, Sink, User};
+use base_core::{Broken, Gate, Moment, Sink, User};
 use desk_core::{Desk, Pass, Unkept};
-use export_core::Gate;
 use journal_core::Keeper;
 use lexer_core::{Code, MAX_LINE, ReadFault, Token};
 use reader_core::read_with;
 use reply_core::{ReplyBuffer, write_fault, write_reply, write_unread};
 use std::alloc::Global;
 use std::sync::Wait;
-use system_core::Reply;
-
-/// The moment that a reply bears.
-fn moment_of(reply: &Reply) -> Option<Moment>
-    ensures { result ≡ moment_of reply.now }
-{
-    match reply {
-        Reply::Done { at }
-        | Reply::Rows { at, .. }
-        | Reply::Listed { at, .. }
-        | Reply::Begun { at, .. }
-        | Reply::Denied { at, .. }
-        | Reply::Refused { at, .. } => Some(*at),
-        Reply::Export(ticket) => Some(ticket.at()),
-        Reply::Idle | Reply::Stepped { .. } | Reply::Finished { .. } | Reply::Abandoned { .. } =>
-            None,
-    }
-}
 
 /// The last moment that was told, behind a reply that bears this one, if it bears one.
 fn last_moment(at: Option<Moment>, before: Option<Moment>) -> Option<Moment>
@@ -100,7 +81,7 @@ pub fn serve_line<K: Keeper + Drop, R: Wait, W: Sink, G: Gate>(
                 Ok(reply) => reply,
                 Err(Unkept) => return Ok(Err(Unkept)),
             };
-            let at = moment_of(&reply);
+            let at = reply.moment();
             *moment = last_moment(at, *moment);
             let written = write_reply(buffer, reply, writer, gate);
             tell(gate, at, written)

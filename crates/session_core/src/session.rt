@@ -1,7 +1,6 @@
 //! A session: a line that names a user, and then lines of his.
 ghost use Rattle.std.specs.Prelude.{◌≡◌, ◌↔◌, Some, None, true, false, OnOk, OnErr, MatchResult, IsErrOf};
-ghost use Rattle.std.specs.Io.KnownBytes.{Appends};
-ghost use Rattle.base_core.specs.Streams.{Writes, WritesFront, WritesFrontOf};
+ghost use Rattle.base_core.specs.Streams.{MayWrite, MayWriteText};
 ghost use Rattle.turnstile.specs.Passes.{IsSamePass};
 ghost use Rattle.session_core.specs.Session.{AnswersSession, progress, welcome_text, end_of, EndsSession};
 
@@ -9,9 +8,8 @@ use crate::greeting::greeting;
 use crate::line::serve_line;
 use crate::session_end::SessionEnd;
 use crate::summary::Summary;
-use base_core::{Broken, Moment, Sink, Source, User, write_all};
+use base_core::{Broken, Gate, Moment, Sink, Source, User, write_all};
 use desk_core::{Desk, Pass, Unkept};
-use export_core::Gate;
 use journal_core::Keeper;
 use lexer_core::Token;
 use lines_core::{LineServer, SessionFault, serve};
@@ -39,12 +37,7 @@ struct Session<'a, K: Keeper + Drop, R, G> {
 
 fn write_welcome<W: Sink>(writer: &mut W, user: &User) -> Result<(), Broken>
     requires { W.failed writer.old ≡ false }
-    ensures failed { MatchResult result (λ _. W.failed writer.new ≡ false)
-        (λ _. W.failed writer.new ≡ true) }
-    ensures ok { OnOk result
-        (Appends (W.taken writer.old) (W.taken writer.new) (welcome_text user.now)) }
-    ensures err { OnErr result
-        (WritesFront (W.taken writer.old) (W.taken writer.new) (welcome_text user.now)) }
+    ensures { MayWriteText W.failed W.taken (welcome_text user.now) result writer.old writer.new }
 {
     write_all(writer, b"welcome ")?;
     write_all(writer, user.0.as_bytes())?;
@@ -56,24 +49,15 @@ impl<'a, K: Keeper + Drop, R: Wait, G: Gate> Session<'a, K, R, G> {
     fn greet<W: Sink>(&mut self, writer: &mut W, line: &[u8]) -> Result<(), Broken>
         requires first { (self.old.over ≡ false) × (self.old.user ≡ None) }
         requires sink { W.failed writer.old ≡ false }
-        ensures failed { MatchResult result (λ _. W.failed writer.new ≡ false)
-            (λ _. W.failed writer.new ≡ true) }
         ensures holds { (self.new.pass.ghost_name ≡ self.old.pass.ghost_name)
             × (self.new.desk ≡ self.old.desk) }
-        ensures ok { OnOk result (Writes
+        ensures text { MayWrite W.failed W.taken
             (λ text. AnswersSession self.old.desk.now
             (progress self.old.user self.old.over self.old.unkept self.old.answered
             self.old.moment self.old.pass.now) line.now text
             (progress self.new.user self.new.over self.new.unkept self.new.answered
             self.new.moment self.new.pass.now))
-            (W.taken writer.old) (W.taken writer.new)) }
-        ensures err { OnErr result (WritesFrontOf
-            (λ text. AnswersSession self.old.desk.now
-            (progress self.old.user self.old.over self.old.unkept self.old.answered
-            self.old.moment self.old.pass.now) line.now text
-            (progress self.new.user self.new.over self.new.unkept self.new.answered
-            self.new.moment self.new.pass.now))
-            (W.taken writer.old) (W.taken writer.new)) }
+            result writer.old writer.new }
     {
         match greeting(line) {
             Ok(user) => {
@@ -92,24 +76,15 @@ impl<'a, K: Keeper + Drop, R: Wait, G: Gate> Session<'a, K, R, G> {
     fn attend<W: Sink>(&mut self, writer: &mut W, user: User, line: &[u8]) -> Result<(), Broken>
         requires later { (self.old.over ≡ false) × (self.old.user ≡ Some user) }
         requires sink { W.failed writer.old ≡ false }
-        ensures failed { MatchResult result (λ _. W.failed writer.new ≡ false)
-            (λ _. W.failed writer.new ≡ true) }
         ensures holds { (self.new.pass.ghost_name ≡ self.old.pass.ghost_name)
             × (self.new.desk ≡ self.old.desk) }
-        ensures ok { OnOk result (Writes
+        ensures text { MayWrite W.failed W.taken
             (λ text. AnswersSession self.old.desk.now
             (progress self.old.user self.old.over self.old.unkept self.old.answered
             self.old.moment self.old.pass.now) line.now text
             (progress self.new.user self.new.over self.new.unkept self.new.answered
             self.new.moment self.new.pass.now))
-            (W.taken writer.old) (W.taken writer.new)) }
-        ensures err { OnErr result (WritesFrontOf
-            (λ text. AnswersSession self.old.desk.now
-            (progress self.old.user self.old.over self.old.unkept self.old.answered
-            self.old.moment self.old.pass.now) line.now text
-            (progress self.new.user self.new.over self.new.unkept self.new.answered
-            self.new.moment self.new.pass.now))
-            (W.taken writer.old) (W.taken writer.new)) }
+            result writer.old writer.new }
     {
         self.answered = self.answered.saturating_add(1);
         let told = serve_line(

@@ -8,7 +8,7 @@ use Rattle.base_core.specs.declared.privilege.Atom.{Atom}
 use Rattle.base_core.specs.declared.limits.Limits.{Limits}
 use Rattle.reader_core.specs.declared.statement.Statement.{Statement}
 use Rattle.reader_core.specs.declared.statement.Statement.TheVariants as statements
-use Rattle.tables_core.specs.Contents.{Contents, table_of}
+use Rattle.tables_core.specs.Contents.{Table, table_of}
 use Rattle.grants_core.specs.declared.grant.Change.{Change}
 use Rattle.grants_core.specs.declared.grant.Change.TheVariants as change
 use Rattle.grants_core.specs.Owners.{owner_of}
@@ -18,7 +18,7 @@ use Rattle.grants_core.specs.Marks.{may_grant_after}
 use Rattle.grants_core.specs.Lawful.{AreLawful}
 use Rattle.monitor_core.specs.Verdict.{is_table, verdict, atoms_at}
 use Rattle.system_core.specs.declared.machine.event.Entry.{Entry}
-use Rattle.system_core.specs.Journal.{contents, tables_with, change_of, changes, state_of, verdict_at, IsLawfulFrom, IsLawful}
+use Rattle.system_core.specs.Journal.{tables_at, tables_with, change_of, changes, state_of, verdict_at, IsLawfulFrom, IsLawful}
 use Rattle.system_core.specs.Exports.{journal_at}
 use Rattle.system_core.proofs.TableLemmas.{is_table-after}
 use Rattle.system_core.proofs.Growing.{On, changes-more, never_granted, granted_on}
@@ -61,81 +61,63 @@ granted_by (change.Revoke by atoms whom) = None
 granted_by (change.RevokeOption by atoms whom) = None
 granted_by change.Other = None
 
-module _ (l : Limits) (journal : List Entry) (user : User) (lawful : IsLawful l journal) (on : On (contents journal) (granted (changes journal))) where
+module _ (l : Limits) (journal : List Entry) (user : User) (lawful : IsLawful l journal) (on : On (tables_at journal) (granted (changes journal))) where
   -- the table is new
   abbrev Fresh : Name → Type 0
   Fresh table = (owner_of (owners_after (changes journal)) table ≡ None) × (is_granted (changes journal) table ≡ false)
 
-  is_fresh : (table : Name) → table_of (contents journal) table ≡ None → Fresh table
+  is_fresh : (table : Name) → table_of (tables_at journal) table ≡ None → Fresh table
   is_fresh table none = (
     owners-whole l journal lawful table ∙ ap (option_map (λ t. t.owner)) none,
-    never_granted (contents journal) table (granted (changes journal)) on (ap is_some none),
+    never_granted (tables_at journal) table (granted (changes journal)) on (ap is_some none),
   )
 
-  fresh : (s : Statement) (table : Name) → verdict_at l journal user s ≡ Ok tt → created_by (change_of (contents journal) user s) ≡ Some table → Fresh table
+  fresh : (s : Statement) (table : Name) → verdict_at l journal user s ≡ Ok tt → created_by (change_of (tables_at journal) user s) ≡ Some table → Fresh table
   fresh (statements.CreateTable name columns) table ok is =
       let same : name ≡ table = some_same name table is in
       subst Fresh same (is_fresh name (new (state_of l journal) user (statements.CreateTable name columns) ok))
-  fresh (statements.Insert name values) table ok is = absurd (none_some table is)
-  fresh (statements.Select list name filter) table ok is = absurd (none_some table is)
-  fresh (statements.Delete name filter) table ok is = absurd (none_some table is)
-  fresh (statements.Update name sets filter) table ok is = absurd (none_some table is)
-  fresh (statements.Grant privileges name users option) table ok is = absurd (none_some table is)
-  fresh (statements.Revoke privileges name users) table ok is = absurd (none_some table is)
-  fresh (statements.RevokeOption privileges name users) table ok is = absurd (none_some table is)
-  fresh statements.Checkpoint table ok is = absurd (none_some table is)
-  fresh statements.Checkpoints table ok is = absurd (none_some table is)
-  fresh (statements.Export number only) table ok is = absurd (none_some table is)
+  fresh _ table ok is = absurd (none_some table is)
 
   -- he may grant each of the atoms
   abbrev Grantable : User × List Atom → Type 0
   Grantable g = All (λ atom. may_grant_after (changes journal) g.0 atom ≡ true) g.1
 
-  grantable : (s : Statement) (g : User × List Atom) → verdict_at l journal user s ≡ Ok tt → granted_by (change_of (contents journal) user s) ≡ Some g → Grantable g
+  grantable : (s : Statement) (g : User × List Atom) → verdict_at l journal user s ≡ Ok tt → granted_by (change_of (tables_at journal) user s) ≡ Some g → Grantable g
   grantable (statements.Grant privileges name users option) g ok is =
-      let same : (user, atoms_at (contents journal) name privileges) ≡ g = some_same _ g is in
+      let same : (user, atoms_at (tables_at journal) name privileges) ≡ g = some_same _ g is in
       subst Grantable same (may (state_of l journal) user privileges name users option ok)
-  grantable (statements.CreateTable name columns) g ok is = absurd (none_some g is)
-  grantable (statements.Insert name values) g ok is = absurd (none_some g is)
-  grantable (statements.Select list name filter) g ok is = absurd (none_some g is)
-  grantable (statements.Delete name filter) g ok is = absurd (none_some g is)
-  grantable (statements.Update name sets filter) g ok is = absurd (none_some g is)
-  grantable (statements.Revoke privileges name users) g ok is = absurd (none_some g is)
-  grantable (statements.RevokeOption privileges name users) g ok is = absurd (none_some g is)
-  grantable statements.Checkpoint g ok is = absurd (none_some g is)
-  grantable statements.Checkpoints g ok is = absurd (none_some g is)
-  grantable (statements.Export number only) g ok is = absurd (none_some g is)
+  grantable _ g ok is = absurd (none_some g is)
 
-  more : (s : Statement) → verdict_at l journal user s ≡ Ok tt → AreLawful (changes journal) → AreLawful (changes journal ++ change_of (contents journal) user s ∷ [])
+  more : (s : Statement) → verdict_at l journal user s ≡ Ok tt → AreLawful (changes journal) → AreLawful (changes journal ++ change_of (tables_at journal) user s ∷ [])
   more s ok h = record {
     created = λ before after table owner is. ⊎_elim
-        (λ (last : (before ≡ changes journal) × (change.Create table owner ≡ change_of (contents journal) user s)).
+        (λ (last : (before ≡ changes journal) × (change.Create table owner ≡ change_of (tables_at journal) user s)).
         let Here : List Change → Type 0 = λ cs. (owner_of (owners_after cs) table ≡ None) × (is_granted cs table ≡ false) in
         subst Here (sym last.0) (fresh s table ok (sym (ap created_by last.1))))
         (λ (front : (rest : List Change) × (changes journal ≡ before ++ change.Create table owner ∷ rest)). h.created before front.0 table owner front.1)
-        (split_last (changes journal) (change_of (contents journal) user s) (change.Create table owner) before after is);
+        (split_last (changes journal) (change_of (tables_at journal) user s) (change.Create table owner) before after is);
     grantable = λ before after by atoms whom option is. ⊎_elim
-        (λ (last : (before ≡ changes journal) × (change.Grant by atoms whom option ≡ change_of (contents journal) user s)).
+        (λ (last : (before ≡ changes journal) × (change.Grant by atoms whom option ≡ change_of (tables_at journal) user s)).
         let Here : List Change → Type 0 = λ cs. All (λ atom. may_grant_after cs by atom ≡ true) atoms in
         subst Here (sym last.0) (grantable s (by, atoms) ok (sym (ap granted_by last.1))))
         (λ (front : (rest : List Change) × (changes journal ≡ before ++ change.Grant by atoms whom option ∷ rest)). h.grantable before front.0 by atoms whom option front.1)
-        (split_last (changes journal) (change_of (contents journal) user s) (change.Grant by atoms whom option) before after is);
+        (split_last (changes journal) (change_of (tables_at journal) user s) (change.Grant by atoms whom option) before after is);
   }
 
 -- what the grants of a journal are on, and that its changes are lawful
 record Stands (journal : List Entry) : Type 0 where
-  on : On (contents journal) (granted (changes journal))
+  on : On (tables_at journal) (granted (changes journal))
   lawful : AreLawful (changes journal)
 
 stands-more : (l : Limits) (journal : List Entry) (e : Entry) → IsLawful l journal → verdict_at l journal e.user e.statement ≡ Ok tt → Stands journal → Stands (journal ++ e ∷ [])
 stands-more l journal e lawful ok h =
-    let tables = contents journal in
+    let tables = tables_at journal in
     let c : Change = change_of tables e.user e.statement in
     let is_new = new (state_of l journal) e.user e.statement ok in
-    let On' : List (Name × Contents) → List Change → Type 0 = λ ts cs. On ts (granted cs) in
+    let On' : List (Name × Table) → List Change → Type 0 = λ ts cs. On ts (granted cs) in
     let grown : On (tables_with tables e) (granted (changes journal ++ c ∷ [])) = granted_on tables (tables_with tables e) (changes journal) c h.on (on_tables (state_of l journal) e.user e.statement ok) (λ name. is_table-after tables e.user e.statement name is_new) in
     record {
-      on = subst (λ (ts : List (Name × Contents)). On' ts (changes (journal ++ e ∷ []))) (sym (contents-more journal e)) (subst (λ (cs : List Change). On' (tables_with tables e) cs) (sym (changes-more journal e)) grown);
+      on = subst (λ (ts : List (Name × Table)). On' ts (changes (journal ++ e ∷ []))) (sym (contents-more journal e)) (subst (λ (cs : List Change). On' (tables_with tables e) cs) (sym (changes-more journal e)) grown);
       lawful = subst (λ (cs : List Change). AreLawful cs) (sym (changes-more journal e)) (more l journal e.user lawful h.on e.statement ok h.lawful);
     }
 

@@ -16,16 +16,16 @@ use Rattle.reader_core.specs.declared.privilege.Privilege.{Privilege}
 use Rattle.reader_core.specs.declared.privilege.Privilege.TheVariants as privileges
 use Rattle.reader_core.specs.declared.statement.Statement.{Statement}
 use Rattle.reader_core.specs.declared.statement.Statement.TheVariants as statements
-use Rattle.tables_core.specs.Contents.{Contents}
+use Rattle.tables_core.specs.Contents.{Table}
 use Rattle.grants_core.specs.declared.grant.Ownership.{Ownership}
 use Rattle.grants_core.specs.Owners.{owner_of, owns}
-use Rattle.grants_core.specs.Content.{Content, gives}
+use Rattle.grants_core.specs.Content.{Rights, gives}
 use Rattle.grants_core.proofs.OwnersLemmas.{AllByRecursion-append}
 use Rattle.base_core.specs.Privileges.{of_table, to_select, to_update}
 use Rattle.monitor_core.specs.Atoms.{columns_given, atoms_of_one, atoms_of}
 use Rattle.monitor_core.specs.Verdict.{State, Check, verdict, first_lack, each, require, is_table, columns_of, atoms_at, list_stands, holds_privilege, holds_grant_option, column_stands, column_takes, count_is_right, types_are_right, may_filter, room_for_change, room_for_grants, listed_columns_stand}
 use Rattle.system_core.specs.Standing.{AgreeOn, KeepsJournal}
-use Rattle.system_core.specs.Journal.{contents, rights_at, verdict_at}
+use Rattle.system_core.specs.Journal.{tables_at, rights_at, verdict_at}
 use Rattle.system_core.specs.declared.machine.event.Entry.{Entry}
 use Rattle.monitor_core.proofs.Passing.{guarded, each-alike}
 
@@ -54,10 +54,10 @@ unfolding owns
 owns-alike os ps user atom h = ap (λ (o : Option User). elim o as (λ _. Bool) [ Some p ↦ same_user p user | None ↦ false ]) h
 
 -- what is judged by, with these owners
-abbrev by_owners : List (Name × Contents) → Limits → ℕ → Content → List Ownership → State
+abbrev by_owners : List (Name × Table) → Limits → ℕ → Rights → List Ownership → State
 by_owners ts l m c os = record { tables = ts; rights = record c { owners = os }; limits = l; moment = m }
 
-module _ (ts : List (Name × Contents)) (l : Limits) (m : ℕ) (c : Content) (os ps : List Ownership) (user : User) where
+module _ (ts : List (Name × Table)) (l : Limits) (m : ℕ) (c : Rights) (os ps : List Ownership) (user : User) where
   holds-alike : (atom : Atom) → owner_of os atom.table ≡ owner_of ps atom.table → holds_privilege (by_owners ts l m c os) user atom ≡ holds_privilege (by_owners ts l m c ps) user atom
   holds-alike atom h = ap (λ b. require (b || list_any (gives user atom) c.in_force) (lacks.NoPrivilege user atom)) (owns-alike os ps user atom h)
 
@@ -76,7 +76,6 @@ module _ (ts : List (Name × Contents)) (l : Limits) (m : ℕ) (c : Content) (os
 
   -- only the owners of tables that stand count
   verdict-owners : (s : Statement) → ((name : Name) → is_table ts name ≡ true → owner_of os name ≡ owner_of ps name) → verdict (by_owners ts l m c os) user s ≡ verdict (by_owners ts l m c ps) user s
-  verdict-owners (statements.CreateTable table columns) h = refl
   verdict-owners (statements.Insert table values) h =
       guarded (is_table ts table) (lacks.NoTable table) _ _ (λ stands.
       ap (λ x. first_lack (x ∷ count_is_right (by_owners ts l m c ps) table values ∷ types_are_right (by_owners ts l m c ps) table values ∷ room_for_change (by_owners ts l m c ps) ∷ [])) (holds-alike (of_table table kinds.Insert) (h table stands)))
@@ -102,22 +101,19 @@ module _ (ts : List (Name × Contents)) (l : Limits) (m : ℕ) (c : Content) (os
       (All-atoms (λ a. a.table ≡ table) (λ a. holds_grant_option (by_owners ts l m c os) user a ≡ holds_grant_option (by_owners ts l m c ps) user a) (atoms_at ts table asked)
       (λ a of_this. may_grant-alike a (ap (owner_of os) of_this ∙ (h table stands ∙ ap (owner_of ps) (sym of_this))))
       (atoms-table table (columns_of ts table) asked))))
-  verdict-owners (statements.Revoke asked table users) h = refl
-  verdict-owners (statements.RevokeOption asked table users) h = refl
-  verdict-owners statements.Checkpoint h = refl
-  verdict-owners statements.Checkpoints h = refl
   verdict-owners (statements.Export number None) h = refl
   verdict-owners (statements.Export number (Some table)) h = refl
+  verdict-owners _ h = refl
 
 -- **the verdict by rights that agree on the tables is the same**
-pub verdict-agree : (ts : List (Name × Contents)) (l : Limits) (m : ℕ) (c d : Content) (user : User) (s : Statement) → AgreeOn ts c d → verdict (record { tables = ts; rights = c; limits = l; moment = m }) user s ≡ verdict (record { tables = ts; rights = d; limits = l; moment = m }) user s
+pub verdict-agree : (ts : List (Name × Table)) (l : Limits) (m : ℕ) (c d : Rights) (user : User) (s : Statement) → AgreeOn ts c d → verdict (record { tables = ts; rights = c; limits = l; moment = m }) user s ≡ verdict (record { tables = ts; rights = d; limits = l; moment = m }) user s
 verdict-agree ts l m c d user s h =
     verdict-owners ts l m c c.owners d.owners user s h.owned
     ∙ (ap (λ f. verdict (record { tables = ts; rights = record { owners = d.owners; in_force = f; made = c.made }; limits = l; moment = m }) user s) h.in_force
     ∙ ap (λ n. verdict (record { tables = ts; rights = record { owners = d.owners; in_force = d.in_force; made = n }; limits = l; moment = m }) user s) h.made)
 
 -- **the verdict by what a system keeps is that of its journal**
-pub verdict-stands : (limits : Limits) (journal : List Entry) (tables : List (Name × Contents)) (rights : Content) (user : User) (s : Statement) → KeepsJournal limits journal tables rights → verdict (record { tables = tables; rights = rights; limits = limits; moment = length journal }) user s ≡ verdict_at limits journal user s
+pub verdict-stands : (limits : Limits) (journal : List Entry) (tables : List (Name × Table)) (rights : Rights) (user : User) (s : Statement) → KeepsJournal limits journal tables rights → verdict (record { tables = tables; rights = rights; limits = limits; moment = length journal }) user s ≡ verdict_at limits journal user s
 verdict-stands limits journal tables rights user s h =
     ap (λ ts. verdict (record { tables = ts; rights = rights; limits = limits; moment = length journal }) user s) h.tables_of
-    ∙ verdict-agree (contents journal) limits (length journal) rights (rights_at journal) user s h.agree
+    ∙ verdict-agree (tables_at journal) limits (length journal) rights (rights_at journal) user s h.agree

@@ -15,7 +15,7 @@ use Rattle.system_core.specs.declared.machine.event.Reply.TheVariants as replies
 use Rattle.system_core.specs.World.{World, entry, moment_of}
 use Rattle.system_core.specs.Judging.{checkpoint_checks}
 use Rattle.system_core.specs.Step.{lack_reply, Responds, with_begun}
-use Rattle.system_core.specs.Standing.{Accepted, checkpointing, database_of, as_active, world_of}
+use Rattle.system_core.specs.Standing.{LedgerState, checkpointing, database_of, as_active, world_of}
 
 -- a lack, or none, as a check
 abbrev of_lack : Option Lack → Check
@@ -36,7 +36,7 @@ by_active None d due false true e = refl
 by_active None d due false false e = cc
 by_active (Some a) d due lt le e = refl
 
-module _ (chunk : ℕ) (accepted : Accepted) (c : Capturing) (images : List Image) where
+module _ (chunk : ℕ) (accepted : LedgerState) (c : Capturing) (images : List Image) where
   abbrev w : World
   w = world_of chunk accepted (checkpointing c accepted) images
 

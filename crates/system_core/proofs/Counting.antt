@@ -9,7 +9,7 @@ use Rattle.base_core.specs.declared.name.Name.{Name}
 use Rattle.base_core.specs.declared.name.User.{User}
 use Rattle.reader_core.specs.declared.statement.Statement.{Statement}
 use Rattle.reader_core.specs.declared.statement.Statement.TheVariants as statements
-use Rattle.tables_core.specs.Contents.{Contents, satisfies, updated_row, empty_table, with_row, without_chosen_rows, with_updated_rows, with_change, table_of}
+use Rattle.tables_core.specs.Contents.{Table, satisfies, updated_row, empty_table, with_row, without_chosen_rows, with_updated_rows, with_change, table_of}
 use Rattle.tables_core.proofs.ContentsLemmas.{with_change-some, with_change-none}
 use Rattle.grants_core.specs.declared.grant.Grant.{Grant}
 use Rattle.grants_core.specs.declared.grant.Ownership.{Ownership}
@@ -26,35 +26,29 @@ filter-few : {X : Type 0} (p : X → Bool) (xs : List X) → length (filter p xs
 filter-few p xs = omega (arith, length-filter p xs, count_by-le-length p xs)
 
 -- ---- rows
-abbrev rows_in : Contents → ℕ
+abbrev rows_in : Table → ℕ
 rows_in t = length t.rows
 
-total : (tables : List (Name × Contents)) → row_total tables ≡ sum_by rows_in (values_of tables)
+total : (tables : List (Name × Table)) → row_total tables ≡ sum_by rows_in (values_of tables)
 total [] = refl
-total (t ∷ ts) = sum_by-cons (λ (t : Name × Contents). length t.1.rows) t ts ∙ ap (λ k. length t.1.rows + k) (total ts) ∙ sym (sum_by-cons rows_in t.1 (values_of ts))
+total (t ∷ ts) = sum_by-cons (λ (t : Name × Table). length t.1.rows) t ts ∙ ap (λ k. length t.1.rows + k) (total ts) ∙ sym (sum_by-cons rows_in t.1 (values_of ts))
 
-total-change : (tables : List (Name × Contents)) (table : Name) (by : Contents → Contents) → ((t : Contents) → length (by t).rows ≤ length t.rows + 1) → row_total (with_change table by tables) ≤ row_total tables + 1
+total-change : (tables : List (Name × Table)) (table : Name) (by : Table → Table) → ((t : Table) → length (by t).rows ≤ length t.rows + 1) → row_total (with_change table by tables) ≤ row_total tables + 1
 total-change tables table by step = found (table_of tables table) refl
   where
-    found : (o : Option Contents) → table_of tables table ≡ o → row_total (with_change table by tables) ≤ row_total tables + 1
+    found : (o : Option Table) → table_of tables table ≡ o → row_total (with_change table by tables) ≤ row_total tables + 1
     found None none = let same = ap row_total (with_change-none table by tables none) in omega (arith, same)
     found (Some t) there =
         let same = ap row_total (with_change-some table by tables t there) in
         let set = sum_by-set_value rows_in (same_name table) tables t (by t) there in
         omega (arith, same, set, total tables, total (set_value (same_name table) tables (by t)), step t)
 
-pub row_total-after : (tables : List (Name × Contents)) (user : User) (s : Statement) → row_total (tables_after tables user s) ≤ row_total tables + 1
-row_total-after tables user (statements.CreateTable table columns) = let more = sum_by-append (λ (t : Name × Contents). length t.1.rows) tables ((table, empty_table user columns) ∷ []) in omega (arith, more)
+pub row_total-after : (tables : List (Name × Table)) (user : User) (s : Statement) → row_total (tables_after tables user s) ≤ row_total tables + 1
+row_total-after tables user (statements.CreateTable table columns) = let more = sum_by-append (λ (t : Name × Table). length t.1.rows) tables ((table, empty_table user columns) ∷ []) in omega (arith, more)
 row_total-after tables user (statements.Insert table values) = total-change tables table (with_row (record { values = values })) (λ t. omega (arith, length-append t.rows ((t.inserted, record { values = values }) ∷ [])))
 row_total-after tables user (statements.Delete table filter) = total-change tables table (without_chosen_rows filter) (λ t. omega (arith, filter-few (λ numbered. not (satisfies t.columns filter numbered)) t.rows))
 row_total-after tables user (statements.Update table sets filter) = total-change tables table (with_updated_rows sets filter) (λ t. omega (arith, length-map t.rows (updated_row t.columns sets filter)))
-row_total-after tables user (statements.Select list table filter) = omega arith
-row_total-after tables user (statements.Grant privileges table users option) = omega arith
-row_total-after tables user (statements.Revoke privileges table users) = omega arith
-row_total-after tables user (statements.RevokeOption privileges table users) = omega arith
-row_total-after tables user statements.Checkpoint = omega arith
-row_total-after tables user statements.Checkpoints = omega arith
-row_total-after tables user (statements.Export number only) = omega arith
+row_total-after tables user _ = omega arith
 
 -- ---- grants
 kept-few : (owners : List Ownership) (kept : List Grant) (g : Grant) → length (kept_with owners kept g) ≤ length kept + 1

@@ -11,26 +11,26 @@ use Rattle.monitor_core.specs.Verdict.{Check, require, first_lack, is_table}
 use Rattle.monitor_core.proofs.Passing.{require-Ok, passed}
 use Rattle.capture_core.specs.declared.image.Image.{Image}
 use Rattle.catalogue_core.specs.Kept.{newest}
-use Rattle.export_core.specs.Ticket.{Exporting}
+use Rattle.export_core.specs.Ticket.{TicketState}
 use Rattle.system_core.specs.declared.machine.event.Reply.{Reply}
 use Rattle.system_core.specs.declared.machine.event.Reply.TheVariants as replies
-use Rattle.system_core.specs.Journal.{contents, verdict_at}
+use Rattle.system_core.specs.Journal.{tables_at, verdict_at}
 use Rattle.system_core.specs.Exports.{journal_at, export_of}
 use Rattle.system_core.specs.World.{World, entry, moment_of}
 use Rattle.system_core.specs.Judging.{point_of, is_kept, at_point, export_check, checkpoint_checks, moment_for}
 use Rattle.system_core.specs.Step.{lack_reply, Responds}
-use Rattle.system_core.specs.Standing.{Accepted, Checkpointing, world_of}
+use Rattle.system_core.specs.Standing.{LedgerState, Checkpointing, world_of}
 use Rattle.system_core.proofs.Judged.{passed-first, failed-first}
 use Rattle.system_core.proofs.Imaging.{point-newest}
 
 -- the table of an allowed export stands
-pub only-stands : (accepted : Accepted) (user : User) (number : ℕ) (only : Option Name) → verdict_at accepted.limits accepted.journal user (statements.Export number only) ≡ Ok tt → (table : Name) → only ≡ Some table → is_table (contents accepted.journal) table ≡ true
+pub only-stands : (accepted : LedgerState) (user : User) (number : ℕ) (only : Option Name) → verdict_at accepted.limits accepted.journal user (statements.Export number only) ≡ Ok tt → (table : Name) → only ≡ Some table → is_table (tables_at accepted.journal) table ≡ true
 only-stands accepted user number None ok table e = cc
 only-stands accepted user number (Some other) ok table e =
-    let here : is_table (contents accepted.journal) other ≡ true = require-Ok _ _ (passed (require (is_table (contents accepted.journal) other) (lacks.NoTable other) ∷ []) ok).0 in
-    subst (λ (o : Option Name). option_map_or (λ n. is_table (contents accepted.journal) n) o true ≡ true) e here
+    let here : is_table (tables_at accepted.journal) other ≡ true = require-Ok _ _ (passed (require (is_table (tables_at accepted.journal) other) (lacks.NoTable other) ∷ []) ok).0 in
+    subst (λ (o : Option Name). option_map_or (λ n. is_table (tables_at accepted.journal) n) o true ≡ true) e here
 
-module _ (chunk : ℕ) (accepted : Accepted) (c : Checkpointing) (images : List Image) (user : User) (number : ℕ) (only : Option Name) where
+module _ (chunk : ℕ) (accepted : LedgerState) (c : Checkpointing) (images : List Image) (user : User) (number : ℕ) (only : Option Name) where
   abbrev now : World
   now = world_of chunk accepted c images
 
@@ -70,7 +70,7 @@ module _ (chunk : ℕ) (accepted : Accepted) (c : Checkpointing) (images : List 
   allowed i pass reply found ok answer =
       by_point (Some i) pass reply found (subst (λ (check : Check). Responds now (entry pass user (statements.Export number only)) check reply now) (sym (passed-first (check_at i.point) [] ok)) answer)
 
-  pub export-issued : (i : Image) (ticket : Exporting) → newest images number ≡ Some i → check_at i.point ≡ Ok tt → ticket ≡ export_of accepted.journal number i.point user only → (pass : ℕ) → Comes pass (replies.Export ticket)
+  pub export-issued : (i : Image) (ticket : TicketState) → newest images number ≡ Some i → check_at i.point ≡ Ok tt → ticket ≡ export_of accepted.journal number i.point user only → (pass : ℕ) → Comes pass (replies.Export ticket)
   export-issued i ticket found ok made pass =
       let E : Option Moment → Type 0 = λ o. IsSomeAnd o (λ point. ticket ≡ export_of accepted.journal number point user only) in
       allowed i pass (replies.Export ticket) found ok (subst E (sym (point-is (Some i) found)) made, refl)

@@ -13,7 +13,7 @@ use Rattle.base_core.specs.declared.value.Column.{Column}
 use Rattle.base_core.specs.declared.condition.Condition.{Condition}
 use Rattle.base_core.specs.declared.condition.Assignment.{Assignment}
 use Rattle.reader_core.specs.declared.statement.Statement.TheVariants as statements
-use Rattle.tables_core.specs.Contents.{Contents, table_of}
+use Rattle.tables_core.specs.Contents.{Table, table_of}
 use Rattle.tables_core.specs.Fitting.{ValuesFit, AssignmentsFit}
 use Rattle.monitor_core.specs.Verdict.{State, checks, verdict, columns_of, takes, column_takes}
 use Rattle.monitor_core.proofs.Passing.{require-Ok, passed, each-Ok}
@@ -30,17 +30,17 @@ taken : (value : Value) (column : Option Column) → option_map_or (λ c. takes 
 taken value None h = refl
 taken value (Some c) h = require-Ok _ _ h
 
-module _ (s : State) (user : User) (table : Name) (t : Contents) (there : table_of s.tables table ≡ Some t) where
+module _ (s : State) (user : User) (table : Name) (t : Table) (there : table_of s.tables table ≡ Some t) where
   assigned : (sets : List Assignment) → AllByRecursion (λ a. column_takes s table a.column a.value ≡ Ok tt) sets → AssignmentsFit t.columns sets
   assigned [] h = tt
   assigned (set ∷ sets) h =
-      let By : Option Contents → Type 0 = λ o. option_map_or (λ c. takes c set.value) (option_and_then (λ u. option_and_then (slice_get u.columns) (column_index u.columns set.column)) o) (Ok tt) ≡ Ok tt in
+      let By : Option Table → Type 0 = λ o. option_map_or (λ c. takes c set.value) (option_and_then (λ u. option_and_then (slice_get u.columns) (column_index u.columns set.column)) o) (Ok tt) ≡ Ok tt in
       (taken set.value (option_and_then (slice_get t.columns) (column_index t.columns set.column)) (subst By there h.0), assigned sets h.1)
 
   pub ValuesFit-allowed : (values : List Value) → verdict s user (statements.Insert table values) ≡ Ok tt → ValuesFit t.columns values
   ValuesFit-allowed values ok =
       let parts = passed (checks s user (statements.Insert table values)) ok in
-      let By : Option Contents → Type 0 = λ o. ValuesFit (option_map_or (λ u. u.columns) o []) values in
+      let By : Option Table → Type 0 = λ o. ValuesFit (option_map_or (λ u. u.columns) o []) values in
       subst By there
       (fits-zip (columns_of s.tables table) values (eqb-true _ _ (require-Ok _ _ parts.1.1.0)) (each-Ok (λ pair. takes pair.0 pair.1) (zip (columns_of s.tables table) values) parts.1.1.1.0))
 

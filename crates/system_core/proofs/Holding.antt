@@ -14,12 +14,12 @@ use Rattle.capture_core.specs.Capturing.{ActiveCapture, InProgress, TellsProgres
 use Rattle.capture_core.specs.declared.image.Image.{Image}
 use Rattle.catalogue_core.specs.Kept.{last_eight, number_and_point}
 use Rattle.system_core.specs.declared.machine.event.Entry.{Entry}
-use Rattle.system_core.specs.Journal.{contents, rights_at}
+use Rattle.system_core.specs.Journal.{tables_at, rights_at}
 use Rattle.system_core.specs.Exports.{journal_at}
 use Rattle.system_core.specs.World.{records_at, with_active, IsRising, IsSoundActive}
 use Rattle.system_core.specs.declared.machine.event.Reply.TheVariants.{Finished}
 use Rattle.system_core.specs.Step.{Advances, with_begun, with_left, with_finished}
-use Rattle.system_core.specs.Standing.{Accepted, Checkpointing, after_begin, after_step, as_active, world_of, image_at, IsImageOf, IsComing, KeepsCheckpoints}
+use Rattle.system_core.specs.Standing.{LedgerState, Checkpointing, after_begin, after_step, as_active, world_of, image_at, IsImageOf, IsComing, KeepsCheckpoints}
 use Rattle.system_core.proofs.Rising.{each-drop, each-front, each-weaker, each-end, rising-drop, rising-front, rising-end}
 use Rattle.system_core.proofs.Imaging.{journal_at-more, image_at-more}
 
@@ -47,10 +47,10 @@ coming-more journal e (Some a) h = image-more journal e a.coming h
 active-more : (journal : List Entry) (e : Entry) (begun : ℕ) (o : Option InProgress) → IsComing journal o → IsSoundActive journal begun (option_map as_active o) → IsSoundActive (journal ++ e ∷ []) begun (option_map as_active o)
 active-more journal e begun None h s = tt
 active-more journal e begun (Some a) h s =
-    let same : records_at (journal ++ e ∷ []) a.coming.point ≡ records_at journal a.coming.point = ap (λ j. records (contents j) (rights_at j)) (journal_at-more journal e a.coming.point h.past) in
+    let same : records_at (journal ++ e ∷ []) a.coming.point ≡ records_at journal a.coming.point = ap (λ j. records (tables_at j) (rights_at j)) (journal_at-more journal e a.coming.point h.past) in
     (s.0, s.1, omega (arith, s.2, same))
 
-pub holds-entered : (chunk : ℕ) (accepted : Accepted) (c : Checkpointing) (images : List Image) (e : Entry) → KeepsCheckpoints chunk accepted c images → KeepsCheckpoints chunk (record accepted { journal = accepted.journal ++ e ∷ [] }) c images
+pub holds-entered : (chunk : ℕ) (accepted : LedgerState) (c : Checkpointing) (images : List Image) (e : Entry) → KeepsCheckpoints chunk accepted c images → KeepsCheckpoints chunk (record accepted { journal = accepted.journal ++ e ∷ [] }) c images
 holds-entered chunk accepted c images e h =
     let long : length (accepted.journal ++ e ∷ []) ≡ length accepted.journal + 1 = length-append accepted.journal (e ∷ []) in
     record {
@@ -69,20 +69,20 @@ holds-entered chunk accepted c images e h =
     }
 
 -- ---- one more checkpoint
-module _ (accepted : Accepted) where
+module _ (accepted : LedgerState) where
   abbrev pub now : Moment
   now = record { 0 = length accepted.journal }
 
   all_now : journal_at accepted.journal now ≡ accepted.journal
   all_now = take_all (length accepted.journal) accepted.journal (omega arith)
 
-  records-now : records (contents accepted.journal) (rights_at accepted.journal) ≡ records_at accepted.journal now
-  records-now = ap (λ j. records (contents j) (rights_at j)) (sym all_now)
+  records-now : records (tables_at accepted.journal) (rights_at accepted.journal) ≡ records_at accepted.journal now
+  records-now = ap (λ j. records (tables_at j) (rights_at j)) (sym all_now)
 
-  image-now : (number : ℕ) → image number now (contents accepted.journal) (rights_at accepted.journal) ≡ image_at accepted.journal number now
-  image-now number = ap (λ j. image number now (contents j) (rights_at j)) (sym all_now)
+  image-now : (number : ℕ) → image number now (tables_at accepted.journal) (rights_at accepted.journal) ≡ image_at accepted.journal number now
+  image-now number = ap (λ j. image number now (tables_at j) (rights_at j)) (sym all_now)
 
-  some_left : 0 < records (contents accepted.journal) (rights_at accepted.journal)
+  some_left : 0 < records (tables_at accepted.journal) (rights_at accepted.journal)
   some_left = omega arith
 
   -- the world with one more begun
@@ -119,7 +119,7 @@ map-drop f zero xs = refl
 map-drop f (suc n) [] = refl
 map-drop f (suc n) (x ∷ xs) = map-drop f n xs
 
-module _ (chunk : ℕ) (accepted : Accepted) (c : Checkpointing) (images : List Image) (a : InProgress) (is : c.active ≡ Some a) (h : KeepsCheckpoints chunk accepted c images) where
+module _ (chunk : ℕ) (accepted : LedgerState) (c : Checkpointing) (images : List Image) (a : InProgress) (is : c.active ≡ Some a) (h : KeepsCheckpoints chunk accepted c images) where
   rising : IsRising 0 0 (map number_and_point images ++ (a.coming.number, a.coming.point) ∷ [])
   rising = subst (λ (o : Option InProgress). IsRising 0 0 (with_active (map number_and_point images) (option_map as_active o))) is h.sound.rising
 
@@ -209,7 +209,7 @@ module _ (chunk : ℕ) (accepted : Accepted) (c : Checkpointing) (images : List 
   }
 
 -- **after a step of k**
-pub holds-stepped : (chunk k : ℕ) (accepted : Accepted) (c : Checkpointing) (images : List Image) (n : ℕ) → TellsProgress k c.active (Left n) → KeepsCheckpoints chunk accepted c images → KeepsCheckpoints chunk accepted (after_step k c) images
+pub holds-stepped : (chunk k : ℕ) (accepted : LedgerState) (c : Checkpointing) (images : List Image) (n : ℕ) → TellsProgress k c.active (Left n) → KeepsCheckpoints chunk accepted c images → KeepsCheckpoints chunk accepted (after_step k c) images
 holds-stepped chunk k accepted c images n tells h = by c.active refl tells
   where
     by : (o : Option InProgress) → c.active ≡ o → TellsProgress k o (Left n) → KeepsCheckpoints chunk accepted (after_step k c) images
@@ -221,7 +221,7 @@ abbrev pub IsDone : ℕ → Option InProgress → Image → Type 0
 IsDone k None i = ⊥
 IsDone k (Some a) i = (a.left ≤ k) × (i ≡ a.coming)
 
-pub holds-done : (chunk k : ℕ) (accepted : Accepted) (c : Checkpointing) (images : List Image) (i : Image) → IsDone k c.active i → KeepsCheckpoints chunk accepted c images → KeepsCheckpoints chunk accepted (after_step k c) (last_eight (images ++ i ∷ []))
+pub holds-done : (chunk k : ℕ) (accepted : LedgerState) (c : Checkpointing) (images : List Image) (i : Image) → IsDone k c.active i → KeepsCheckpoints chunk accepted c images → KeepsCheckpoints chunk accepted (after_step k c) (last_eight (images ++ i ∷ []))
 holds-done chunk k accepted c images i done h = by c.active refl done
   where
     by : (o : Option InProgress) → c.active ≡ o → IsDone k o i → KeepsCheckpoints chunk accepted (after_step k c) (last_eight (images ++ i ∷ []))
@@ -242,7 +242,7 @@ number-told None d grants n point left e = cc
 number-told (Some a) d grants n point left e = sym (ap (number_in n) e)
 
 -- the world goes on to one where it is finished
-pub advances-done : (chunk : ℕ) (accepted : Accepted) (c : Checkpointing) (images : List Image) (i : Image) (n : ℕ) → IsDone chunk c.active i → IsNumberOf n c.active → KeepsCheckpoints chunk accepted c images
+pub advances-done : (chunk : ℕ) (accepted : LedgerState) (c : Checkpointing) (images : List Image) (i : Image) (n : ℕ) → IsDone chunk c.active i → IsNumberOf n c.active → KeepsCheckpoints chunk accepted c images
     → Advances (world_of chunk accepted c images) (option_map as_active c.active) (Finished n) (world_of chunk accepted (after_step chunk c) (last_eight (images ++ i ∷ [])))
 advances-done chunk accepted c images i n done number h = by c.active refl done number
   where
@@ -251,7 +251,7 @@ advances-done chunk accepted c images i n done number h = by c.active refl done 
     by (Some a) is t m = (t.0, m, subst (λ (j : Image). world_of chunk accepted (after_step chunk c) (last_eight (images ++ j ∷ [])) ≡ with_finished (world_of chunk accepted c images) (as_active a)) (sym t.1) (finished-world chunk accepted c images a is h chunk t.0))
 
 -- **after it was given up, if one was active**
-pub holds-abandoned : (chunk : ℕ) (accepted : Accepted) (c : Checkpointing) (images : List Image) → KeepsCheckpoints chunk accepted c images → KeepsCheckpoints chunk accepted (after_abandon c) images
+pub holds-abandoned : (chunk : ℕ) (accepted : LedgerState) (c : Checkpointing) (images : List Image) → KeepsCheckpoints chunk accepted c images → KeepsCheckpoints chunk accepted (after_abandon c) images
 holds-abandoned chunk accepted c images h = by c.active refl
   where
     by : (o : Option InProgress) → c.active ≡ o → KeepsCheckpoints chunk accepted (after_abandon c) images

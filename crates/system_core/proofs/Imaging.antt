@@ -10,7 +10,7 @@ use Rattle.base_core.specs.declared.name.User.{User}
 use Rattle.base_core.specs.declared.value.Moment.{Moment}
 use Rattle.reader_core.specs.declared.statement.Statement.{Statement}
 use Rattle.reader_core.specs.declared.statement.Statement.TheVariants as statements
-use Rattle.tables_core.specs.Contents.{Contents, empty_table, with_row, without_chosen_rows, with_updated_rows, with_change, table_of}
+use Rattle.tables_core.specs.Contents.{Table, empty_table, with_row, without_chosen_rows, with_updated_rows, with_change, table_of}
 use Rattle.tables_core.proofs.ContentsLemmas.{table_of-with_change}
 use Rattle.base_core.proofs.SameLemmas.{same_name-refl}
 use Rattle.monitor_core.specs.Verdict.{is_table}
@@ -19,7 +19,7 @@ use Rattle.capture_core.specs.declared.image.Image.{Image}
 use Rattle.catalogue_core.specs.Kept.{bears, newest, number_and_point}
 use Rattle.catalogue_core.proofs.RingLemmas.{find-map, map-reverse}
 use Rattle.system_core.specs.declared.machine.event.Entry.{Entry}
-use Rattle.system_core.specs.Journal.{contents, tables_after, tables_with, rights_at}
+use Rattle.system_core.specs.Journal.{tables_at, tables_after, tables_with, rights_at}
 use Rattle.system_core.specs.Exports.{journal_at}
 use Rattle.system_core.specs.Standing.{image_at, IsImageOf}
 use Rattle.system_core.proofs.Rising.{each-weaker, each-end}
@@ -34,7 +34,7 @@ pub journal_at-more : (journal : List Entry) (e : Entry) (point : Moment) → po
 journal_at-more journal e point h = take-front point.0 journal (e ∷ []) h
 
 pub image_at-more : (journal : List Entry) (e : Entry) (number : ℕ) (point : Moment) → point.0 ≤ length journal → image_at (journal ++ e ∷ []) number point ≡ image_at journal number point
-image_at-more journal e number point h = ap (λ j. image number point (contents j) (rights_at j)) (journal_at-more journal e point h)
+image_at-more journal e number point h = ap (λ j. image number point (tables_at j) (rights_at j)) (journal_at-more journal e point h)
 
 -- ---- by the number
 each-reverse : {X : Type 0} (P : X → Type 0) (xs : List X) → AllByRecursion P xs → AllByRecursion P (reverse xs)
@@ -81,7 +81,7 @@ pub newest-number : (images : List Image) (number : ℕ) (i : Image) → newest 
 newest-number images number i e = eqb-true i.number number (found-passes (bears number) (reverse images) i e)
 
 -- ---- tables stay
-in_longer : (tables more : List (Name × Contents)) (name : Name) → is_table tables name ≡ true → is_table (tables ++ more) name ≡ true
+in_longer : (tables more : List (Name × Table)) (name : Name) → is_table tables name ≡ true → is_table (tables ++ more) name ≡ true
 in_longer [] more name h = cc
 in_longer (t ∷ ts) more name h =
     (elim (same_name name t.0) as (λ b. is_some (cond b (Some t.1) (table_of ts name)) ≡ true → is_some (cond b (Some t.1) (table_of (ts ++ more) name)) ≡ true) [
@@ -89,39 +89,33 @@ in_longer (t ∷ ts) more name h =
       | false ↦ (λ k. in_longer ts more name k)
     ]) h
 
-in_changed : (tables : List (Name × Contents)) (table : Name) (change : Contents → Contents) (name : Name) → is_table tables name ≡ true → is_table (with_change table change tables) name ≡ true
+in_changed : (tables : List (Name × Table)) (table : Name) (change : Table → Table) (name : Name) → is_table tables name ≡ true → is_table (with_change table change tables) name ≡ true
 in_changed tables table change name h = ap is_some (table_of-with_change tables table name change) ∙ by (same_name table name) (table_of tables name) h
   where
-    by : (b : Bool) (o : Option Contents) → is_some o ≡ true → is_some (cond b (option_map change o) o) ≡ true
+    by : (b : Bool) (o : Option Table) → is_some o ≡ true → is_some (cond b (option_map change o) o) ≡ true
     by true None k = k
     by true (Some t) k = refl
     by false o k = k
 
-still : (tables : List (Name × Contents)) (user : User) (s : Statement) (name : Name) → is_table tables name ≡ true → is_table (tables_after tables user s) name ≡ true
+still : (tables : List (Name × Table)) (user : User) (s : Statement) (name : Name) → is_table tables name ≡ true → is_table (tables_after tables user s) name ≡ true
 still tables user (statements.CreateTable table columns) name h = in_longer tables ((table, empty_table user columns) ∷ []) name h
 still tables user (statements.Insert table values) name h = in_changed tables table (with_row (record { values = values })) name h
 still tables user (statements.Delete table filter) name h = in_changed tables table (without_chosen_rows filter) name h
 still tables user (statements.Update table sets filter) name h = in_changed tables table (with_updated_rows sets filter) name h
-still tables user (statements.Select list table filter) name h = h
-still tables user (statements.Grant privileges table users option) name h = h
-still tables user (statements.Revoke privileges table users) name h = h
-still tables user (statements.RevokeOption privileges table users) name h = h
-still tables user statements.Checkpoint name h = h
-still tables user statements.Checkpoints name h = h
-still tables user (statements.Export number only) name h = h
+still tables user _ name h = h
 
-still_after : (tables : List (Name × Contents)) (es : List Entry) (name : Name) → is_table tables name ≡ true → is_table (fold tables_with tables es) name ≡ true
+still_after : (tables : List (Name × Table)) (es : List Entry) (name : Name) → is_table tables name ≡ true → is_table (fold tables_with tables es) name ≡ true
 still_after tables [] name h = h
 still_after tables (e ∷ es) name h = still_after (tables_with tables e) es name (still tables e.user e.statement name h)
 
-pub stands_now : (journal : List Entry) (point : Moment) (name : Name) → is_table (contents (journal_at journal point)) name ≡ true → is_table (contents journal) name ≡ true
+pub stands_now : (journal : List Entry) (point : Moment) (name : Name) → is_table (tables_at (journal_at journal point)) name ≡ true → is_table (tables_at journal) name ≡ true
 stands_now journal point name h =
-    let parts : fold tables_with (contents (take point.0 journal)) (drop point.0 journal) ≡ contents journal =
-    sym (fold-append tables_with [] (take point.0 journal) (drop point.0 journal)) ∙ ap contents (take-append-drop point.0 journal) in
-    ap (λ ts. is_table ts name) (sym parts) ∙ still_after (contents (journal_at journal point)) (drop point.0 journal) name h
+    let parts : fold tables_with (tables_at (take point.0 journal)) (drop point.0 journal) ≡ tables_at journal =
+    sym (fold-append tables_with [] (take point.0 journal) (drop point.0 journal)) ∙ ap tables_at (take-append-drop point.0 journal) in
+    ap (λ ts. is_table ts name) (sym parts) ∙ still_after (tables_at (journal_at journal point)) (drop point.0 journal) name h
 
 -- each table of a list is found in it
-pub each-table : (tables : List (Name × Contents)) → AllByRecursion (λ t. is_table tables t.0 ≡ true) tables
+pub each-table : (tables : List (Name × Table)) → AllByRecursion (λ t. is_table tables t.0 ≡ true) tables
 each-table [] = tt
 each-table (t ∷ ts) = (
   ap (λ b. is_some (cond b (Some t.1) (table_of ts t.0))) (same_name-refl t.0),

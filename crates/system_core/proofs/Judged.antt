@@ -12,7 +12,7 @@ use Rattle.reader_core.specs.declared.statement.Statement.TheVariants as stateme
 use Rattle.monitor_core.specs.Verdict.{Check, require, first_lack, is_table, is_change, checks}
 use Rattle.monitor_core.proofs.Lacking.{Sound, sound, sound-require, sound-first}
 use Rattle.system_core.specs.declared.machine.event.Entry.{Entry}
-use Rattle.system_core.specs.Journal.{contents, state_of, verdict_at}
+use Rattle.system_core.specs.Journal.{tables_at, state_of, verdict_at}
 use Rattle.system_core.specs.Exports.{journal_at}
 use Rattle.system_core.specs.World.{World, moment_of}
 use Rattle.system_core.specs.declared.machine.event.Reply.{Reply}
@@ -29,17 +29,9 @@ failed-first (Err other) more lack e = e
 
 -- a change has no checks of checkpoints
 pub no_more_checks : (w : World) (user : User) (asked : Statement) → is_change asked ≡ true → checkpoint_checks w user asked ≡ []
-no_more_checks w user (statements.CreateTable table columns) e = refl
-no_more_checks w user (statements.Insert table values) e = refl
-no_more_checks w user (statements.Select list table filter) e = refl
-no_more_checks w user (statements.Delete table filter) e = refl
-no_more_checks w user (statements.Update table sets filter) e = refl
-no_more_checks w user (statements.Grant privileges table users option) e = refl
-no_more_checks w user (statements.Revoke privileges table users) e = refl
-no_more_checks w user (statements.RevokeOption privileges table users) e = refl
 no_more_checks w user statements.Checkpoint e = cc
-no_more_checks w user statements.Checkpoints e = refl
 no_more_checks w user (statements.Export number only) e = cc
+no_more_checks w user _ e = refl
 
 -- an allowed change that is carried out is a step of the machine
 pub change-responds : (w new : World) (e : Entry) (reply : Reply) → verdict_at w.limits w.journal e.user e.statement ≡ Ok tt → is_change e.statement ≡ true → CarriesOut w e reply new → Responds w e (verdict_of w e.user e.statement) reply new
@@ -58,19 +50,10 @@ no_table-now false table point now lack e = subst (λ (c : Check). Now c) e refl
     Now (Err l) = moment_for point now l ≡ now
 
 pub judged-now : (w : World) (user : User) (asked : Statement) (lack : Lack) → verdict_at w.limits w.journal user asked ≡ Err lack → judged_at w asked lack ≡ moment_of w
-judged-now w user (statements.CreateTable table columns) lack e = refl
-judged-now w user (statements.Insert table values) lack e = refl
-judged-now w user (statements.Select list table filter) lack e = refl
-judged-now w user (statements.Delete table filter) lack e = refl
-judged-now w user (statements.Update table sets filter) lack e = refl
-judged-now w user (statements.Grant privileges table users option) lack e = refl
-judged-now w user (statements.Revoke privileges table users) lack e = refl
-judged-now w user (statements.RevokeOption privileges table users) lack e = refl
-judged-now w user statements.Checkpoint lack e = refl
-judged-now w user statements.Checkpoints lack e = refl
 judged-now w user (statements.Export number None) lack e = cc
 judged-now w user (statements.Export number (Some table)) lack e =
-    no_table-now (is_table (contents w.journal) table) table (unwrap_or (point_of w number) (moment_of w)) (moment_of w) lack e
+    no_table-now (is_table (tables_at w.journal) table) table (unwrap_or (point_of w number) (moment_of w)) (moment_of w) lack e
+judged-now w user _ lack e = refl
 
 -- ---- no check of checkpoints finds that memory was refused, or that turns are worn
 sound-at_point : (point : Option Moment) (check : Moment → Check) → ((p : Moment) → Sound (check p)) → Sound (at_point point check)
@@ -83,18 +66,10 @@ sound-export past now number user (Some table) =
     sound-first (stood_then past table number ∷ could_select_then past user table ∷ may_select_now past now user table ∷ []) (sound-require _ _ tt, (sound-require _ _ tt, (sound-require _ _ tt, tt)))
 
 sound-checkpoints : (w : World) (user : User) (asked : Statement) → AllByRecursion Sound (checkpoint_checks w user asked)
-sound-checkpoints w user (statements.CreateTable table columns) = tt
-sound-checkpoints w user (statements.Insert table values) = tt
-sound-checkpoints w user (statements.Select list table filter) = tt
-sound-checkpoints w user (statements.Delete table filter) = tt
-sound-checkpoints w user (statements.Update table sets filter) = tt
-sound-checkpoints w user (statements.Grant privileges table users option) = tt
-sound-checkpoints w user (statements.Revoke privileges table users) = tt
-sound-checkpoints w user (statements.RevokeOption privileges table users) = tt
 sound-checkpoints w user statements.Checkpoint = (sound-require _ _ tt, (sound-require _ _ tt, tt))
-sound-checkpoints w user statements.Checkpoints = tt
 sound-checkpoints w user (statements.Export number only) =
     (sound-require _ _ tt, (sound-at_point (point_of w number) (λ point. export_check (journal_at w.journal point) w.journal number user only) (λ point. sound-export (journal_at w.journal point) w.journal number user only), tt))
+sound-checkpoints w user _ = tt
 
 pub verdict_of-sound : (w : World) (user : User) (asked : Statement) → Sound (verdict_of w user asked)
 verdict_of-sound w user asked =

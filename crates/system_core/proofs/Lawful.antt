@@ -16,7 +16,7 @@ use Rattle.system_core.specs.declared.machine.event.Event.{Event}
 use Rattle.system_core.specs.declared.machine.event.Event.TheVariants as events
 use Rattle.system_core.specs.declared.machine.event.Reply.{Reply}
 use Rattle.system_core.specs.declared.machine.event.Reply.TheVariants as replies
-use Rattle.system_core.specs.Journal.{contents, rights_at, verdict_at}
+use Rattle.system_core.specs.Journal.{tables_at, rights_at, verdict_at}
 use Rattle.system_core.specs.World.{World, ActiveCheckpoint, entry, moment_of, with_entry, records_at, with_active, IsRising, IsSoundActive, AreSound, IsLawfulWorld}
 use Rattle.system_core.specs.Judging.{checkpoint_checks, verdict_of}
 use Rattle.system_core.specs.Step.{with_begun, with_left, with_finished, with_none_active, CarriesOut, Responds, Advances, GivesUp, Step}
@@ -34,7 +34,7 @@ active-entered : (journal : List Entry) (e : Entry) (begun : ℕ) (finished : Li
 active-entered journal e begun finished None past s = tt
 active-entered journal e begun finished (Some a) past s =
     let before = each-last (λ (c : ℕ × Moment). c.1.0 ≤ length journal) finished (a.number, a.point) past in
-    let same : records_at (journal ++ e ∷ []) a.point ≡ records_at journal a.point = ap (λ j. records (contents j) (rights_at j)) (journal_at-more journal e a.point before) in
+    let same : records_at (journal ++ e ∷ []) a.point ≡ records_at journal a.point = ap (λ j. records (tables_at j) (rights_at j)) (journal_at-more journal e a.point before) in
     (s.0, s.1, omega (arith, s.2, same))
 
 -- one more entry

@@ -11,7 +11,7 @@ use Rattle.base_core.specs.declared.value.Moment.{Moment}
 use Rattle.base_core.specs.declared.limits.Limits.{Limits}
 use Rattle.reader_core.specs.declared.statement.Statement.{Statement}
 use Rattle.reader_core.specs.declared.statement.Statement.TheVariants as statements
-use Rattle.tables_core.specs.Contents.{Contents, empty_table, with_row, without_chosen_rows, with_updated_rows, table_of}
+use Rattle.tables_core.specs.Contents.{Table, empty_table, with_row, without_chosen_rows, with_updated_rows, table_of}
 use Rattle.tables_core.proofs.ContentsLemmas.{table_of-append}
 use Rattle.grants_core.specs.declared.grant.Ownership.{Ownership}
 use Rattle.grants_core.specs.Owners.{owner_of, with_owner}
@@ -20,26 +20,26 @@ use Rattle.base_core.proofs.SameLemmas.{same_name-true}
 use Rattle.grants_core.proofs.OwnersLemmas.{owner_of-with_owner, owner_of-marked}
 use Rattle.monitor_core.specs.Verdict.{atoms_at}
 use Rattle.system_core.specs.declared.machine.event.Entry.{Entry}
-use Rattle.system_core.specs.Journal.{contents, tables_after, change_of, changes, rights_at, state_of, IsLawfulFrom, IsLawful}
+use Rattle.system_core.specs.Journal.{tables_at, tables_after, change_of, changes, rights_at, state_of, IsLawfulFrom, IsLawful}
 use Rattle.system_core.specs.Exports.{journal_at}
 use Rattle.system_core.proofs.TableLemmas.{IsNew, changed}
 use Rattle.system_core.proofs.Growing.{owner_of-new, changes-more}
 use Rattle.system_core.proofs.Keeping.{new, contents-more}
 
 -- the owner of a table, by the tables
-abbrev pub owner_in : List (Name × Contents) → Name → Option User
+abbrev pub owner_in : List (Name × Table) → Name → Option User
 owner_in tables name = option_map (λ t. t.owner) (table_of tables name)
 
 -- the owners of the rights are those of the tables
-abbrev pub OwnersAre : List Ownership → List (Name × Contents) → Type 0
+abbrev pub OwnersAre : List Ownership → List (Name × Table) → Type 0
 OwnersAre owners tables = (name : Name) → owner_of owners name ≡ owner_in tables name
 
 abbrev pub OwnersStand : List Entry → Type 0
-OwnersStand journal = OwnersAre (rights_at journal).owners (contents journal)
+OwnersStand journal = OwnersAre (rights_at journal).owners (tables_at journal)
 
-module _ (os : List Ownership) (tables : List (Name × Contents)) (h : OwnersAre os tables) where
+module _ (os : List Ownership) (tables : List (Name × Table)) (h : OwnersAre os tables) where
   -- a new table
-  created : (table : Name) (user : User) (t : Contents) → t.owner ≡ user → table_of tables table ≡ None → OwnersAre (with_owner table user os) (tables ++ (table, t) ∷ [])
+  created : (table : Name) (user : User) (t : Table) → t.owner ≡ user → table_of tables table ≡ None → OwnersAre (with_owner table user os) (tables ++ (table, t) ∷ [])
   created table user t own new_name name =
       let later : owner_in (tables ++ (table, t) ∷ []) name ≡ owned (same_name table name) = ap (option_map (λ u. u.owner)) (table_of-append tables table name t new_name) ∙ both (same_name table name) in
       ⊎_elim
@@ -53,12 +53,12 @@ module _ (os : List Ownership) (tables : List (Name × Contents)) (h : OwnersAre
       owned true = Some user
       owned false = owner_in tables name
 
-      both : (b : Bool) → option_map (λ (u : Contents). u.owner) (cond b (Some t) (table_of tables name)) ≡ owned b
+      both : (b : Bool) → option_map (λ (u : Table). u.owner) (cond b (Some t) (table_of tables name)) ≡ owned b
       both true = ap Some own
       both false = refl
 
   -- a change to a table leaves its owner
-  same_owner : (change : Contents → Contents) → ((t : Contents) → (change t).owner ≡ t.owner) → (o : Option Contents) → option_map (λ (t : Contents). t.owner) (option_map change o) ≡ option_map (λ t. t.owner) o
+  same_owner : (change : Table → Table) → ((t : Table) → (change t).owner ≡ t.owner) → (o : Option Table) → option_map (λ (t : Table). t.owner) (option_map change o) ≡ option_map (λ t. t.owner) o
   same_owner change same None = refl
   same_owner change same (Some t) = ap Some (same t)
 
@@ -68,19 +68,14 @@ module _ (os : List Ownership) (tables : List (Name × Contents)) (h : OwnersAre
   owners-after user (statements.Delete table filter) is_new = λ name. changed (λ o. owner_of os name ≡ option_map (λ t. t.owner) o) tables table (without_chosen_rows filter) name (λ e. e ∙ sym (same_owner _ (λ t. refl) (table_of tables name))) (h name)
   owners-after user (statements.Update table sets filter) is_new = λ name. changed (λ o. owner_of os name ≡ option_map (λ t. t.owner) o) tables table (with_updated_rows sets filter) name (λ e. e ∙ sym (same_owner _ (λ t. refl) (table_of tables name))) (h name)
   owners-after user (statements.Grant privileges table users option) is_new = λ name. owner_of-marked (atoms_at tables table privileges) os name ∙ h name
-  owners-after user (statements.Revoke privileges table users) is_new = h
-  owners-after user (statements.RevokeOption privileges table users) is_new = h
-  owners-after user (statements.Select list table filter) is_new = h
-  owners-after user statements.Checkpoint is_new = h
-  owners-after user statements.Checkpoints is_new = h
-  owners-after user (statements.Export number only) is_new = h
+  owners-after user _ is_new = h
 
-owners-more : (journal : List Entry) (e : Entry) → IsNew (contents journal) e.statement → OwnersStand journal → OwnersStand (journal ++ e ∷ [])
+owners-more : (journal : List Entry) (e : Entry) → IsNew (tables_at journal) e.statement → OwnersStand journal → OwnersStand (journal ++ e ∷ [])
 owners-more journal e is_new h =
-    let c = change_of (contents journal) e.user e.statement in
+    let c = change_of (tables_at journal) e.user e.statement in
     let os : owners_after (changes (journal ++ e ∷ [])) ≡ owners_with (owners_after (changes journal)) c = ap owners_after (changes-more journal e) ∙ fold-append owners_with [] (changes journal) (c ∷ []) in
-    subst (λ (tables : List (Name × Contents)). OwnersAre (rights_at (journal ++ e ∷ [])).owners tables) (sym (contents-more journal e))
-    (subst (λ (owners : List Ownership). OwnersAre owners (tables_after (contents journal) e.user e.statement)) (sym os) (owners-after (rights_at journal).owners (contents journal) h e.user e.statement is_new))
+    subst (λ (tables : List (Name × Table)). OwnersAre (rights_at (journal ++ e ∷ [])).owners tables) (sym (contents-more journal e))
+    (subst (λ (owners : List Ownership). OwnersAre owners (tables_after (tables_at journal) e.user e.statement)) (sym os) (owners-after (rights_at journal).owners (tables_at journal) h e.user e.statement is_new))
 
 owners-from : (limits : Limits) (before es : List Entry) → OwnersStand before → IsLawfulFrom limits before es → (n : ℕ) → OwnersStand (before ++ take n es)
 owners-from limits before es h lawful zero = subst OwnersStand (sym (append-nil before)) h

@@ -7,54 +7,47 @@ use Rattle.base_core.specs.declared.limits.Limits.{Limits}
 use Rattle.base_core.specs.declared.value.Column.{Column}
 use Rattle.reader_core.specs.declared.statement.Statement.{Statement}
 use Rattle.reader_core.specs.declared.statement.Statement.TheVariants as statements
-use Rattle.tables_core.specs.Contents.{Contents}
+use Rattle.tables_core.specs.Contents.{Table}
 use Rattle.grants_core.specs.declared.grant.Change.{Change}
 use Rattle.grants_core.specs.declared.grant.Change.TheVariants as change
 use Rattle.monitor_core.specs.Atoms.{atoms_of}
 use Rattle.system_core.specs.declared.machine.event.Entry.{Entry}
 use Rattle.monitor_core.specs.Verdict.{State, checks, verdict, is_table, columns_of}
-use Rattle.system_core.specs.Journal.{contents, tables_with, change_of, changes, changes_from, state_of, IsLawfulFrom, IsLawful}
+use Rattle.system_core.specs.Journal.{tables_at, tables_with, change_of, changes, changes_from, state_of, IsLawfulFrom, IsLawful}
 use Rattle.monitor_core.proofs.Passing.{require-Ok, passed}
 use Rattle.system_core.proofs.TableLemmas.{is_table-after, columns-after}
 use Rattle.system_core.proofs.Keeping.{contents-more, new}
 
 -- an allowed statement changes the same, at tables where those that stand have the same columns
-alike : (at : State) (others : List (Name × Contents)) (user : User) (s : Statement) → ((name : Name) → is_table at.tables name ≡ true → columns_of others name ≡ columns_of at.tables name) → verdict at user s ≡ Ok tt → change_of others user s ≡ change_of at.tables user s
-alike at others user (statements.CreateTable table columns) h ok = refl
+alike : (at : State) (others : List (Name × Table)) (user : User) (s : Statement) → ((name : Name) → is_table at.tables name ≡ true → columns_of others name ≡ columns_of at.tables name) → verdict at user s ≡ Ok tt → change_of others user s ≡ change_of at.tables user s
 alike at others user (statements.Grant privileges table users option) h ok =
     ap (λ (columns : List Column). change.Grant user (atoms_of table columns privileges) users option) (h table (require-Ok _ _ (passed (checks at user (statements.Grant privileges table users option)) ok).0))
 alike at others user (statements.Revoke privileges table users) h ok =
     ap (λ (columns : List Column). change.Revoke user (atoms_of table columns privileges) users) (h table (require-Ok _ _ (passed (checks at user (statements.Revoke privileges table users)) ok).0))
 alike at others user (statements.RevokeOption privileges table users) h ok =
     ap (λ (columns : List Column). change.RevokeOption user (atoms_of table columns privileges) users) (h table (require-Ok _ _ (passed (checks at user (statements.RevokeOption privileges table users)) ok).0))
-alike at others user (statements.Insert table values) h ok = refl
-alike at others user (statements.Select list table filter) h ok = refl
-alike at others user (statements.Delete table filter) h ok = refl
-alike at others user (statements.Update table sets filter) h ok = refl
-alike at others user statements.Checkpoint h ok = refl
-alike at others user statements.Checkpoints h ok = refl
-alike at others user (statements.Export number only) h ok = refl
+alike at others user _ h ok = refl
 
-columns-stay : (l : Limits) (before es : List Entry) (name : Name) → IsLawfulFrom l before es → is_table (contents before) name ≡ true → columns_of (contents (before ++ es)) name ≡ columns_of (contents before) name
-columns-stay l before [] name h here = ap (λ k. columns_of (contents k) name) (append-nil before)
+columns-stay : (l : Limits) (before es : List Entry) (name : Name) → IsLawfulFrom l before es → is_table (tables_at before) name ≡ true → columns_of (tables_at (before ++ es)) name ≡ columns_of (tables_at before) name
+columns-stay l before [] name h here = ap (λ k. columns_of (tables_at k) name) (append-nil before)
 columns-stay l before (e ∷ es) name h here =
     let next : List Entry = before ++ e ∷ [] in
     let fresh = new (state_of l before) e.user e.statement h.1 in
-    let after : is_table (contents next) name ≡ true = ap (λ ts. is_table ts name) (contents-more before e) ∙ is_table-after (contents before) e.user e.statement name fresh here in
-    ap (λ k. columns_of (contents k) name) (sym (append_assoc before (e ∷ []) es))
+    let after : is_table (tables_at next) name ≡ true = ap (λ ts. is_table ts name) (contents-more before e) ∙ is_table-after (tables_at before) e.user e.statement name fresh here in
+    ap (λ k. columns_of (tables_at k) name) (sym (append_assoc before (e ∷ []) es))
     ∙ (columns-stay l next es name h.2 after
-    ∙ (ap (λ ts. columns_of ts name) (contents-more before e) ∙ columns-after (contents before) e.user e.statement name fresh here))
+    ∙ (ap (λ ts. columns_of ts name) (contents-more before e) ∙ columns-after (tables_at before) e.user e.statement name fresh here))
 
-at_once : (l : Limits) (before es : List Entry) → IsLawfulFrom l before es → map (λ (e : Entry). change_of (contents (before ++ es)) e.user e.statement) es ≡ changes_from (contents before) es
+at_once : (l : Limits) (before es : List Entry) → IsLawfulFrom l before es → map (λ (e : Entry). change_of (tables_at (before ++ es)) e.user e.statement) es ≡ changes_from (tables_at before) es
 at_once l before [] h = refl
 at_once l before (e ∷ es) h =
     let next : List Entry = before ++ e ∷ [] in
-    let by : List Entry → List Change = λ k. map (λ (x : Entry). change_of (contents k) x.user x.statement) es in
-    let here : change_of (contents (before ++ e ∷ es)) e.user e.statement ≡ change_of (contents before) e.user e.statement =
-    alike (state_of l before) (contents (before ++ e ∷ es)) e.user e.statement (λ name stands. columns-stay l before (e ∷ es) name h stands) h.1 in
-    let rest : by (before ++ e ∷ es) ≡ changes_from (tables_with (contents before) e) es =
+    let by : List Entry → List Change = λ k. map (λ (x : Entry). change_of (tables_at k) x.user x.statement) es in
+    let here : change_of (tables_at (before ++ e ∷ es)) e.user e.statement ≡ change_of (tables_at before) e.user e.statement =
+    alike (state_of l before) (tables_at (before ++ e ∷ es)) e.user e.statement (λ name stands. columns-stay l before (e ∷ es) name h stands) h.1 in
+    let rest : by (before ++ e ∷ es) ≡ changes_from (tables_with (tables_at before) e) es =
     ap by (sym (append_assoc before (e ∷ []) es)) ∙ (at_once l next es h.2 ∙ ap (λ ts. changes_from ts es) (contents-more before e)) in
-    ap (λ c. c ∷ by (before ++ e ∷ es)) here ∙ ap (λ k. change_of (contents before) e.user e.statement ∷ k) rest
+    ap (λ c. c ∷ by (before ++ e ∷ es)) here ∙ ap (λ k. change_of (tables_at before) e.user e.statement ∷ k) rest
 
-pub changes-at_once : (l : Limits) (journal : List Entry) → IsLawful l journal → map (λ (e : Entry). change_of (contents journal) e.user e.statement) journal ≡ changes journal
+pub changes-at_once : (l : Limits) (journal : List Entry) → IsLawful l journal → map (λ (e : Entry). change_of (tables_at journal) e.user e.statement) journal ≡ changes journal
 changes-at_once l journal h = at_once l [] journal h

@@ -6,16 +6,16 @@ use Rattle.base_core.specs.declared.name.User.{User}
 use Rattle.base_core.specs.declared.limits.Limits.{Limits}
 use Rattle.reader_core.specs.declared.statement.Statement.{Statement}
 use Rattle.reader_core.specs.declared.statement.Statement.TheVariants as statements
-use Rattle.tables_core.specs.Contents.{Contents, empty_table, with_row, without_chosen_rows, with_updated_rows, with_change}
+use Rattle.tables_core.specs.Contents.{Table, empty_table, with_row, without_chosen_rows, with_updated_rows, with_change}
 use Rattle.grants_core.specs.declared.grant.Change.{Change}
 use Rattle.grants_core.specs.declared.grant.Change.TheVariants as change
-use Rattle.grants_core.specs.Content.{Content}
+use Rattle.grants_core.specs.Content.{Rights}
 use Rattle.grants_core.specs.History.{content_after}
 use Rattle.system_core.specs.declared.machine.event.Entry.{Entry}
 use Rattle.monitor_core.specs.Verdict.{State, Check, verdict, atoms_at, is_change}
 
 -- the tables after a change
-abbrev pub tables_after : List (Name × Contents) → User → Statement → List (Name × Contents)
+abbrev pub tables_after : List (Name × Table) → User → Statement → List (Name × Table)
 tables_after tables user (statements.CreateTable table columns) =
     tables ++ (table, empty_table user columns) ∷ []
 tables_after tables user (statements.Insert table values) =
@@ -32,15 +32,15 @@ tables_after tables user statements.Checkpoint = tables
 tables_after tables user statements.Checkpoints = tables
 tables_after tables user (statements.Export number only) = tables
 
-abbrev pub tables_with : List (Name × Contents) → Entry → List (Name × Contents)
+abbrev pub tables_with : List (Name × Table) → Entry → List (Name × Table)
 tables_with tables e = tables_after tables e.user e.statement
 
 -- the tables of a journal, in order of creation, with their rows
-abbrev pub contents : List Entry → List (Name × Contents)
-contents journal = fold tables_with [] journal
+abbrev pub tables_at : List Entry → List (Name × Table)
+tables_at journal = fold tables_with [] journal
 
 -- what a user's statement changes of rights, at these tables
-abbrev pub change_of : List (Name × Contents) → User → Statement → Change
+abbrev pub change_of : List (Name × Table) → User → Statement → Change
 change_of tables user (statements.CreateTable table columns) = change.Create table user
 change_of tables user (statements.Insert table values) = change.Other
 change_of tables user (statements.Select list table filter) = change.Other
@@ -57,7 +57,7 @@ change_of tables user statements.Checkpoints = change.Other
 change_of tables user (statements.Export number only) = change.Other
 
 -- the changes of rights by entries, of which the first finds these tables
-abbrev pub changes_from : List (Name × Contents) → List Entry → List Change
+abbrev pub changes_from : List (Name × Table) → List Entry → List Change
 changes_from tables [] = []
 changes_from tables (e ∷ es) =
     change_of tables e.user e.statement ∷ changes_from (tables_with tables e) es
@@ -67,14 +67,14 @@ abbrev pub changes : List Entry → List Change
 changes journal = changes_from [] journal
 
 -- the owners, and the grants in force, after a journal
-abbrev pub rights_at : List Entry → Content
+abbrev pub rights_at : List Entry → Rights
 rights_at journal = content_after (changes journal)
 
 -- what is judged by, at a journal
 abbrev pub state_of : Limits → List Entry → State
 state_of limits journal =
     record {
-      tables = contents journal;
+      tables = tables_at journal;
       rights = rights_at journal;
       limits = limits;
       moment = length journal;

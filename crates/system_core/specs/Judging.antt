@@ -13,7 +13,7 @@ use Rattle.reader_core.specs.declared.statement.Statement.TheVariants as stateme
 use Rattle.export_core.specs.Export.{is_any}
 use Rattle.monitor_core.specs.Verdict.{Check, require, first_lack, is_table, columns_of}
 use Rattle.system_core.specs.declared.machine.event.Entry.{Entry}
-use Rattle.system_core.specs.Journal.{contents, verdict_at}
+use Rattle.system_core.specs.Journal.{tables_at, verdict_at}
 use Rattle.system_core.specs.Exports.{journal_at, could_select, shown}
 use Rattle.system_core.specs.World.{World, moment_of}
 
@@ -37,18 +37,18 @@ at_point point check = option_map_or check point (Ok tt)
 
 abbrev pub stood_then : List Entry → Name → ℕ → Check
 stood_then past table number =
-    require (is_table (contents past) table) (lacks.NoTableThen table number)
+    require (is_table (tables_at past) table) (lacks.NoTableThen table number)
 
 -- the user could select a column of the table at the point
 abbrev pub could_select_then : List Entry → User → Name → Check
 could_select_then past user table =
-    require (is_any (could_select past user table (columns_of (contents past) table)))
+    require (is_any (could_select past user table (columns_of (tables_at past) table)))
     (lacks.NoSelectThen user table)
 
 -- he could select one then that he may select now
 abbrev pub may_select_now : (past now : List Entry) → User → Name → Check
 may_select_now past now user table =
-    require (is_any (shown past now user table (columns_of (contents past) table)))
+    require (is_any (shown past now user table (columns_of (tables_at past) table)))
     (lacks.NoSelectNow user table)
 
 -- of a checkpoint all may be exported, by the journals at its point and now; a table alone, where

@@ -2,6 +2,7 @@ pub mod Journal
 pub mod Exports
 pub mod World
 pub mod Judging
+pub mod Replies
 pub mod Step
 pub mod Entering
 pub mod Carrying

@@ -13,7 +13,7 @@ use Rattle.tables_core.specs.Contents.{selected_rows, table_of}
 use Rattle.monitor_core.specs.Atoms.{columns_given}
 use Rattle.monitor_core.specs.Verdict.{Check, columns_of, is_change}
 use Rattle.catalogue_core.specs.Kept.{last_eight}
-use Rattle.export_core.specs.Ticket.{Exporting}
+use Rattle.export_core.specs.Ticket.{TicketState}
 use Rattle.system_core.specs.declared.machine.event.Entry.{Entry}
 use Rattle.system_core.specs.declared.machine.event.Event.{Event}
 use Rattle.system_core.specs.declared.machine.event.Event.TheVariants as events
@@ -21,7 +21,7 @@ use Rattle.system_core.specs.declared.machine.event.Checkpoint.{Checkpoint}
 use Rattle.system_core.specs.declared.machine.event.Checkpoint.TheVariants as checkpoints
 use Rattle.system_core.specs.declared.machine.event.Reply.{Reply}
 use Rattle.system_core.specs.declared.machine.event.Reply.TheVariants as replies
-use Rattle.system_core.specs.Journal.{contents}
+use Rattle.system_core.specs.Journal.{tables_at}
 use Rattle.system_core.specs.Exports.{export_of}
 use Rattle.system_core.specs.World.{World, ActiveCheckpoint, entry, moment_of, next_moment, with_entry, records_at}
 use Rattle.system_core.specs.Judging.{point_of, verdict_of, judged_at}
@@ -40,7 +40,7 @@ change_reply at (Err _) = replies.Refused at lacks.NoMemory
 -- the rows that answer a query: those of the table that the filter chooses, cut to the columns given
 abbrev pub IsAnswer : List Entry → Statement → List Row → Type 0
 IsAnswer journal (statements.Select list table filter) rows =
-    let tables = contents journal in
+    let tables = tables_at journal in
     option_map (selected_rows (columns_given (columns_of tables table) list) filter)
     (table_of tables table)
     ≡ Some rows
@@ -55,7 +55,7 @@ abbrev pub listed_checkpoints : World → List Checkpoint
 listed_checkpoints w = map (λ c. checkpoints.Kept c.0 c.1) w.finished ++ active_listed w.active
 
 -- the export of a kept checkpoint, by the journals at its point and now
-abbrev pub IsExport : World → User → Statement → Exporting → Type 0
+abbrev pub IsExport : World → User → Statement → TicketState → Type 0
 IsExport w user (statements.Export number only) ticket =
     IsSomeAnd (point_of w number) (λ point. ticket ≡ export_of w.journal number point user only)
 IsExport w user _ ticket = ⊥

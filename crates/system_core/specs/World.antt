@@ -7,7 +7,7 @@ use Rattle.base_core.specs.declared.limits.Limits.{Limits}
 use Rattle.reader_core.specs.declared.statement.Statement.{Statement}
 use Rattle.capture_core.specs.Image.{records}
 use Rattle.system_core.specs.declared.machine.event.Entry.{Entry}
-use Rattle.system_core.specs.Journal.{contents, rights_at, IsLawful}
+use Rattle.system_core.specs.Journal.{tables_at, rights_at, IsLawful}
 use Rattle.system_core.specs.Exports.{journal_at}
 
 -- the checkpoint that is being captured: its number, its point, and how many records are left
@@ -47,7 +47,7 @@ with_entry w e = record w { journal = w.journal ++ e ∷ [] }
 -- how many records a checkpoint of this point has
 abbrev pub records_at : List Entry → Moment → ℕ
 records_at journal point =
-    records (contents (journal_at journal point)) (rights_at (journal_at journal point))
+    records (tables_at (journal_at journal point)) (rights_at (journal_at journal point))
 
 -- the checkpoints that are kept, and then the active one, each by its number and its point
 abbrev pub with_active : List (ℕ × Moment) → Option ActiveCheckpoint → List (ℕ × Moment)

@@ -12,7 +12,7 @@ ghost use Rattle.reader_core.specs.declared.statement.Statement.{Statement};
 ghost use Rattle.tables_core.specs.Contents.{table_of};
 ghost use Rattle.tables_core.specs.Fitting.{RowsFit};
 ghost use Rattle.grants_core.specs.Owners.{owner_of};
-ghost use Rattle.system_core.specs.Journal.{contents, rights_at, IsLawful};
+ghost use Rattle.system_core.specs.Journal.{tables_at, rights_at, IsLawful};
 ghost use Rattle.system_core.specs.World.{World, IsLawfulWorld};
 ghost use Rattle.system_core.specs.Judging.{verdict_of, judged_at};
 ghost use Rattle.system_core.specs.Step.{lack_reply, Step};
@@ -65,12 +65,12 @@ pub fn worn_is_never_answered()
 pub fn tables_are_sound()
     ensures rows { (limits : Limits) (journal : List Entry)
         → IsLawful limits journal
-        → All RowsFit (values_of (contents journal)) }
+        → All RowsFit (values_of (tables_at journal)) }
     ensures names { (limits : Limits) (journal : List Entry)
         → IsLawful limits journal
-        → IsDistinct same_name (keys_of (contents journal)) }
+        → IsDistinct same_name (keys_of (tables_at journal)) }
     ensures owners { (limits : Limits) (journal : List Entry) (name : Name)
         → IsLawful limits journal
         → owner_of (rights_at journal).owners name
-        ≡ option_map (λ t. t.owner) (table_of (contents journal) name) }
+        ≡ option_map (λ t. t.owner) (table_of (tables_at journal) name) }
 {}

@@ -11,7 +11,7 @@ use Rattle.base_core.specs.declared.condition.Comparison.TheVariants as comparis
 use Rattle.base_core.specs.declared.condition.Condition.{Condition}
 use Rattle.base_core.specs.declared.value.Value.{Value}
 use Rattle.base_core.specs.declared.value.Value.TheVariants as values
-use Rattle.tables_core.specs.Bounding.{AreKept, IsWithin}
+use Rattle.tables_core.specs.Bounding.{Admits, AdmitsRow}
 use Rattle.tables_core.specs.declared.bounds.Bounds.{Bounds}
 
 module _ (n l : ℤ) where
@@ -67,7 +67,7 @@ module _ (condition : Condition) (literal : ℤ) (by : condition.literal ≡ val
   stands-so cell n is e = ap (λ k. compares condition.comparison (values.Int n) k) (sym by) ∙ ap (cell_meets condition) (sym is) ∙ e
 
   -- bounds that were narrowed by the condition
-  pub within-narrowed : (old new : Bounds) (row : List Value) → new.place ≡ old.place → ((n : ℤ) → AreKept old n → accepts condition.comparison (int_cmp n literal) ≡ true → AreKept new n) → cell_meets condition (slice_get row old.place) ≡ true → IsWithin old row → IsWithin new row
+  pub within-narrowed : (old new : Bounds) (row : List Value) → new.place ≡ old.place → ((n : ℤ) → Admits old n → accepts condition.comparison (int_cmp n literal) ≡ true → Admits new n) → cell_meets condition (slice_get row old.place) ≡ true → AdmitsRow old row → AdmitsRow new row
   within-narrowed old new row place kept e within n is =
       let at : slice_get row old.place ≡ Some (values.Int n) = ap (slice_get row) (sym place) ∙ is in
       kept n (within n at) (stands-so (slice_get row old.place) n at e)

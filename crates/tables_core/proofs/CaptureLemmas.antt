@@ -12,63 +12,63 @@ use Rattle.indexmap.specs.IndexMap.{set_value_at}
 use Rattle.base_core.specs.declared.name.Name.{Name}
 use Rattle.base_core.specs.declared.value.Row.{Row}
 use Rattle.tables_core.specs.declared.walk.Walk.{Walk}
-use Rattle.tables_core.specs.Contents.{Contents, Moves, all_rows}
-use Rattle.tables_core.specs.Capture.{Covered, KeepsDue, IsWalk, MarksUpTo, due_for, named_due, rest_in, shown_tables}
+use Rattle.tables_core.specs.Contents.{Table, Moves, all_rows}
+use Rattle.tables_core.specs.Capture.{StoredTable, KeepsDue, IsWalk, MarksUpTo, due_for, named_due, rest_in, shown_tables}
 
 -- a table that was found is the one there
 some-same : {A : Type 0} (x y : A) → Some x ≡ Some y → x ≡ y
 some-same x y e = cc
 
 -- a table whose own capture was begun for this one
-pub due-joined : (n : ℕ) (t : Covered) → t.mark ≡ n → due_for n t ≡ t.due
+pub due-joined : (n : ℕ) (t : StoredTable) → t.mark ≡ n → due_for n t ≡ t.due
 due-joined n t q = rw (eq-eqb t.mark n q)
 
 -- a table whose own capture was begun for an earlier one
-due-new : (n : ℕ) (t : Covered) → t.mark ≤ n → due_for (n + 1) t ≡ t.contents.rows
+due-new : (n : ℕ) (t : StoredTable) → t.mark ≤ n → due_for (n + 1) t ≡ t.contents.rows
 due-new n t le = let ne : t.mark ≢ n + 1 = λ q. absurd (omega arith) in rw (ne_eqb t.mark (n + 1) ne)
 
 -- the table at the first place gives first
-rest-head_suc : (n at to : ℕ) (ts : List (Name × Covered)) (t : Name × Covered) → at < to → slice_get ts at ≡ Some t → rest_in n at to ts ≡ named_due n t ++ rest_in n (suc at) to ts
+rest-head_suc : (n at to : ℕ) (ts : List (Name × StoredTable)) (t : Name × StoredTable) → at < to → slice_get ts at ≡ Some t → rest_in n at to ts ≡ named_due n t ++ rest_in n (suc at) to ts
 rest-head_suc n at to [] t lt is = let no : ⊥ = cc in absurd no
 rest-head_suc n at zero (x ∷ ts) t lt is = absurd (omega arith)
-rest-head_suc n zero (suc to) (x ∷ ts) t lt is = ap (λ (e : Name × Covered). named_due n e ++ rest_in n zero to ts) (some-same x t is)
+rest-head_suc n zero (suc to) (x ∷ ts) t lt is = ap (λ (e : Name × StoredTable). named_due n e ++ rest_in n zero to ts) (some-same x t is)
 rest-head_suc n (suc at) (suc to) (x ∷ ts) t lt is = rest-head_suc n at to ts t (omega arith) is
 
-rest-head : (n at to : ℕ) (ts : List (Name × Covered)) (t : Name × Covered) → at < to → slice_get ts at ≡ Some t → rest_in n at to ts ≡ named_due n t ++ rest_in n (at + 1) to ts
+rest-head : (n at to : ℕ) (ts : List (Name × StoredTable)) (t : Name × StoredTable) → at < to → slice_get ts at ≡ Some t → rest_in n at to ts ≡ named_due n t ++ rest_in n (at + 1) to ts
 rest-head n at to ts t lt is = rw add-one (rest-head_suc n at to ts t lt is)
 
 -- a table is written at its place
-module _ (n : ℕ) (t : Name × Covered) (y : Covered) where
-  slice-put : (ts : List (Name × Covered)) (i : ℕ) → slice_get ts i ≡ Some t → slice_get (set_value_at ts i y) i ≡ Some (t.0, y)
+module _ (n : ℕ) (t : Name × StoredTable) (y : StoredTable) where
+  slice-put : (ts : List (Name × StoredTable)) (i : ℕ) → slice_get ts i ≡ Some t → slice_get (set_value_at ts i y) i ≡ Some (t.0, y)
   slice-put [] i is = let no : ⊥ = cc in absurd no
-  slice-put (x ∷ ts) zero is = ap (λ (e : Name × Covered). Some (e.0, y)) (some-same x t is)
+  slice-put (x ∷ ts) zero is = ap (λ (e : Name × StoredTable). Some (e.0, y)) (some-same x t is)
   slice-put (x ∷ ts) (suc i) is = slice-put ts i is
 
-  rest-put : (c to : ℕ) (ts : List (Name × Covered)) (i : ℕ) → slice_get ts i ≡ Some t → (c ≤ i → i < to → due_for n y ≡ due_for n t.1) → rest_in n c to (set_value_at ts i y) ≡ rest_in n c to ts
+  rest-put : (c to : ℕ) (ts : List (Name × StoredTable)) (i : ℕ) → slice_get ts i ≡ Some t → (c ≤ i → i < to → due_for n y ≡ due_for n t.1) → rest_in n c to (set_value_at ts i y) ≡ rest_in n c to ts
   rest-put c to [] i is h = refl
   rest-put c zero (x ∷ ts) zero is h = refl
   rest-put c zero (x ∷ ts) (suc i) is h = refl
-  rest-put zero (suc to) (x ∷ ts) zero is h = ap (λ l. map (λ numbered. (x.0, numbered)) l ++ rest_in n zero to ts) (h (omega arith) (omega arith) ∙ ap (λ (e : Name × Covered). due_for n e.1) (sym (some-same x t is)))
+  rest-put zero (suc to) (x ∷ ts) zero is h = ap (λ l. map (λ numbered. (x.0, numbered)) l ++ rest_in n zero to ts) (h (omega arith) (omega arith) ∙ ap (λ (e : Name × StoredTable). due_for n e.1) (sym (some-same x t is)))
   rest-put (suc c) (suc to) (x ∷ ts) zero is h = refl
   rest-put zero (suc to) (x ∷ ts) (suc i) is h = ap (λ l. named_due n x ++ l) (rest-put zero to ts i is (λ a b. h (omega arith) (omega arith)))
   rest-put (suc c) (suc to) (x ∷ ts) (suc i) is h = rest-put c to ts i is (λ a b. h (omega arith) (omega arith))
 
-  pub marks-put : (ts : List (Name × Covered)) (i : ℕ) → y.mark ≤ n → MarksUpTo n ts → MarksUpTo n (set_value_at ts i y)
+  pub marks-put : (ts : List (Name × StoredTable)) (i : ℕ) → y.mark ≤ n → MarksUpTo n ts → MarksUpTo n (set_value_at ts i y)
   marks-put [] i le h = h
   marks-put (x ∷ ts) zero le h = (le, h.1)
   marks-put (x ∷ ts) (suc i) le h = (h.0, marks-put ts i le h.1)
 
-  pub shown-put : (ts : List (Name × Covered)) (i : ℕ) → slice_get ts i ≡ Some t → y.contents ≡ t.1.contents → shown_tables (set_value_at ts i y) ≡ shown_tables ts
+  pub shown-put : (ts : List (Name × StoredTable)) (i : ℕ) → slice_get ts i ≡ Some t → y.contents ≡ t.1.contents → shown_tables (set_value_at ts i y) ≡ shown_tables ts
   shown-put [] i is e = refl
-  shown-put (x ∷ ts) zero is e = ap (λ (k : Contents). (x.0, k) ∷ shown_tables ts) (e ∙ ap (λ (s : Name × Covered). s.1.contents) (sym (some-same x t is)))
+  shown-put (x ∷ ts) zero is e = ap (λ (k : Table). (x.0, k) ∷ shown_tables ts) (e ∙ ap (λ (s : Name × StoredTable). s.1.contents) (sym (some-same x t is)))
   shown-put (x ∷ ts) (suc i) is e = ap (λ l. (x.0, x.1.contents) ∷ l) (shown-put ts i is e)
 
   -- a table that was joined and gave nothing
-  pub rest-joined : (c to : ℕ) (ts : List (Name × Covered)) (i : ℕ) → slice_get ts i ≡ Some t → y.mark ≡ n → y.due ≡ due_for n t.1 → rest_in n c to (set_value_at ts i y) ≡ rest_in n c to ts
+  pub rest-joined : (c to : ℕ) (ts : List (Name × StoredTable)) (i : ℕ) → slice_get ts i ≡ Some t → y.mark ≡ n → y.due ≡ due_for n t.1 → rest_in n c to (set_value_at ts i y) ≡ rest_in n c to ts
   rest-joined c to ts i is q u = rest-put c to ts i is (λ a b. due-joined n y q ∙ u)
 
   -- after the table at the walk's place gave its first k rows
-  pub rest-stepped : (at to k : ℕ) (ts : List (Name × Covered)) → at < to → slice_get ts at ≡ Some t → y.mark ≡ n → y.due ≡ drop k (due_for n t.1) → rest_in n at to ts ≡ map (λ numbered. (t.0, numbered)) (take k (due_for n t.1)) ++ rest_in n at to (set_value_at ts at y)
+  pub rest-stepped : (at to k : ℕ) (ts : List (Name × StoredTable)) → at < to → slice_get ts at ≡ Some t → y.mark ≡ n → y.due ≡ drop k (due_for n t.1) → rest_in n at to ts ≡ map (λ numbered. (t.0, numbered)) (take k (due_for n t.1)) ++ rest_in n at to (set_value_at ts at y)
   rest-stepped at to k ts lt is q u =
       let name : ℕ × Row → Name × (ℕ × Row) = λ numbered. (t.0, numbered) in
       let given = due_for n t.1 in
@@ -78,10 +78,10 @@ module _ (n : ℕ) (t : Name × Covered) (y : Covered) where
       rest-head n at to ts t lt is ∙ ap (λ l. l ++ rest_in n (at + 1) to ts) parts ∙ append_assoc (map name (take k given)) (map name (drop k given)) (rest_in n (at + 1) to ts) ∙ ap (λ l. map name (take k given) ++ l) (sym after)
 
   -- a table with nothing left to give is passed
-  pub rest-passed : (at to : ℕ) (ts : List (Name × Covered)) → at < to → slice_get ts at ≡ Some t → y.mark ≡ n → y.due ≡ [] → rest_in n at to (set_value_at ts at y) ≡ rest_in n (at + 1) to (set_value_at ts at y)
+  pub rest-passed : (at to : ℕ) (ts : List (Name × StoredTable)) → at < to → slice_get ts at ≡ Some t → y.mark ≡ n → y.due ≡ [] → rest_in n at to (set_value_at ts at y) ≡ rest_in n (at + 1) to (set_value_at ts at y)
   rest-passed at to ts lt is q u = rest-head n at to (set_value_at ts at y) (t.0, y) lt (slice-put ts at is) ∙ ap (λ l. map (λ numbered. (t.0, numbered)) l ++ rest_in n (at + 1) to (set_value_at ts at y)) (due-joined n y q ∙ u)
 
-  pub turn-length : (at to k more : ℕ) (ts : List (Name × Covered)) → at < to → slice_get ts at ≡ Some t → y.mark ≡ n → y.due ≡ drop k (due_for n t.1) → more ≡ min k (length (due_for n t.1)) → more + length (rest_in n at to (set_value_at ts at y)) ≡ length (rest_in n at to ts)
+  pub turn-length : (at to k more : ℕ) (ts : List (Name × StoredTable)) → at < to → slice_get ts at ≡ Some t → y.mark ≡ n → y.due ≡ drop k (due_for n t.1) → more ≡ min k (length (due_for n t.1)) → more + length (rest_in n at to (set_value_at ts at y)) ≡ length (rest_in n at to ts)
   turn-length at to k more ts lt is q u g =
       let name : ℕ × Row → Name × (ℕ × Row) = λ numbered. (t.0, numbered) in
       let s = ap length (rest-stepped at to k ts lt is q u) ∙ length-append (map name (take k (due_for n t.1))) (rest_in n at to (set_value_at ts at y)) in
@@ -97,37 +97,37 @@ Moves-then {c = c} {p = p} f m e g = record {
 }
 
 -- nothing left is nothing at another place, where a walk ends
-pub rest-stands : (n place to left : ℕ) (ts : List (Name × Covered)) → left ≡ length (rest_in n place to ts) → rest_in n (cond (eqb left 0) to place) to ts ≡ rest_in n place to ts
+pub rest-stands : (n place to left : ℕ) (ts : List (Name × StoredTable)) → left ≡ length (rest_in n place to ts) → rest_in n (cond (eqb left 0) to place) to ts ≡ rest_in n place to ts
 rest-stands n place to zero ts e =
     let long = length-take to ts in
-    let gone : rest_in n to to ts ≡ [] = ap (λ (l : List (Name × Covered)). flat_map (named_due n) l) (drop_all to (take to ts) (omega arith)) in
+    let gone : rest_in n to to ts ≡ [] = ap (λ (l : List (Name × StoredTable)). flat_map (named_due n) l) (drop_all to (take to ts) (omega arith)) in
     gone ∙ sym (nil_from_length (rest_in n place to ts) (sym e))
 rest-stands n place to (suc left) ts e = ap (λ b. rest_in n (cond b to place) to ts) (ne_eqb (suc left) 0 (λ q. absurd (omega arith)))
 
 -- for a new capture each table has all its rows to give
-pub rest-new : (n : ℕ) (ts : List (Name × Covered)) → MarksUpTo n ts → rest_in (n + 1) 0 (length ts) ts ≡ all_rows (shown_tables ts)
-rest-new n ts h = ap (λ (l : List (Name × Covered)). flat_map (named_due (n + 1)) l) (take_all (length ts) ts (omega arith)) ∙ each ts h
+pub rest-new : (n : ℕ) (ts : List (Name × StoredTable)) → MarksUpTo n ts → rest_in (n + 1) 0 (length ts) ts ≡ all_rows (shown_tables ts)
+rest-new n ts h = ap (λ (l : List (Name × StoredTable)). flat_map (named_due (n + 1)) l) (take_all (length ts) ts (omega arith)) ∙ each ts h
   where
-    each : (ts : List (Name × Covered)) → MarksUpTo n ts → flat_map (named_due (n + 1)) ts ≡ all_rows (shown_tables ts)
+    each : (ts : List (Name × StoredTable)) → MarksUpTo n ts → flat_map (named_due (n + 1)) ts ≡ all_rows (shown_tables ts)
     each [] h = refl
     each (t ∷ ts) h = ap (λ l. map (λ numbered. (t.0, numbered)) l ++ flat_map (named_due (n + 1)) ts) (due-new n t.1 h.0) ∙ ap (λ l. map (λ numbered. (t.0, numbered)) t.1.contents.rows ++ l) (each ts h.1)
 
-pub marks-more : (n : ℕ) (ts : List (Name × Covered)) → MarksUpTo n ts → MarksUpTo (n + 1) ts
+pub marks-more : (n : ℕ) (ts : List (Name × StoredTable)) → MarksUpTo n ts → MarksUpTo (n + 1) ts
 marks-more n [] h = tt
 marks-more n (t ∷ ts) h = (let k = h.0 in omega arith, marks-more n ts h.1)
 
 -- one more table without a mark
-marks-take_suc : (t : Name × Covered) (y : Covered) (ts : List (Name × Covered)) (i : ℕ) → slice_get ts i ≡ Some t → y.mark ≤ 0 → MarksUpTo 0 (take i ts) → MarksUpTo 0 (take (suc i) (set_value_at ts i y))
+marks-take_suc : (t : Name × StoredTable) (y : StoredTable) (ts : List (Name × StoredTable)) (i : ℕ) → slice_get ts i ≡ Some t → y.mark ≤ 0 → MarksUpTo 0 (take i ts) → MarksUpTo 0 (take (suc i) (set_value_at ts i y))
 marks-take_suc t y [] i is le h = let no : ⊥ = cc in absurd no
 marks-take_suc t y (x ∷ ts) zero is le h = (le, tt)
 marks-take_suc t y (x ∷ ts) (suc i) is le h = (h.0, marks-take_suc t y ts i is le h.1)
 
-pub marks-take : (t : Name × Covered) (y : Covered) (ts : List (Name × Covered)) (i : ℕ) → slice_get ts i ≡ Some t → y.mark ≤ 0 → MarksUpTo 0 (take i ts) → MarksUpTo 0 (take (i + 1) (set_value_at ts i y))
+pub marks-take : (t : Name × StoredTable) (y : StoredTable) (ts : List (Name × StoredTable)) (i : ℕ) → slice_get ts i ≡ Some t → y.mark ≤ 0 → MarksUpTo 0 (take i ts) → MarksUpTo 0 (take (i + 1) (set_value_at ts i y))
 marks-take t y ts i is le h = rw add-one (marks-take_suc t y ts i is le h)
 
 -- a table is written under its name
 module _ (test : Name → Bool) where
-  pub shown-named : (ts : List (Name × Covered)) (y : Covered) → shown_tables (set_value test ts y) ≡ set_value test (shown_tables ts) y.contents
+  pub shown-named : (ts : List (Name × StoredTable)) (y : StoredTable) → shown_tables (set_value test ts y) ≡ set_value test (shown_tables ts) y.contents
   shown-named [] y = refl
   shown-named (t ∷ ts) y = by (test t.0) (shown-named ts y)
     where
@@ -135,15 +135,15 @@ module _ (test : Name → Bool) where
       by true h = refl
       by false h = ap (λ l. (t.0, t.1.contents) ∷ l) h
 
-  marks-found : (n : ℕ) (ts : List (Name × Covered)) (x : Covered) → lookup test ts ≡ Some x → MarksUpTo n ts → x.mark ≤ n
+  marks-found : (n : ℕ) (ts : List (Name × StoredTable)) (x : StoredTable) → lookup test ts ≡ Some x → MarksUpTo n ts → x.mark ≤ n
   marks-found n [] x is h = let no : ⊥ = cc in absurd no
   marks-found n (t ∷ ts) x is h = by (test t.0) is (λ e. marks-found n ts x e h.1)
     where
       by : (b : Bool) → cond b (Some t.1) (lookup test ts) ≡ Some x → (lookup test ts ≡ Some x → x.mark ≤ n) → x.mark ≤ n
-      by true e later = subst (λ (s : Covered). s.mark ≤ n) (some-same t.1 x e) h.0
+      by true e later = subst (λ (s : StoredTable). s.mark ≤ n) (some-same t.1 x e) h.0
       by false e later = later e
 
-  marks-named : (n : ℕ) (ts : List (Name × Covered)) (y : Covered) → y.mark ≤ n → MarksUpTo n ts → MarksUpTo n (set_value test ts y)
+  marks-named : (n : ℕ) (ts : List (Name × StoredTable)) (y : StoredTable) → y.mark ≤ n → MarksUpTo n ts → MarksUpTo n (set_value test ts y)
   marks-named n [] y le h = h
   marks-named n (t ∷ ts) y le h = by (test t.0) (marks-named n ts y le h.1)
     where
@@ -151,7 +151,7 @@ module _ (test : Name → Bool) where
       by true later = (le, h.1)
       by false later = (h.0, later)
 
-  rest-named : (n c to : ℕ) (ts : List (Name × Covered)) (x y : Covered) → lookup test ts ≡ Some x → (c < to → due_for n y ≡ due_for n x) → rest_in n c to (set_value test ts y) ≡ rest_in n c to ts
+  rest-named : (n c to : ℕ) (ts : List (Name × StoredTable)) (x y : StoredTable) → lookup test ts ≡ Some x → (c < to → due_for n y ≡ due_for n x) → rest_in n c to (set_value test ts y) ≡ rest_in n c to ts
   rest-named n c to [] x y is h = refl
   rest-named n c zero (t ∷ ts) x y is h = refl
   rest-named n zero (suc to) (t ∷ ts) x y is h = by (test t.0) is (λ e. rest-named n zero to ts x y e (λ _. h (omega arith)))
@@ -166,34 +166,34 @@ module _ (test : Name → Bool) where
       by false e later = later e
 
 -- all rows are as many as the tables have together
-pub length-all_rows : (ts : List (Name × Contents)) → length (all_rows ts) ≡ sum_by (λ (t : Name × Contents). length t.1.rows) ts
+pub length-all_rows : (ts : List (Name × Table)) → length (all_rows ts) ≡ sum_by (λ (t : Name × Table). length t.1.rows) ts
 length-all_rows [] = refl
 length-all_rows (t ∷ ts) =
     let name : ℕ × Row → Name × (ℕ × Row) = λ numbered. (t.0, numbered) in
     let long = length-append (map name t.1.rows) (all_rows ts) in
     let own = length-map t.1.rows name in
     let later = length-all_rows ts in
-    let sums = sum_by-cons (λ (t : Name × Contents). length t.1.rows) t ts in
+    let sums = sum_by-cons (λ (t : Name × Table). length t.1.rows) t ts in
     omega arith
 
 -- the same, by the tables without their names
-sum_by-rows : (ts : List (Name × Contents)) → sum_by (λ (t : Name × Contents). length t.1.rows) ts ≡ sum_by (λ (t : Contents). length t.rows) (values_of ts)
+sum_by-rows : (ts : List (Name × Table)) → sum_by (λ (t : Name × Table). length t.1.rows) ts ≡ sum_by (λ (t : Table). length t.rows) (values_of ts)
 sum_by-rows [] = refl
 sum_by-rows (t ∷ ts) =
     let later = sum_by-rows ts in
-    let sums = sum_by-cons (λ (t : Name × Contents). length t.1.rows) t ts in
-    let others = sum_by-cons (λ (t : Contents). length t.rows) t.1 (values_of ts) in
+    let sums = sum_by-cons (λ (t : Name × Table). length t.1.rows) t ts in
+    let others = sum_by-cons (λ (t : Table). length t.rows) t.1 (values_of ts) in
     omega arith
 
 -- a change to one table changes how many rows there are by what it changes of that one
-pub all_rows-changed : (test : Name → Bool) (ts : List (Name × Contents)) (x y : Contents) → lookup test ts ≡ Some x → length (all_rows (set_value test ts y)) + length x.rows ≡ length (all_rows ts) + length y.rows
+pub all_rows-changed : (test : Name → Bool) (ts : List (Name × Table)) (x y : Table) → lookup test ts ≡ Some x → length (all_rows (set_value test ts y)) + length x.rows ≡ length (all_rows ts) + length y.rows
 all_rows-changed test ts x y is =
     let a = length-all_rows ts ∙ sum_by-rows ts in
     let b = length-all_rows (set_value test ts y) ∙ sum_by-rows (set_value test ts y) in
-    let s = sum_by-set_value (λ (t : Contents). length t.rows) test ts x y is in
+    let s = sum_by-set_value (λ (t : Table). length t.rows) test ts x y is in
     omega arith
 
-module _ (test : Name → Bool) (ts : List (Name × Covered)) (w : Walk) (x y : Covered) (there : lookup test ts ≡ Some x) (kept : KeepsDue w x y) where
+module _ (test : Name → Bool) (ts : List (Name × StoredTable)) (w : Walk) (x y : StoredTable) (there : lookup test ts ≡ Some x) (kept : KeepsDue w x y) where
   -- a change to one table leaves what all have to give
   pub rest-kept : rest_in w.number w.cursor w.end (set_value test ts y) ≡ rest_in w.number w.cursor w.end ts
   rest-kept = rest-named test w.number w.cursor w.end ts x y there kept.due
@@ -213,7 +213,7 @@ stands-within true place to le = omega arith
 stands-within false place to le = le
 
 -- a walk that comes to another place, at its end where nothing is left
-pub walk-stands : (ts : List (Name × Covered)) (n place to left total : ℕ) → MarksUpTo n ts → place ≤ to → to ≤ length ts → left ≡ length (rest_in n place to ts) → total ≡ length (all_rows (shown_tables ts)) % 2 ^ 64 → IsWalk ts (record { number = n; cursor = cond (eqb left 0) to place; end = to; left = left }) total
+pub walk-stands : (ts : List (Name × StoredTable)) (n place to left total : ℕ) → MarksUpTo n ts → place ≤ to → to ≤ length ts → left ≡ length (rest_in n place to ts) → total ≡ length (all_rows (shown_tables ts)) % 2 ^ 64 → IsWalk ts (record { number = n; cursor = cond (eqb left 0) to place; end = to; left = left }) total
 walk-stands ts n place to left total marks le within l t = record {
   marks = marks;
   ordered = stands-within (eqb left 0) place to le;
@@ -227,9 +227,9 @@ pub total-few : (total long : ℕ) → total ≡ long % 2 ^ 64 → long < 2 ^ 63
 total-few total long t few = omega arith
 
 -- a capture of which a part was given
-pub walk-stepped : (ts us : List (Name × Covered)) (w : Walk) (place given total : ℕ) → IsWalk ts w total → shown_tables us ≡ shown_tables ts → MarksUpTo w.number us → place ≤ w.end → given + length (rest_in w.number place w.end us) ≡ length (rest_in w.number w.cursor w.end ts) → IsWalk us (record { number = w.number; cursor = cond (eqb (w.left - given) 0) w.end place; end = w.end; left = w.left - given }) total
+pub walk-stepped : (ts us : List (Name × StoredTable)) (w : Walk) (place given total : ℕ) → IsWalk ts w total → shown_tables us ≡ shown_tables ts → MarksUpTo w.number us → place ≤ w.end → given + length (rest_in w.number place w.end us) ≡ length (rest_in w.number w.cursor w.end ts) → IsWalk us (record { number = w.number; cursor = cond (eqb (w.left - given) 0) w.end place; end = w.end; left = w.left - given }) total
 walk-stepped ts us w place given total s same marks le gone =
-    let show : Name × Covered → Name × Contents = λ t. (t.0, t.1.contents) in
+    let show : Name × StoredTable → Name × Table = λ t. (t.0, t.1.contents) in
     let long : length us ≡ length ts = sym (length-map us show) ∙ (ap length same ∙ length-map ts show) in
     let within : w.end ≤ length us = let k = s.within in omega arith in
     let left : w.left - given ≡ length (rest_in w.number place w.end us) = let k = s.left_is in omega arith in

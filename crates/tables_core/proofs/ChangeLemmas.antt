@@ -13,27 +13,27 @@ use Rattle.base_core.specs.declared.name.User.{User}
 use Rattle.base_core.specs.declared.value.Column.{Column}
 use Rattle.base_core.specs.declared.value.Row.{Row}
 use Rattle.tables_core.specs.declared.walk.Walk.{Walk}
-use Rattle.tables_core.specs.Contents.{Contents, all_rows, empty_table, table_of, with_change, with_row}
-use Rattle.tables_core.specs.Capture.{Covered, KeepsDue, IsWalk, MarksUpTo, named_due, rest_in, shown_tables}
+use Rattle.tables_core.specs.Contents.{Table, all_rows, empty_table, table_of, with_change, with_row}
+use Rattle.tables_core.specs.Capture.{StoredTable, KeepsDue, IsWalk, MarksUpTo, named_due, rest_in, shown_tables}
 use Rattle.tables_core.proofs.CaptureLemmas.{all_rows-changed, rest-kept, shown-named, walk-kept}
 use Rattle.tables_core.proofs.ContentsLemmas.{with_change-some, with_change-none}
 
 -- a look-up among the tables as callers see them
-pub shown-found : (name : Name) (ts : List (Name × Covered)) → table_of (shown_tables ts) name ≡ option_map (λ (t : Covered). t.contents) (lookup (same_name name) ts)
-shown-found name ts = lookup-map_values (λ (t : Covered). t.contents) (same_name name) ts
+pub shown-found : (name : Name) (ts : List (Name × StoredTable)) → table_of (shown_tables ts) name ≡ option_map (λ (t : StoredTable). t.contents) (lookup (same_name name) ts)
+shown-found name ts = lookup-map_values (λ (t : StoredTable). t.contents) (same_name name) ts
 
 -- a table that was written as it was
-pub same-written : (name : Name) (ts after : List (Name × Covered)) (x y : Covered) → lookup (same_name name) ts ≡ Some x → after ≡ set_value (same_name name) ts y → y ≡ x → after ≡ ts
+pub same-written : (name : Name) (ts after : List (Name × StoredTable)) (x y : StoredTable) → lookup (same_name name) ts ≡ Some x → after ≡ set_value (same_name name) ts y → y ≡ x → after ≡ ts
 same-written name ts after x y there written same = written ∙ set_value_same (same_name name) ts y (there ∙ ap Some (sym same))
 
-module _ (name : Name) (ts after : List (Name × Covered)) (w : Walk) (x y : Covered) (there : lookup (same_name name) ts ≡ Some x) (written : after ≡ set_value (same_name name) ts y) where
+module _ (name : Name) (ts after : List (Name × StoredTable)) (w : Walk) (x y : StoredTable) (there : lookup (same_name name) ts ≡ Some x) (written : after ≡ set_value (same_name name) ts y) where
   pub shown-there : table_of (shown_tables ts) name ≡ Some x.contents
-  shown-there = shown-found name ts ∙ ap (option_map (λ (t : Covered). t.contents)) there
+  shown-there = shown-found name ts ∙ ap (option_map (λ (t : StoredTable). t.contents)) there
 
   shown-after : shown_tables after ≡ set_value (same_name name) (shown_tables ts) y.contents
   shown-after = ap shown_tables written ∙ shown-named (same_name name) ts y
 
-  pub shown-changed : (change : Contents → Contents) → y.contents ≡ change x.contents → shown_tables after ≡ with_change name change (shown_tables ts)
+  pub shown-changed : (change : Table → Table) → y.contents ≡ change x.contents → shown_tables after ≡ with_change name change (shown_tables ts)
   shown-changed change made = shown-after ∙ ap (set_value (same_name name) (shown_tables ts)) made ∙ sym (with_change-some name change (shown_tables ts) x.contents shown-there)
 
   pub shown-same : y.contents ≡ x.contents → shown_tables after ≡ shown_tables ts
@@ -50,20 +50,20 @@ module _ (name : Name) (ts after : List (Name × Covered)) (w : Walk) (x y : Cov
       subst (λ l. IsWalk l w more) (sym written) (walk-kept (same_name name) ts w x y there kept total more s count)
 
 -- a new table, behind the others
-module _ (ts : List (Name × Covered)) (name : Name) (t : Covered) (w : Walk) where
+module _ (ts : List (Name × StoredTable)) (name : Name) (t : StoredTable) (w : Walk) where
   pub shown-added : shown_tables (ts ++ (name, t) ∷ []) ≡ shown_tables ts ++ (name, t.contents) ∷ []
-  shown-added = map-append (λ (e : Name × Covered). (e.0, e.1.contents)) ts ((name, t) ∷ [])
+  shown-added = map-append (λ (e : Name × StoredTable). (e.0, e.1.contents)) ts ((name, t) ∷ [])
 
   pub rest-added : w.end ≤ length ts → rest_in w.number w.cursor w.end (ts ++ (name, t) ∷ []) ≡ rest_in w.number w.cursor w.end ts
   rest-added within = ap (λ l. flat_map (named_due w.number) (drop w.cursor l)) (take-append-le w.end ts ((name, t) ∷ []) within)
 
-  marks-added : (n : ℕ) (us : List (Name × Covered)) → t.mark ≤ n → MarksUpTo n us → MarksUpTo n (us ++ (name, t) ∷ [])
+  marks-added : (n : ℕ) (us : List (Name × StoredTable)) → t.mark ≤ n → MarksUpTo n us → MarksUpTo n (us ++ (name, t) ∷ [])
   marks-added n [] le h = (le, tt)
   marks-added n (u ∷ us) le h = (h.0, marks-added n us le h.1)
 
   rows-added : t.contents.rows ≡ [] → all_rows (shown_tables (ts ++ (name, t) ∷ [])) ≡ all_rows (shown_tables ts)
   rows-added empty =
-      let named : Name × Contents → List (Name × (ℕ × Row)) = λ k. map (λ numbered. (k.0, numbered)) k.1.rows in
+      let named : Name × Table → List (Name × (ℕ × Row)) = λ k. map (λ numbered. (k.0, numbered)) k.1.rows in
       ap all_rows shown-added
       ∙ flat_map-append named (shown_tables ts) ((name, t.contents) ∷ [])
       ∙ ap (λ rows. all_rows (shown_tables ts) ++ (map (λ numbered. (name, numbered)) rows ++ [])) empty
@@ -79,10 +79,10 @@ module _ (ts : List (Name × Covered)) (name : Name) (t : Covered) (w : Walk) wh
   }
 
 -- a new row is one row more at most
-pub all_rows-with_row : (name : Name) (row : Row) (ts : List (Name × Contents)) → length (all_rows (with_change name (with_row row) ts)) ≤ length (all_rows ts) + 1
+pub all_rows-with_row : (name : Name) (row : Row) (ts : List (Name × Table)) → length (all_rows (with_change name (with_row row) ts)) ≤ length (all_rows ts) + 1
 all_rows-with_row name row ts = by (table_of ts name) refl
   where
-    by : (o : Option Contents) → table_of ts name ≡ o → length (all_rows (with_change name (with_row row) ts)) ≤ length (all_rows ts) + 1
+    by : (o : Option Table) → table_of ts name ≡ o → length (all_rows (with_change name (with_row row) ts)) ≤ length (all_rows ts) + 1
     by (Some t) there =
         let made = ap (λ l. length (all_rows l)) (with_change-some name (with_row row) ts t there) in
         let counted = all_rows-changed (same_name name) ts t (with_row row t) there in
@@ -93,7 +93,7 @@ all_rows-with_row name row ts = by (table_of ts name) refl
         omega arith
 
 -- a new table has no rows
-pub all_rows-created : (ts : List (Name × Contents)) (name : Name) (owner : User) (columns : List Column) → length (all_rows (ts ++ (name, empty_table owner columns) ∷ [])) ≡ length (all_rows ts)
+pub all_rows-created : (ts : List (Name × Table)) (name : Name) (owner : User) (columns : List Column) → length (all_rows (ts ++ (name, empty_table owner columns) ∷ [])) ≡ length (all_rows ts)
 all_rows-created ts name owner columns =
-    let named : Name × Contents → List (Name × (ℕ × Row)) = λ k. map (λ numbered. (k.0, numbered)) k.1.rows in
+    let named : Name × Table → List (Name × (ℕ × Row)) = λ k. map (λ numbered. (k.0, numbered)) k.1.rows in
     ap length (flat_map-append named ts ((name, empty_table owner columns) ∷ []) ∙ append-nil (all_rows ts))

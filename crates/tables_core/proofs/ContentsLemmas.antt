@@ -9,16 +9,16 @@ use Rattle.std.proofs.lemmas.Slice.Eq.{bytes_eq-Decides}
 use Rattle.base_core.specs.Words.{same_name}
 use Rattle.base_core.specs.declared.name.Name.{Name}
 use Rattle.base_core.specs.declared.value.Row.{Row}
-use Rattle.tables_core.specs.Contents.{Contents, Database, table_of, with_change}
+use Rattle.tables_core.specs.Contents.{Table, Database, table_of, with_change}
 use Rattle.tables_core.specs.Laws.{LookUpAfterChange, LookUpAfterNew, NamesAfterChange}
 
 -- equal tables, with as much left to give, are equal databases
-pub same_database : {tables others : List (Name × Contents)} {rest left : List (Name × (ℕ × Row))} → tables ≡ others → rest ≡ left → ◌≡◌ {A = Database} (record { tables = tables; rest = rest }) (record { tables = others; rest = left })
+pub same_database : {tables others : List (Name × Table)} {rest left : List (Name × (ℕ × Row))} → tables ≡ others → rest ≡ left → ◌≡◌ {A = Database} (record { tables = tables; rest = rest }) (record { tables = others; rest = left })
 same_database e r = rw (e, r)
 
-module _ (name : Name) (change : Contents → Contents) (tables : List (Name × Contents)) where
+module _ (name : Name) (change : Table → Table) (tables : List (Name × Table)) where
   -- where the table is there
-  pub with_change-some : (t : Contents) → table_of tables name ≡ Some t → with_change name change tables ≡ set_value (same_name name) tables (change t)
+  pub with_change-some : (t : Table) → table_of tables name ≡ Some t → with_change name change tables ≡ set_value (same_name name) tables (change t)
   with_change-some t there = ap (λ found. option_map_or (λ t. set_value (same_name name) tables (change t)) found tables) there
 
   -- where there is no such table
@@ -26,13 +26,13 @@ module _ (name : Name) (change : Contents → Contents) (tables : List (Name × 
   with_change-none none = ap (λ found. option_map_or (λ t. set_value (same_name name) tables (change t)) found tables) none
 
 -- a look-up by the same name finds the same
-table_of-same : (tables : List (Name × Contents)) (name other : Name) → same_name name other ≡ true → table_of tables other ≡ table_of tables name
+table_of-same : (tables : List (Name × Table)) (name other : Name) → same_name name other ≡ true → table_of tables other ≡ table_of tables name
 table_of-same tables name other same = ap (table_of tables) (sym ((bytes_eq-Decides name other).0 same))
 
 pub table_of-with_change : LookUpAfterChange
 table_of-with_change tables name other change = by (table_of tables name) refl
   where
-    written : (t : Contents) (b : Bool) → same_name name other ≡ b → table_of tables name ≡ Some t
+    written : (t : Table) (b : Bool) → same_name name other ≡ b → table_of tables name ≡ Some t
         → cond b (Some (change t)) (table_of tables other) ≡ cond b (option_map change (table_of tables other)) (table_of tables other)
     written t true same there = sym (ap (option_map change) (table_of-same tables name other same ∙ there))
     written t false same there = refl
@@ -42,7 +42,7 @@ table_of-with_change tables name other change = by (table_of tables name) refl
     missing true same none = let gone = table_of-same tables name other same ∙ none in gone ∙ sym (ap (option_map change) gone)
     missing false same none = refl
 
-    by : (found : Option Contents) → table_of tables name ≡ found
+    by : (found : Option Table) → table_of tables name ≡ found
         → table_of (with_change name change tables) other ≡ cond (same_name name other) (option_map change (table_of tables other)) (table_of tables other)
     by (Some t) there =
         let some : IsSome (table_of tables name) = rw there refl in
@@ -59,6 +59,6 @@ table_of-append tables name other t none =
 pub names-with_change : NamesAfterChange
 names-with_change tables name change = by (table_of tables name) refl
   where
-    by : (found : Option Contents) → table_of tables name ≡ found → keys_of (with_change name change tables) ≡ keys_of tables
+    by : (found : Option Table) → table_of tables name ≡ found → keys_of (with_change name change tables) ≡ keys_of tables
     by (Some t) there = ap keys_of (with_change-some name change tables t there) ∙ keys-set_value (same_name name) tables (change t)
     by None none = ap keys_of (with_change-none name change tables none)

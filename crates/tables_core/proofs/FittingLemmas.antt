@@ -13,7 +13,7 @@ use Rattle.base_core.specs.declared.value.Row.{Row}
 use Rattle.base_core.specs.declared.value.Column.{Column}
 use Rattle.base_core.specs.declared.condition.Condition.{Condition}
 use Rattle.base_core.specs.declared.condition.Assignment.{Assignment}
-use Rattle.tables_core.specs.Contents.{Contents, satisfies, assigned_values, assigned_row, updated_row, with_row, without_chosen_rows, with_updated_rows}
+use Rattle.tables_core.specs.Contents.{Table, satisfies, assigned_values, assigned_row, updated_row, with_row, without_chosen_rows, with_updated_rows}
 use Rattle.tables_core.specs.Fitting.{ValuesFit, assignment_fits, AssignmentsFit, RowsFit, IsWellTyped}
 
 -- the values fit exactly where they are as many as the columns, and each pair is right
@@ -92,27 +92,27 @@ updated columns sets conditions (r ∷ rows) typed h = (one, updated columns set
       | false ↦ h.0
     ]
 
-pub RowsFit-with_row : (t : Contents) (row : Row) → ValuesFit t.columns row.values → RowsFit t → RowsFit (with_row row t)
+pub RowsFit-with_row : (t : Table) (row : Row) → ValuesFit t.columns row.values → RowsFit t → RowsFit (with_row row t)
 RowsFit-with_row t row new h = appended t.columns t.rows (t.inserted, row) new h
 
-pub RowsFit-deleted : (t : Contents) (conditions : List Condition) → RowsFit t → RowsFit (without_chosen_rows conditions t)
+pub RowsFit-deleted : (t : Table) (conditions : List Condition) → RowsFit t → RowsFit (without_chosen_rows conditions t)
 RowsFit-deleted t conditions h = kept t.columns (λ numbered. not (satisfies t.columns conditions numbered)) t.rows h
 
-pub RowsFit-updated : (t : Contents) (sets : List Assignment) (conditions : List Condition) → AssignmentsFit t.columns sets → RowsFit t → RowsFit (with_updated_rows sets conditions t)
+pub RowsFit-updated : (t : Table) (sets : List Assignment) (conditions : List Condition) → AssignmentsFit t.columns sets → RowsFit t → RowsFit (with_updated_rows sets conditions t)
 RowsFit-updated t sets conditions typed h = updated t.columns sets conditions t.rows typed h
 
-pub IsWellTyped-with_row : (t : Contents) (row : Row) → ValuesFit t.columns row.values → IsWellTyped t → IsWellTyped (with_row row t)
+pub IsWellTyped-with_row : (t : Table) (row : Row) → ValuesFit t.columns row.values → IsWellTyped t → IsWellTyped (with_row row t)
 IsWellTyped-with_row t row new h = record { columns = h.columns; rows = RowsFit-with_row t row new h.rows }
 
-pub IsWellTyped-deleted : (t : Contents) (conditions : List Condition) → IsWellTyped t → IsWellTyped (without_chosen_rows conditions t)
+pub IsWellTyped-deleted : (t : Table) (conditions : List Condition) → IsWellTyped t → IsWellTyped (without_chosen_rows conditions t)
 IsWellTyped-deleted t conditions h = record { columns = h.columns; rows = RowsFit-deleted t conditions h.rows }
 
 -- what comes of an update, also where memory is refused
-pub IsWellTyped-updated_or_same : (t : Contents) (sets : List Assignment) (conditions : List Condition) (rows : List (ℕ × Row)) (result : Result (Unit {0}) NoMemory) → OnOk result (rows ≡ map (updated_row t.columns sets conditions) t.rows) → OnErr result (rows ≡ t.rows) → AssignmentsFit t.columns sets → IsWellTyped t → IsWellTyped (record t { rows = rows })
+pub IsWellTyped-updated_or_same : (t : Table) (sets : List Assignment) (conditions : List Condition) (rows : List (ℕ × Row)) (result : Result (Unit {0}) NoMemory) → OnOk result (rows ≡ map (updated_row t.columns sets conditions) t.rows) → OnErr result (rows ≡ t.rows) → AssignmentsFit t.columns sets → IsWellTyped t → IsWellTyped (record t { rows = rows })
 IsWellTyped-updated_or_same t sets conditions rows (Ok u) ok err typed h =
     record { columns = h.columns; rows = subst (Fit t.columns) (sym ok) (updated t.columns sets conditions t.rows typed h.rows) }
 IsWellTyped-updated_or_same t sets conditions rows (Err e) ok err typed h = record { columns = h.columns; rows = subst (Fit t.columns) (sym err) h.rows }
 
-pub length-updated_or_same : (t : Contents) (sets : List Assignment) (conditions : List Condition) (rows : List (ℕ × Row)) (result : Result (Unit {0}) NoMemory) → OnOk result (rows ≡ map (updated_row t.columns sets conditions) t.rows) → OnErr result (rows ≡ t.rows) → length rows ≡ length t.rows
+pub length-updated_or_same : (t : Table) (sets : List Assignment) (conditions : List Condition) (rows : List (ℕ × Row)) (result : Result (Unit {0}) NoMemory) → OnOk result (rows ≡ map (updated_row t.columns sets conditions) t.rows) → OnErr result (rows ≡ t.rows) → length rows ≡ length t.rows
 length-updated_or_same t sets conditions rows (Ok u) ok err = ap length ok ∙ length-map t.rows (updated_row t.columns sets conditions)
 length-updated_or_same t sets conditions rows (Err e) ok err = ap length err

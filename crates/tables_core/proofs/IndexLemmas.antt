@@ -20,7 +20,7 @@ use Rattle.index_core.specs.declared.index.Index.{Index}
 use Rattle.index_core.specs.Listed.{listed}
 use Rattle.tables_core.specs.declared.column_index.ColumnIndex.{ColumnIndex}
 use Rattle.tables_core.specs.Contents.{assigned_row, assigned_values, satisfies}
-use Rattle.tables_core.specs.Indexing.{Numbered, Lists, ColumnLists, EachLists, ListAll, Leads, assigns}
+use Rattle.tables_core.specs.Indexing.{Numbered, Lists, ColumnLists, EachLists, ListAll, ListsEachPassing, assigns}
 use Rattle.tables_core.specs.Picking.{Covers}
 
 -- an index lists the rows before the rest
@@ -91,16 +91,16 @@ module _ (kept : List ColumnIndex) where
   indexed-found at place column (Some index) there is same = λ r v h cell. indexed-at at place column index.now there is (sym same) r v h cell
 
   -- it lists the rows that meet an `=` on that column
-  pub leads-equal : (condition : Condition) (o : Option ℕ) (place : ℕ) (found : Option (Bor Index)) → condition.comparison ≡ comparisons.Equal → o ≡ Some place → IfSome found (λ index. (r : Numbered) (v : Value) → EachLists kept r → slice_get r.1.values place ≡ Some v → Contains (listed index.now v) r.0) → IfSome found (λ index. Leads kept (λ r. cell_meets condition (at_index r.1.values o)) index.now condition.literal)
+  pub leads-equal : (condition : Condition) (o : Option ℕ) (place : ℕ) (found : Option (Bor Index)) → condition.comparison ≡ comparisons.Equal → o ≡ Some place → IfSome found (λ index. (r : Numbered) (v : Value) → EachLists kept r → slice_get r.1.values place ≡ Some v → Contains (listed index.now v) r.0) → IfSome found (λ index. ListsEachPassing kept (λ r. cell_meets condition (at_index r.1.values o)) index.now condition.literal)
   leads-equal condition o place None q is lists = tt
   leads-equal condition o place (Some index) q is lists = λ r h yes. lists r condition.literal h (equal-cell condition (slice_get r.1.values place) q (ap (λ k. cell_meets condition (at_index r.1.values k)) (sym is) ∙ yes))
 
   -- and so those that satisfy a filter which has that condition
-  pub leads-filter : (columns : List Column) (filter : List Condition) (at : ℕ) (condition : Condition) (index : Index) → slice_get filter at ≡ Some condition → Leads kept (λ r. cell_meets condition (at_index r.1.values (column_index columns condition.column))) index condition.literal → Leads kept (satisfies columns filter) index condition.literal
+  pub leads-filter : (columns : List Column) (filter : List Condition) (at : ℕ) (condition : Condition) (index : Index) → slice_get filter at ≡ Some condition → ListsEachPassing kept (λ r. cell_meets condition (at_index r.1.values (column_index columns condition.column))) index condition.literal → ListsEachPassing kept (satisfies columns filter) index condition.literal
   leads-filter columns filter at condition index there leads = λ r h yes. leads r h (all-at (meets columns r.1.values) filter at condition yes there)
 
   -- so all rows that pass the test are among the numbers that it lists
-  pub covers-listed : (rows : List Numbered) (test : Numbered → Bool) (index : Index) (value : Value) (numbers : List ℕ) → Leads kept test index value → ((n : ℕ) → Contains (listed index value) n → Contains numbers n) → ListAll kept rows → Covers test numbers rows
+  pub covers-listed : (rows : List Numbered) (test : Numbered → Bool) (index : Index) (value : Value) (numbers : List ℕ) → ListsEachPassing kept test index value → ((n : ℕ) → Contains (listed index value) n → Contains numbers n) → ListAll kept rows → Covers test numbers rows
   covers-listed rows test index value numbers leads all h = λ j d within yes. all (get_or rows j d).0 (leads (get_or rows j d) (h j d within) yes)
 
 -- a value is written at another place

@@ -8,7 +8,7 @@ use Rattle.std.proofs.lemmas.List.Elements.{recursion_from_All}
 use Rattle.std.proofs.lemmas.Map.Made.{Contains-tail}
 use Rattle.base_core.specs.declared.value.Row.{Row}
 use Rattle.copyup_core.specs.Holding.{Rise, value_at, without_item}
-use Rattle.tables_core.specs.Picking.{rows_at, without_rows, passes_at, numbers_of, Covers}
+use Rattle.tables_core.specs.Picking.{rows_at, without_rows, row_passes_at, numbers_of, Covers}
 
 -- the numbers rise, from low on
 abbrev Rises : ℕ → List ℕ → Type 0
@@ -65,7 +65,7 @@ module _ (test : ℕ × Row → Bool) where
   abbrev Reaches : List ℕ → List (ℕ × Row) → Type 0
   Reaches ns rows = AllByRecursion (λ r. test r ≡ true → Contains ns r.0) rows
 
-  none-there : (ns : List ℕ) → filter (passes_at test []) ns ≡ []
+  none-there : (ns : List ℕ) → filter (row_passes_at test []) ns ≡ []
   none-there [] = refl
   none-there (n ∷ ns) = none-there ns
 
@@ -76,14 +76,14 @@ module _ (test : ℕ × Row → Bool) where
       ap (λ b. map (λ r. r.0) (cond b (e ∷ filter test rows) (filter test rows))) out ∙ none-reached rows h.1
 
   -- numbers above a row's do not ask for it
-  row-passed : (low : ℕ) (e : ℕ × Row) (rows : List (ℕ × Row)) (ns : List ℕ) → e.0 < low → Rises low ns → filter (passes_at test (e ∷ rows)) ns ≡ filter (passes_at test rows) ns
+  row-passed : (low : ℕ) (e : ℕ × Row) (rows : List (ℕ × Row)) (ns : List ℕ) → e.0 < low → Rises low ns → filter (row_passes_at test (e ∷ rows)) ns ≡ filter (row_passes_at test rows) ns
   row-passed low e rows [] lt s = refl
   row-passed low e rows (n ∷ ns) lt s =
       let first = s.0 in
       let ne : e.0 ≢ n = λ q. absurd (omega arith) in
-      let rest = filter (passes_at test (e ∷ rows)) ns in
+      let rest = filter (row_passes_at test (e ∷ rows)) ns in
       ap (λ b. cond (option_map_or (λ row. test (n, row)) (cond b (Some e.1) (value_at n rows)) false) (n ∷ rest) rest) (ne_eqb e.0 n ne)
-      ∙ ap (λ l. cond (passes_at test rows n) (n ∷ l) l) (row-passed (n + 1) e rows ns (omega arith) s.1)
+      ∙ ap (λ l. cond (row_passes_at test rows n) (n ∷ l) l) (row-passed (n + 1) e rows ns (omega arith) s.1)
 
   -- a number below all rows is not needed
   number-passed : (n low high : ℕ) (ns : List ℕ) (rows : List (ℕ × Row)) → n < low → Rise low high rows → Reaches (n ∷ ns) rows → Reaches ns rows
@@ -92,22 +92,22 @@ module _ (test : ℕ × Row → Bool) where
       let first = r.0 in
       (λ yes. Contains-tail n ns e.0 (λ q. absurd (omega arith)) (h.0 yes), number-passed n (e.0 + 1) high ns rows (omega arith) r.1 h.1)
 
-  module _ (e : ℕ × Row) (rows : List (ℕ × Row)) (high : ℕ) (rise : Rise (e.0 + 1) high rows) (later : (ns : List ℕ) (low : ℕ) → Rises low ns → Reaches ns rows → filter (passes_at test rows) ns ≡ numbers_of test rows) where
-    here : (n : ℕ) → n ≡ e.0 → passes_at test (e ∷ rows) n ≡ test e
+  module _ (e : ℕ × Row) (rows : List (ℕ × Row)) (high : ℕ) (rise : Rise (e.0 + 1) high rows) (later : (ns : List ℕ) (low : ℕ) → Rises low ns → Reaches ns rows → filter (row_passes_at test rows) ns ≡ numbers_of test rows) where
+    here : (n : ℕ) → n ≡ e.0 → row_passes_at test (e ∷ rows) n ≡ test e
     here n q = ap (λ b. option_map_or (λ row. test (n, row)) (cond b (Some e.1) (value_at n rows)) false) (eq-eqb e.0 n (sym q)) ∙ ap (λ k. test (k, e.1)) q
 
     both : (b : Bool) (n : ℕ) (l : List ℕ) → n ≡ e.0 → l ≡ numbers_of test rows → cond b (n ∷ l) l ≡ map (λ r. r.0) (cond b (e ∷ filter test rows) (filter test rows))
     both true n l q is = ap (λ k. k ∷ l) q ∙ ap (λ k. e.0 ∷ k) is
     both false n l q is = is
 
-    with-row : (ns : List ℕ) (low : ℕ) → Rises low ns → Reaches ns (e ∷ rows) → filter (passes_at test (e ∷ rows)) ns ≡ numbers_of test (e ∷ rows)
+    with-row : (ns : List ℕ) (low : ℕ) → Rises low ns → Reaches ns (e ∷ rows) → filter (row_passes_at test (e ∷ rows)) ns ≡ numbers_of test (e ∷ rows)
     with-row [] low s h = sym (none-reached (e ∷ rows) h)
     with-row (n ∷ ns) low s h = by (cases_order n e.0) (with-row ns (n + 1) s.1)
       where
         rest : List ℕ
-        rest = filter (passes_at test (e ∷ rows)) ns
+        rest = filter (row_passes_at test (e ∷ rows)) ns
 
-        by : (n ≡ e.0) ⊎ ((n < e.0) ⊎ (e.0 < n)) → (Reaches ns (e ∷ rows) → filter (passes_at test (e ∷ rows)) ns ≡ numbers_of test (e ∷ rows)) → cond (passes_at test (e ∷ rows) n) (n ∷ filter (passes_at test (e ∷ rows)) ns) (filter (passes_at test (e ∷ rows)) ns) ≡ numbers_of test (e ∷ rows)
+        by : (n ≡ e.0) ⊎ ((n < e.0) ⊎ (e.0 < n)) → (Reaches ns (e ∷ rows) → filter (row_passes_at test (e ∷ rows)) ns ≡ numbers_of test (e ∷ rows)) → cond (row_passes_at test (e ∷ rows) n) (n ∷ filter (row_passes_at test (e ∷ rows)) ns) (filter (row_passes_at test (e ∷ rows)) ns) ≡ numbers_of test (e ∷ rows)
         by (inl q) others =
             let same : rest ≡ numbers_of test rows = row-passed (n + 1) e rows ns (omega arith) s.1 ∙ later ns (n + 1) s.1 (number-passed n (e.0 + 1) high ns rows (omega arith) rise h.1) in
             ap (λ b. cond b (n ∷ rest) rest) (here n q) ∙ both (test e) n rest q same
@@ -121,13 +121,13 @@ module _ (test : ℕ × Row → Bool) where
             row-passed n e rows (n ∷ ns) lt above ∙ later (n ∷ ns) n above h.1
             ∙ sym (ap (λ b. map (λ r. r.0) (cond b (e ∷ filter test rows) (filter test rows))) out)
 
-  found : (low high : ℕ) (rows : List (ℕ × Row)) → Rise low high rows → (ns : List ℕ) (from : ℕ) → Rises from ns → Reaches ns rows → filter (passes_at test rows) ns ≡ numbers_of test rows
+  found : (low high : ℕ) (rows : List (ℕ × Row)) → Rise low high rows → (ns : List ℕ) (from : ℕ) → Rises from ns → Reaches ns rows → filter (row_passes_at test rows) ns ≡ numbers_of test rows
   found low high [] r ns from s h = none-there ns
   found low high (e ∷ rows) r ns from s h = with-row e rows high r.1 (λ ns from s h. found (e.0 + 1) high rows r.1 ns from s h) ns from s h
 
   -- of numbers that rise, among which is each row's that passes the test, those at which one does are
   -- the numbers of just these rows
-  pub found-among : (high : ℕ) (rows : List (ℕ × Row)) (ns : List ℕ) → Rise 0 high rows → IsStrictlyIncreasing ns → Covers test ns rows → filter (passes_at test rows) ns ≡ numbers_of test rows
+  pub found-among : (high : ℕ) (rows : List (ℕ × Row)) (ns : List ℕ) → Rise 0 high rows → IsStrictlyIncreasing ns → Covers test ns rows → filter (row_passes_at test rows) ns ≡ numbers_of test rows
   found-among high rows ns r rising covers = found 0 high rows r ns 0 (rises-all ns rising) (recursion_from_All (λ r. test r ≡ true → Contains ns r.0) rows covers)
 
   -- each of the rows is found under its number

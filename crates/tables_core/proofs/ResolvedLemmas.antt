@@ -12,7 +12,7 @@ use Rattle.base_core.specs.declared.name.Name.{Name}
 use Rattle.base_core.specs.declared.value.Value.{Value}
 use Rattle.base_core.specs.declared.value.Column.{Column}
 use Rattle.tables_core.specs.Contents.{projected_values}
-use Rattle.tables_core.specs.Resolving.{AreInOrder}
+use Rattle.tables_core.specs.Resolving.{AreNamesInOrder}
 
 -- item i is put to the items before it
 module _ {X Y : Type 0} (F : X → Y) (items : List X) (found : List Y) (d : Y) (i : ℕ) (y : X) (room : i < length found) (here : y ≡ get_or items i y)
@@ -34,6 +34,6 @@ each_gives_its_own f (x ∷ xs) (y ∷ ys) same own =
     ∙ ap (λ l. y ∷ l) (each_gives_its_own f xs ys (omega (arith, same)) (λ k z is. own (suc k) z is))
 
 -- a row of as many values as there are names, each that of the column at its place, is cut to itself
-pub cut_to_itself : (columns : List Column) (names : List Name) (values : List Value) → AreInOrder columns names → length names ≡ length values → projected_values columns names values ≡ values
+pub cut_to_itself : (columns : List Column) (names : List Name) (values : List Value) → AreNamesInOrder columns names → length names ≡ length values → projected_values columns names values ≡ values
 cut_to_itself columns names values in_order same =
     each_gives_its_own (cell columns values) names values same (λ k name is. ap (at_index values) (in_order k name is))

@@ -6,10 +6,10 @@ use Rattle.base_core.specs.declared.value.Value.TheVariants as values
 use Rattle.tables_core.specs.declared.bounds.Bounds.{Bounds}
 
 -- a number is neither below nor above
-abbrev pub AreKept : Bounds → ℤ → Type 0
-AreKept bounds n = FitsSigned w64 n → (bounds.low ≤ℤ n) × (n ≤ℤ bounds.high)
+abbrev pub Admits : Bounds → ℤ → Type 0
+Admits bounds n = FitsSigned w64 n → (bounds.low ≤ℤ n) × (n ≤ℤ bounds.high)
 
 -- a number at the place, if there is one, keeps the bounds
-abbrev pub IsWithin : Bounds → List Value → Type 0
-IsWithin bounds row =
-    (n : ℤ) → slice_get row bounds.place ≡ Some (values.Int n) → AreKept bounds n
+abbrev pub AdmitsRow : Bounds → List Value → Type 0
+AdmitsRow bounds row =
+    (n : ℤ) → slice_get row bounds.place ≡ Some (values.Int n) → Admits bounds n

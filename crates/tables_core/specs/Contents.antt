@@ -15,7 +15,7 @@ use Rattle.base_core.specs.declared.condition.Assignment.{Assignment}
 
 -- one table: its owner, its columns, how many rows were ever inserted, and the rows that it has
 -- now, each with its number, which is how many rows were inserted before it
-pub record Contents : Type 0 where
+pub record Table : Type 0 where
   pub owner : User
   pub columns : List Column
   pub inserted : ℕ
@@ -24,11 +24,11 @@ pub record Contents : Type 0 where
 -- what there is: the tables in the order of their creation, each under its name; and the rows that
 -- a capture has still to give, each with its number and the name of its table
 pub record Database : Type 0 where
-  pub tables : List (Name × Contents)
+  pub tables : List (Name × Table)
   pub rest : List (Name × (ℕ × Row))
 
 -- the rows of all tables, each with its number and the name of its table, one table after another
-abbrev pub all_rows : List (Name × Contents) → List (Name × (ℕ × Row))
+abbrev pub all_rows : List (Name × Table) → List (Name × (ℕ × Row))
 all_rows tables = flat_map (λ t. map (λ numbered. (t.0, numbered)) t.1.rows) tables
 
 -- whether a numbered row satisfies the filter
@@ -55,43 +55,43 @@ updated_row columns sets conditions numbered =
     if satisfies columns conditions numbered then assigned_row columns sets numbered else numbered
 
 -- a new table: no row is or was in it
-abbrev pub empty_table : User → List Column → Contents
+abbrev pub empty_table : User → List Column → Table
 empty_table owner columns = record { owner = owner; columns = columns; inserted = 0; rows = [] }
 
 -- the table with one row more, behind the others, numbered by the rows inserted before it
-abbrev pub with_row : Row → Contents → Contents
+abbrev pub with_row : Row → Table → Table
 with_row row t = record t { inserted = t.inserted + 1; rows = t.rows ++ (t.inserted, row) ∷ [] }
 
 -- the table without the chosen rows
-abbrev pub without_chosen_rows : List Condition → Contents → Contents
+abbrev pub without_chosen_rows : List Condition → Table → Table
 without_chosen_rows conditions t =
     record t { rows = filter (λ numbered. not (satisfies t.columns conditions numbered)) t.rows }
 
 -- the table with the assignments made in each chosen row, in place
-abbrev pub with_updated_rows : List Assignment → List Condition → Contents → Contents
+abbrev pub with_updated_rows : List Assignment → List Condition → Table → Table
 with_updated_rows sets conditions t =
     record t { rows = map (updated_row t.columns sets conditions) t.rows }
 
 -- the chosen rows, cut to the named columns
-abbrev pub selected_rows : List Name → List Condition → Contents → List Row
+abbrev pub selected_rows : List Name → List Condition → Table → List Row
 selected_rows names conditions t =
     map (λ numbered. record { values = projected_values t.columns names numbered.1.values })
     (filter (satisfies t.columns conditions) t.rows)
 
 -- the table of this name
-abbrev pub table_of : List (Name × Contents) → Name → Option Contents
+abbrev pub table_of : List (Name × Table) → Name → Option Table
 table_of tables name = lookup (same_name name) tables
 
 -- the column of this name in the table of that name
-abbrev pub column_of : List (Name × Contents) → Name → Name → Option Column
+abbrev pub column_of : List (Name × Table) → Name → Name → Option Column
 column_of tables name column =
     option_and_then (λ t. option_and_then (slice_get t.columns) (column_index t.columns column))
     (table_of tables name)
 
 -- the tables with a change made to the one of this name; where there is none, the tables as they
 -- are
-abbrev pub with_change : Name → (Contents → Contents)
-    → List (Name × Contents) → List (Name × Contents)
+abbrev pub with_change : Name → (Table → Table)
+    → List (Name × Table) → List (Name × Table)
 with_change name change tables =
     option_map_or (λ t. set_value (same_name name) tables (change t)) (table_of tables name) tables
 

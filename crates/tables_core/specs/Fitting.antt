@@ -8,7 +8,7 @@ use Rattle.base_core.specs.Filter.{column_index}
 use Rattle.base_core.specs.declared.value.Value.{Value}
 use Rattle.base_core.specs.declared.value.Column.{Column}
 use Rattle.base_core.specs.declared.condition.Assignment.{Assignment}
-use Rattle.tables_core.specs.Contents.{Contents}
+use Rattle.tables_core.specs.Contents.{Table}
 
 -- no two of the columns have one name
 abbrev pub ColumnsDiffer : List Column → Type 0
@@ -30,10 +30,10 @@ abbrev pub AssignmentsFit : List Column → List Assignment → Type 0
 AssignmentsFit columns sets = AllByRecursion (λ set. assignment_fits columns set ≡ true) sets
 
 -- each row of the table fits its columns
-abbrev pub RowsFit : Contents → Type 0
+abbrev pub RowsFit : Table → Type 0
 RowsFit t = AllByRecursion (λ numbered. ValuesFit t.columns numbered.1.values) t.rows
 
 -- a table is well typed: its columns have different names, and its rows fit them
-pub record IsWellTyped (t : Contents) : Type 0 where
+pub record IsWellTyped (t : Table) : Type 0 where
   pub columns : ColumnsDiffer t.columns
   pub rows : RowsFit t

@@ -39,6 +39,6 @@ assigns columns sets place =
     list_any (λ set. option_eq nat_eq (column_index columns set.column) (Some place)) sets
 
 -- the index lists for the value each row that the indexes list and that passes the test
-abbrev pub Leads : List ColumnIndex → (Numbered → Bool) → Index → Value → Type 0
-Leads kept test index value =
+abbrev pub ListsEachPassing : List ColumnIndex → (Numbered → Bool) → Index → Value → Type 0
+ListsEachPassing kept test index value =
     (r : Numbered) → EachLists kept r → test r ≡ true → Contains (listed index value) r.0

@@ -14,8 +14,8 @@ abbrev pub without_rows : List ℕ → List (ℕ × Row) → List (ℕ × Row)
 without_rows numbers rows = fold (λ left n. without_item n left) rows numbers
 
 -- whether the row of this number is there and passes the test
-abbrev pub passes_at : (ℕ × Row → Bool) → List (ℕ × Row) → ℕ → Bool
-passes_at test rows n = option_map_or (λ row. test (n, row)) (value_at n rows) false
+abbrev pub row_passes_at : (ℕ × Row → Bool) → List (ℕ × Row) → ℕ → Bool
+row_passes_at test rows n = option_map_or (λ row. test (n, row)) (value_at n rows) false
 
 -- the numbers of the rows that pass the test
 abbrev pub numbers_of : (ℕ × Row → Bool) → List (ℕ × Row) → List ℕ

@@ -12,6 +12,6 @@ AreResolved {T} name_of columns items indexes =
     → slice_index_or indexes k None ≡ column_index columns (name_of item)
 
 -- each name is that of the column at its own place
-abbrev pub AreInOrder : List Column → List Name → Type 0
-AreInOrder columns names =
+abbrev pub AreNamesInOrder : List Column → List Name → Type 0
+AreNamesInOrder columns names =
     (k : ℕ) (name : Name) → slice_get names k ≡ Some name → column_index columns name ≡ Some k

@@ -3,7 +3,7 @@ ghost use Rattle.std.specs.Prelude.{◌≡◌, ℤ, ◌≤ℤ◌, List, true};
 ghost use Rattle.std.specs.Ordering.{int_cmp};
 ghost use Rattle.base_core.specs.declared.value.Value.{Value as values};
 ghost use Rattle.base_core.specs.Filter.{accepts, at_index, cell_meets, is_chosen};
-ghost use Rattle.tables_core.specs.Bounding.{AreKept, IsWithin};
+ghost use Rattle.tables_core.specs.Bounding.{Admits, AdmitsRow};
 
 use crate::resolved::Resolved;
 use base_core::{Comparison, Condition, Value};
@@ -24,7 +24,7 @@ impl Bounds {
     /// Those that any number keeps.
     fn widest(place: usize) -> Bounds
         ensures place { result.place ≡ place }
-        ensures kept { (n : ℤ) → AreKept result n }
+        ensures kept { (n : ℤ) → Admits result n }
     {
         Bounds {
             place,
@@ -35,7 +35,7 @@ impl Bounds {
 
     /// These bounds, or where they are at no place yet, the widest at this one.
     fn started_at(self, place: usize) -> Bounds
-        ensures { (row : List values) → IsWithin self row → IsWithin result row }
+        ensures { (row : List values) → AdmitsRow self row → AdmitsRow result row }
     {
         if self.place == NOWHERE {
             Bounds::widest(place)
@@ -47,7 +47,7 @@ impl Bounds {
     /// Those of them that are at least this number.
     fn at_least(self, number: i64) -> Bounds
         ensures place { result.place ≡ self.place }
-        ensures kept { (n : ℤ) → AreKept self n → number ≤ℤ n → AreKept result n }
+        ensures kept { (n : ℤ) → Admits self n → number ≤ℤ n → Admits result n }
     {
         Bounds {
             place: self.place,
@@ -59,7 +59,7 @@ impl Bounds {
     /// Those of them that are at most this number.
     fn at_most(self, number: i64) -> Bounds
         ensures place { result.place ≡ self.place }
-        ensures kept { (n : ℤ) → AreKept self n → n ≤ℤ number → AreKept result n }
+        ensures kept { (n : ℤ) → Admits self n → n ≤ℤ number → Admits result n }
     {
         Bounds {
             place: self.place,
@@ -72,9 +72,9 @@ impl Bounds {
     fn narrowed(self, comparison: Comparison, literal: i64) -> Bounds
         ensures place { result.place ≡ self.place }
         ensures kept { (n : ℤ)
-            → AreKept self n
+            → Admits self n
             → accepts comparison (int_cmp n literal) ≡ true
-            → AreKept result n }
+            → Admits result n }
     {
         match comparison {
             Comparison::Equal => self.at_least(literal).at_most(literal),
@@ -87,7 +87,7 @@ impl Bounds {
     /// Whether a number at the place of these bounds is within them; true where there is none.
     #[inline(always)]
     pub fn admit(self, row: &[Value]) -> bool
-        ensures { IsWithin self row.now → result ≡ true }
+        ensures { AdmitsRow self row.now → result ≡ true }
     {
         match row.get(self.place) {
             Some(Value::Int(number)) => self.low <= *number && *number <= self.high,
@@ -100,9 +100,9 @@ impl Bounds {
 /// that bounds a number says at which place they are.
 fn with_condition(bounds: Bounds, condition: &Condition, index: Option<usize>) -> Bounds
     ensures { (row : List values)
-        → IsWithin bounds row
+        → AdmitsRow bounds row
         → cell_meets condition.now (at_index row index) ≡ true
-        → IsWithin result row }
+        → AdmitsRow result row }
 {
     let Value::Int(literal) = &condition.literal else {
         return bounds;
@@ -124,7 +124,7 @@ fn with_condition(bounds: Bounds, condition: &Condition, index: Option<usize>) -
 pub fn bounds_of(conditions: &Resolved<'_, Condition>) -> Bounds
     ensures { (row : List values)
         → is_chosen conditions.now.columns.now conditions.now.items.now row ≡ true
-        → IsWithin result row }
+        → AdmitsRow result row }
 {
     let mut bounds = Bounds::widest(NOWHERE);
     for (at, condition) in conditions.items().iter().enumerate() {

@@ -5,7 +5,7 @@ ghost use Rattle.base_core.specs.declared.value.Value.{Value as values};
 ghost use Rattle.base_core.specs.Filter.{at_index, cell_meets, column_index};
 ghost use Rattle.index_core.specs.Listed.{listed};
 ghost use Rattle.tables_core.specs.Contents.{assigned_row, satisfies};
-ghost use Rattle.tables_core.specs.Indexing.{Numbered, EachLists, ListAll, Leads, assigns};
+ghost use Rattle.tables_core.specs.Indexing.{Numbered, EachLists, ListAll, ListsEachPassing, assigns};
 ghost use Rattle.tables_core.specs.Picking.{rows_at, without_rows};
 
 use crate::column_index::ColumnIndex;
@@ -201,7 +201,7 @@ impl Indexes {
 
     /// The index that lists the rows which meet a condition on the column at this place.
     fn serving(&self, place: Option<usize>, condition: &Condition) -> Option<&Index>
-        ensures { IfSome result (λ index. Leads self.now.kept.items
+        ensures { IfSome result (λ index. ListsEachPassing self.now.kept.items
             (λ r. cell_meets condition.now (at_index r.1.values place))
             index.now condition.now.literal) }
     {
@@ -214,7 +214,7 @@ impl Indexes {
     /// Of the indexes that list the rows which the filter chooses the one that lists fewest, and
     /// the value for which it does.
     fn best<'a>(&'a self, conditions: &Resolved<'a, Condition>) -> Option<(&'a Index, &'a Value)>
-        ensures { IfSome result (λ best. Leads self.now.kept.items
+        ensures { IfSome result (λ best. ListsEachPassing self.now.kept.items
             (satisfies conditions.now.columns.now conditions.now.items.now)
             best.0.now best.1.now) }
     {

@@ -6,7 +6,7 @@ ghost use Rattle.base_core.specs.declared.value.Column.{Column};
 ghost use Rattle.base_core.specs.declared.condition.Condition.{Condition};
 ghost use Rattle.base_core.specs.declared.condition.Assignment.{Assignment};
 ghost use Rattle.tables_core.specs.Fitting.{ValuesFit, AssignmentsFit, RowsFit};
-ghost use Rattle.tables_core.specs.Contents.{Contents, empty_table, with_row, without_chosen_rows, with_updated_rows};
+ghost use Rattle.tables_core.specs.Contents.{Table, empty_table, with_row, without_chosen_rows, with_updated_rows};
 ghost use Rattle.tables_core.specs.Laws.{LookUpAfterChange, LookUpAfterNew, NamesAfterChange, HasRisingNumbers, KeepsNumbered};
 
 /// What look-ups find after a change to one table, and after a new one; and that a change to one
@@ -33,14 +33,14 @@ pub fn numbers_rise()
 /// first, after a row that fits, after assignments that fit, and after each deletion.
 pub fn rows_fit()
     ensures opened { (owner : User) (columns : List Column) → RowsFit (empty_table owner columns) }
-    ensures inserted { (t : Contents) (row : Row)
+    ensures inserted { (t : Table) (row : Row)
         → ValuesFit t.columns row.values
         → RowsFit t
         → RowsFit (with_row row t) }
-    ensures deleted { (t : Contents) (conditions : List Condition)
+    ensures deleted { (t : Table) (conditions : List Condition)
         → RowsFit t
         → RowsFit (without_chosen_rows conditions t) }
-    ensures updated { (t : Contents) (sets : List Assignment) (conditions : List Condition)
+    ensures updated { (t : Table) (sets : List Assignment) (conditions : List Condition)
         → AssignmentsFit t.columns sets
         → RowsFit t
         → RowsFit (with_updated_rows sets conditions t) }

@@ -2,7 +2,7 @@
 ghost use Rattle.std.specs.Prelude.{◌≡◌, IfOk, filter, map, not};
 ghost use Rattle.std.specs.List.Sorted.{IsStrictlyIncreasing};
 ghost use Rattle.tables_core.specs.Contents.{satisfies, projected_values, assigned_row};
-ghost use Rattle.tables_core.specs.Picking.{rows_at, without_rows, passes_at, Covers};
+ghost use Rattle.tables_core.specs.Picking.{rows_at, without_rows, row_passes_at, Covers};
 
 use crate::resolved::Resolved;
 use crate::rows::{NumberedRow, are_in_order, cut_or_shared};
@@ -14,7 +14,7 @@ use std::alloc::Global;
 /// Whether there is a row of this number and the filter chooses it.
 fn is_chosen_at(conditions: &Resolved<'_, Condition>, rows: &Store<Row>, number: u64) -> bool
     ensures { result
-        ≡ passes_at (satisfies conditions.now.columns.now conditions.now.items.now)
+        ≡ row_passes_at (satisfies conditions.now.columns.now conditions.now.items.now)
         rows.now.contents number }
 {
     match rows.get(number) {

@@ -7,7 +7,7 @@ ghost use Rattle.base_core.specs.Values.{has_type};
 ghost use Rattle.tables_core.specs.Contents.{satisfies, projected_values};
 ghost use Rattle.tables_core.specs.Fitting.{ValuesFit, assignment_fits};
 ghost use Rattle.tables_core.specs.Indexing.{ListAll};
-ghost use Rattle.tables_core.specs.Resolving.{AreInOrder};
+ghost use Rattle.tables_core.specs.Resolving.{AreNamesInOrder};
 
 use crate::indexes::Indexes;
 use crate::listed::drop_listed;
@@ -84,7 +84,7 @@ fn cut(alloc: Global, names: &Resolved<'_, Name>, values: &[Value]) -> Result<Ro
 
 /// Whether each name is that of the column at its own place.
 pub fn are_in_order(names: &Resolved<'_, Name>) -> bool
-    ensures { IsTrue result ↔ AreInOrder names.now.columns.now names.now.items.now }
+    ensures { IsTrue result ↔ AreNamesInOrder names.now.columns.now names.now.items.now }
 {
     for (at, name) in names.items().iter().enumerate() {
         if names.index_of(at, name) != Some(at) {
@@ -101,7 +101,7 @@ pub fn cut_or_shared(
     in_order: bool,
     row: &Row,
 ) -> Result<Row, NoMemory>
-    requires { in_order ≡ true → AreInOrder names.now.columns.now names.now.items.now }
+    requires { in_order ≡ true → AreNamesInOrder names.now.columns.now names.now.items.now }
     ensures { IfOk result
         (λ cut.
         cut.values

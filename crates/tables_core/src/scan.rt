@@ -2,7 +2,7 @@
 ghost use Rattle.std.specs.Prelude.{◌≡◌, List, true};
 ghost use Rattle.base_core.specs.declared.value.Value.{Value as values};
 ghost use Rattle.base_core.specs.Filter.{is_chosen};
-ghost use Rattle.tables_core.specs.Bounding.{IsWithin};
+ghost use Rattle.tables_core.specs.Bounding.{AdmitsRow};
 
 use crate::bounds::{Bounds, bounds_of};
 use crate::resolved::Resolved;
@@ -16,10 +16,11 @@ pub struct Scan<'a> {
     bounds: Bounds,
     ghost found: { (row : List values)
         → is_chosen conditions.now.columns.now conditions.now.items.now row ≡ true
-        → IsWithin bounds row },
+        → AdmitsRow bounds row },
 }
 
 impl<'a> Scan<'a> {
+    /// A walk over all rows for these conditions.
     pub fn new(conditions: &'a Resolved<'a, Condition>) -> Scan<'a>
         ensures { result.conditions.now ≡ conditions.now }
     {

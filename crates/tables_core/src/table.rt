@@ -29,9 +29,9 @@ pub struct Table {
 impl Model for Table {
     ghost use Rattle.std.specs.Prelude.{◌≡◌};
     ghost use Rattle.copyup_core.specs.Holding.{due};
-    ghost use Rattle.tables_core.specs.Capture.{Covered};
+    ghost use Rattle.tables_core.specs.Capture.{StoredTable};
 
-    ghost Value = { Covered };
+    ghost Value = { StoredTable };
 
     ghost view = { λ t. record {
       contents = record {
@@ -83,24 +83,28 @@ impl Table {
         }
     }
 
+    /// Who created the table.
     pub fn owner(&self) -> User
         ensures { result ≡ self.now.contents.owner }
     {
         self.owner
     }
 
+    /// The columns, in order.
     pub fn columns(&self) -> &[Column]
         ensures { result.now ≡ self.now.contents.columns }
     {
         self.columns.as_slice()
     }
 
+    /// How many rows there are.
     pub fn row_count(&self) -> usize
         ensures { result ≡ length self.now.contents.rows }
     {
         self.rows.store.len()
     }
 
+    /// How many rows were ever inserted.
     pub fn inserted(&self) -> u64
         ensures { result ≡ self.now.contents.inserted }
     {

@@ -16,7 +16,7 @@ use Rattle.turnstile.specs.declared.view.View.{View}
 use Rattle.turnstile.specs.declared.view.Terms.{Terms}
 use Rattle.turnstile.specs.Logs.{StartsWith, own}
 use Rattle.turnstile.specs.Rule.{total, pass_count, turn_count, ticket_count, Apart, PassFits, ViewFits, Out, Turns, fresh, fresh_from, dealer, opening_view}
-use Rattle.turnstile.specs.Passes.{Lock, Held, passes_from}
+use Rattle.turnstile.specs.Passes.{TurnstileState, PassState, passes_from}
 use Rattle.turnstile.specs.Steps.{SeatState}
 use Rattle.turnstile.specs.Closed.{AreAll, turns_of, Kept, Closed}
 use Rattle.turnstile.specs.Places.{terms_of, known_in}
@@ -45,34 +45,34 @@ length_fresh : (E : Type 0) (log : List E) (start p n : ℕ) → length (fresh_f
 length_fresh E log start p zero = refl
 length_fresh E log start p (suc n) = ap suc (length_fresh E log start (suc p) n)
 
-module _ {E F : Type 0} (log : List E) (lock : Lock F) where
-  abbrev pub new_pass : ℕ → Held E F
+module _ {E F : Type 0} (log : List E) (lock : TurnstileState F) where
+  abbrev pub new_pass : ℕ → PassState E F
   new_pass p = record { lock = Some lock; number = p; seen = log; mark = 0; turns = 0; drawn = lock.start }
 
-  passes_step : (i n : ℕ) → i < n → ◌≡◌ {A = List (Held E F)} (passes_from log lock i (n - i)) (new_pass i ∷ passes_from log lock (i + 1) (n - (i + 1)))
+  passes_step : (i n : ℕ) → i < n → ◌≡◌ {A = List (PassState E F)} (passes_from log lock i (n - i)) (new_pass i ∷ passes_from log lock (i + 1) (n - (i + 1)))
   passes_step i n l = let e : n - i ≡ suc (n - (i + 1)) = omega arith in let g : suc i ≡ i + 1 = omega arith in ap (passes_from log lock i) e ∙ ap (λ z. new_pass i ∷ passes_from log lock z (n - (i + 1))) g
 
-  pub dealt_all : (i n : ℕ) (xs ys all : List (Held E F)) (x : Held E F) → i < n → xs ++ passes_from log lock i (n - i) ≡ all → x ≡ new_pass i → ys ≡ xs ++ x ∷ [] → ys ++ passes_from log lock (i + 1) (n - (i + 1)) ≡ all
+  pub dealt_all : (i n : ℕ) (xs ys all : List (PassState E F)) (x : PassState E F) → i < n → xs ++ passes_from log lock i (n - i) ≡ all → x ≡ new_pass i → ys ≡ xs ++ x ∷ [] → ys ++ passes_from log lock (i + 1) (n - (i + 1)) ≡ all
   dealt_all i n xs ys all x l before is now = ap (λ z. z ++ passes_from log lock (i + 1) (n - (i + 1))) (now ∙ ap (λ z. xs ++ z ∷ []) is)
       ∙ (append_assoc xs (new_pass i ∷ []) (passes_from log lock (i + 1) (n - (i + 1))) ∙ (ap (λ z. xs ++ z) (sym (passes_step i n l)) ∙ before))
 
-module _ {O E F : Type 0} (log : List E) (lock : Lock F) (i : ℕ) (m : SeatState O E F) where
+module _ {O E F : Type 0} (log : List E) (lock : TurnstileState F) (i : ℕ) (m : SeatState O E F) where
   -- the seat that deals has the pass of the next number first
   pub next_first : i < lock.count → m ≡ (dealer (fresh_from log lock.start i (lock.count - i)) (Some (terms_of lock)), []) → m ≡ (dealer (fresh log lock.start i ∷ fresh_from log lock.start (i + 1) (lock.count - (i + 1))) (Some (terms_of lock)), [])
   next_first less is = is ∙ ap (λ ks. (dealer ks (Some (terms_of lock)), [])) (fresh_step log lock.start i lock.count less)
 
 module _ {E F : Type 0} where
-  pub known_off : (old new : List (Held E F)) (x : Held E F) (ks : List (Known E)) → old ≡ new ++ x ∷ [] → map known_in new ++ (known_in x ∷ ks) ≡ map known_in old ++ ks
+  pub known_off : (old new : List (PassState E F)) (x : PassState E F) (ks : List (Known E)) → old ≡ new ++ x ∷ [] → map known_in new ++ (known_in x ∷ ks) ≡ map known_in old ++ ks
   known_off old new x ks e = sym (ap (λ z. map known_in z ++ ks) e ∙ (ap (λ z. z ++ ks) (map-append known_in new (x ∷ [])) ∙ append_assoc (map known_in new) (known_in x ∷ []) ks))
 
-  apart_held : (ps : List (Held E F)) → Apart (map known_in ps) → AllPairs (λ (p : Held E F) (q : Held E F). p.number ≢ q.number) ps
+  apart_held : (ps : List (PassState E F)) → Apart (map known_in ps) → AllPairs (λ (p : PassState E F) (q : PassState E F). p.number ≢ q.number) ps
   apart_held [] h = λ i j d l m. absurd (omega arith)
-  apart_held (p ∷ ps) h = AllPairs-cons (λ (p : Held E F) (q : Held E F). p.number ≢ q.number) p ps
-      (all_at (λ (q : Held E F). p.number ≢ q.number) ps (λ m q e. λ same. h.0 m (known_in q) (at_map known_in ps m q e) (sym same))) (apart_held ps h.1)
+  apart_held (p ∷ ps) h = AllPairs-cons (λ (p : PassState E F) (q : PassState E F). p.number ≢ q.number) p ps
+      (all_at (λ (q : PassState E F). p.number ≢ q.number) ps (λ m q e. λ same. h.0 m (known_in q) (at_map known_in ps m q e) (sym same))) (apart_held ps h.1)
 
-  turns_held : (ps : List (Held E F)) → total (λ k. k.turns) (map known_in ps) ≡ sum_by (λ p. p.turns) ps
+  turns_held : (ps : List (PassState E F)) → total (λ k. k.turns) (map known_in ps) ≡ sum_by (λ p. p.turns) ps
   turns_held [] = refl
-  turns_held (p ∷ ps) = let h = turns_held ps in let s = sum_by-cons (λ (q : Held E F). q.turns) p ps in omega arith
+  turns_held (p ∷ ps) = let h = turns_held ps in let s = sum_by-cons (λ (q : PassState E F). q.turns) p ps in omega arith
 
   no_turns : {O : Type 0} (v : View O E F) → pass_count v ≡ 0 → turn_count v ≡ 0
   no_turns v = none v.passes
@@ -152,33 +152,33 @@ module _ {O E F : Type 0} (log : O → List E) (by : E → ℕ) (mark : O → �
         )
 
   -- the turnstile is closed with all its passes
-  abbrev pub Ended : Lock F → List (Held E F) → O → Type 0
+  abbrev pub Ended : TurnstileState F → List (PassState E F) → O → Type 0
   Ended lock ps x = Closed log by mark fix lock ps x × AreAll lock ps
 
-  all_ended : (lock : Lock F) (v : View O E F) (ps : List (Held E F)) (x : O) → v.passes ≡ map known_in ps → length ps ≡ lock.count → Last (terms_of lock) v x → AreAll lock ps
+  all_ended : (lock : TurnstileState F) (v : View O E F) (ps : List (PassState E F)) (x : O) → v.passes ≡ map known_in ps → length ps ≡ lock.count → Last (terms_of lock) v x → AreAll lock ps
   all_ended lock v ps x are whole l = are_all lock ps whole (apart_held ps (subst Apart are l.apart))
-      (all_at (λ (p : Held E F). p.number < lock.count) ps (λ m p e. (l.each m (known_in p) (ap (λ z. get_elem? z m) are ∙ at_map known_in ps m p e)).0))
+      (all_at (λ (p : PassState E F). p.number < lock.count) ps (λ m p e. (l.each m (known_in p) (ap (λ z. get_elem? z m) are ∙ at_map known_in ps m p e)).0))
 
-  closed_as : (lock : Lock F) (v : View O E F) (ps : List (Held E F)) (x : O) → v.passes ≡ map known_in ps → Last (terms_of lock) v x → Closed log by mark fix lock ps x
+  closed_as : (lock : TurnstileState F) (v : View O E F) (ps : List (PassState E F)) (x : O) → v.passes ≡ map known_in ps → Last (terms_of lock) v x → Closed log by mark fix lock ps x
   closed_as lock v ps x are l = record {
     fixed_is = l.stays;
     bears = l.bears;
     kept = all_at (Kept log by mark x) ps (λ m p e. let h = each m p e in record { seen = h.1; made = h.2; marked = h.3 });
-    drawn = all_at (λ (p : Held E F). p.drawn ≤ turns_of lock ps) ps (λ m p e. let h = (each m p e).4 in let t = turns in omega arith);
+    drawn = all_at (λ (p : PassState E F). p.drawn ≤ turns_of lock ps) ps (λ m p e. let h = (each m p e).4 in let t = turns in omega arith);
     bound = (let h = l.bound in let t = turns in omega arith);
   }
     where
       turns : turn_count v ≡ sum_by (λ p. p.turns) ps
       turns = ap (total (λ (k : Known E). k.turns)) are ∙ turns_held ps
 
-      each : (m : ℕ) (p : Held E F) → get_elem? ps m ≡ some p → (p.number < lock.count) × StartsWith (log x) p.seen × (own by p.number (log x) ≡ own by p.number p.seen) × (p.mark ≤ mark x)
+      each : (m : ℕ) (p : PassState E F) → get_elem? ps m ≡ some p → (p.number < lock.count) × StartsWith (log x) p.seen × (own by p.number (log x) ≡ own by p.number p.seen) × (p.mark ≤ mark x)
           × (p.drawn ≤ lock.start + turn_count v)
       each m p e = l.each m (known_in p) (ap (λ z. get_elem? z m) are ∙ at_map known_in ps m p e)
 
   -- the object that comes out of the slot
-  pub closed_at : (lock : Lock F) (id : ℕ) (v : View O E F) (ws : List ℕ) (xs : List (Option O)) (o : Option O) (ps : List (Held E F)) → v.passes ≡ map known_in ps → length ps ≡ lock.count → v.ticket ≡ None → get_elem? xs 0 ≡ some o
+  pub closed_at : (lock : TurnstileState F) (id : ℕ) (v : View O E F) (ws : List ℕ) (xs : List (Option O)) (o : Option O) (ps : List (PassState E F)) → v.passes ≡ map known_in ps → length ps ≡ lock.count → v.ticket ≡ None → get_elem? xs 0 ≡ some o
       → Final (Seen (Turns log by mark fix (terms_of lock)) id v) ws xs → (x : O) × (o ≡ Some x) × Ended lock ps x
   closed_at lock id v ws xs o ps are whole un found fin = let c = closes (terms_of lock) id v ws xs o (ap length are ∙ (length-map ps known_in ∙ whole)) un found fin in (c.0, c.1, (closed_as lock v ps c.0 are c.2, all_ended lock v ps c.0 are whole c.2))
 
-  pub closed_same : (lock lock' : Lock F) (o : Option O) (x : O) (ps : List (Held E F)) → lock ≡ lock' → o ≡ Some x → (y : O) × (o ≡ Some y) × Ended lock ps y → Ended lock' ps x
-  closed_same lock lock' o x ps same is c = let one : c.0 ≡ x = (let e : Some c.0 ≡ Some x = sym c.1 ∙ is in cc) in subst (λ (l : Lock F). Ended l ps x) same (subst (Ended lock ps) one c.2)
+  pub closed_same : (lock lock' : TurnstileState F) (o : Option O) (x : O) (ps : List (PassState E F)) → lock ≡ lock' → o ≡ Some x → (y : O) × (o ≡ Some y) × Ended lock ps y → Ended lock' ps x
+  closed_same lock lock' o x ps same is c = let one : c.0 ≡ x = (let e : Some c.0 ≡ Some x = sym c.1 ∙ is in cc) in subst (λ (l : TurnstileState F). Ended l ps x) same (subst (Ended lock ps) one c.2)

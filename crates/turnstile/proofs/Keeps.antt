@@ -14,7 +14,7 @@ use Rattle.turnstile.specs.declared.view.Known.{Known}
 use Rattle.turnstile.specs.declared.view.View.{View}
 use Rattle.turnstile.specs.declared.view.Terms.{Terms}
 use Rattle.turnstile.specs.Logs.{StartsWith, own, Grown}
-use Rattle.turnstile.specs.Rule.{total, pass_count, turn_count, tickets, ticket_count, Apart, PassFits, ViewFits, Out, Slot, Turns}
+use Rattle.turnstile.specs.Rule.{total, pass_count, turn_count, tickets, ticket_count, Apart, PassFits, ViewFits, Out, IsPlaced, Turns}
 use Rattle.turnstile.specs.Steps.{SeatState, counted, with_turn, with_ticket, with_core, with_count, counts, draws, called, known_after, view_after, ends, learned, learns}
 use Rattle.turnstile.proofs.Lists.{total_set, total_same, seats_stay, set_there, starts_later, starts_here, adds_start, own_others, bears_later, put, put_here, put_else}
 
@@ -68,8 +68,8 @@ module _ {O E F : Type 0} (log : O → List E) (by : E → ℕ) (mark : O → �
   Goes s k id me then x = (w : SeatView) × (a : Act (Option O)) × Valid s.homes me.1 a × Rule (stepped s k x id me.1 w a) × then (get_or s.words k 0) (w, carried_after me.1 a)
 
   -- the holder still has the object out, where no slot moves
-  pub slot_stays : (core : O) (holder : ℕ) (s : TableState) (words : List ℕ) (id : ℕ) (v w : SeatView) → get_elem? s.views id ≡ some v → w.taken ≡ v.taken → Slot core holder s
-      → Slot core holder record { words = words; homes = s.homes; views = set s.views id w }
+  pub slot_stays : (core : O) (holder : ℕ) (s : TableState) (words : List ℕ) (id : ℕ) (v w : SeatView) → get_elem? s.views id ≡ some v → w.taken ≡ v.taken → IsPlaced core holder s
+      → IsPlaced core holder record { words = words; homes = s.homes; views = set s.views id w }
   slot_stays core holder s words id v w at same slot = ⊎_elim (λ (h : s.homes ≡ some (Some core) ∷ []). inl h)
       (λ (o : Out core holder s). inr (dite (ℕ_discrete holder id)
       (λ e. let mine : o.1 ≡ v = some-injective _ _ (sym o.2 ∙ (ap (get_elem? s.views) e ∙ at)) in
@@ -166,7 +166,7 @@ module _ {O E F : Type 0} (log : O → List E) (by : E → ℕ) (mark : O → �
           bound = omega arith;
           slot = ⊎_elim (λ (h : s.homes ≡ some (Some r.core) ∷ []). inl h)
               (λ (o : Out r.core (r.queue r.serving) s). let b = out_ticket s r o in
-              subst (λ z. Slot r.core z record { words = set s.words 0 new; homes = s.homes; views = set s.views id w }) (sym (put_else r.queue old id r.serving (λ e. omega arith)))
+              subst (λ z. IsPlaced r.core z record { words = set s.words 0 new; homes = s.homes; views = set s.views id w }) (sym (put_else r.queue old id r.serving (λ e. omega arith)))
               (slot_stays r.core (r.queue r.serving) s (set s.words 0 new) id me.0 w at refl (inr o))) r.slot;
           views = seats_stay (Fits r.core r.ticket r.serving r.queue r.owner) (Fits r.core new r.serving queue' r.owner) s.views id w r.views
               record {

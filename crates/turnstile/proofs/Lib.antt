@@ -3,5 +3,4 @@ pub mod Keeps
 pub mod Cuts
 pub mod Numbers
 pub mod Ends
-pub mod Opens
 pub mod Whole

@@ -8,7 +8,7 @@ use Rattle.std.proofs.lemmas.Map.Steps.{length-le_from_distinct_below, le-length
 use Rattle.std.proofs.lemmas.Map.Views.{Contains-from_any, list_any-from_Contains}
 use Rattle.std.specs.Cmp.{nat_eq_equiv, unsigned_Decides}
 use Rattle.std.specs.List.{list_any, IsDistinct, AllByRecursion}
-use Rattle.turnstile.specs.Passes.{Lock, Held}
+use Rattle.turnstile.specs.Passes.{TurnstileState, PassState}
 use Rattle.turnstile.specs.Closed.{AreAll}
 
 none_equal : (q : ℕ) (xs : List ℕ) → list_any (eqb q) xs ≡ false → AllByRecursion (λ y. eqb q y ≡ false) xs
@@ -37,8 +37,8 @@ module _ {X Y : Type 0} (f : X → Y) (R : Y → Y → Type 0) where
   AllPairs-map (x ∷ xs) h = AllPairs-cons R (f x) (map f xs) (All-map (R (f x)) f xs (λ k d l. h 0 (suc k) d (omega arith) (omega arith)))
       (AllPairs-map xs (λ i j d l m. h (suc i) (suc j) d (omega arith) (omega arith)))
 
-module _ {E F : Type 0} (lock : Lock F) (ps : List (Held E F)) where
-  abbrev number_of : Held E F → ℕ
+module _ {E F : Type 0} (lock : TurnstileState F) (ps : List (PassState E F)) where
+  abbrev number_of : PassState E F → ℕ
   number_of p = p.number
 
   pub are_all : length ps ≡ lock.count → AllPairs (λ p q. p.number ≢ q.number) ps → All (λ p. p.number < lock.count) ps → AreAll lock ps

@@ -5,7 +5,7 @@ use Rattle.turnstile.specs.declared.view.Known.{Known}
 use Rattle.turnstile.specs.declared.view.Terms.{Terms}
 use Rattle.turnstile.specs.Logs.{own, gained, Grown}
 use Rattle.turnstile.specs.Steps.{SeatState, counted, with_turn, with_ticket, with_core, with_count, IsFresh, known_after, view_after, first_known}
-use Rattle.turnstile.specs.Passes.{Identity, Lock, Held}
+use Rattle.turnstile.specs.Passes.{Identity, TurnstileState, PassState}
 use Rattle.turnstile.specs.Places.{lock_at, terms_of, known_of, held_of, IsAtRest}
 use Rattle.turnstile.specs.Turned.{Turned}
 use Rattle.turnstile.proofs.Lists.{own_mine}
@@ -35,11 +35,11 @@ module _ {O E F : Type 0} (m0 m1 : SeatState O E F) (t : ℕ) where
 
 module _ {O E F : Type 0} (log : O → List E) (by : E → ℕ) (mark : O → ℕ) (fix : O → F) where
   -- what the pass is told of a turn that drew the ticket t, found the object x and left it y
-  pub turned : {A R : Type 0} (acts : O → ℕ → A → R → O → Type 0) (lock : Lock F) (ask : A) (reply : R) (t : ℕ) (x y : O) (z z' : Identity) (m0 m3 : SeatState O E F) (terms : Option (Terms F)) (old : Held E F) → held_of z m0 ≡ old
+  pub turned : {A R : Type 0} (acts : O → ℕ → A → R → O → Type 0) (lock : TurnstileState F) (ask : A) (reply : R) (t : ℕ) (x y : O) (z z' : Identity) (m0 m3 : SeatState O E F) (terms : Option (Terms F)) (old : PassState E F) → held_of z m0 ≡ old
       → m3.0.passes ≡ known_after log mark y (with_turn t (known_of m0)) ∷ [] → terms ≡ Some (terms_of lock) → acts x (known_of m0).number ask reply y → Grown log by mark fix (known_of m0).number x y
       → IsFresh log by mark fix (with_turn t (known_of m0)) terms x → Turned log by mark fix acts lock ask reply old (held_of z' m3)
   turned acts lock ask reply t x y z z' m0 m3 terms old is only are acted grown fresh = let k = known_of m0 in let now : known_of m3 ≡ known_after log mark y (with_turn t k) = ap first_known only in
-      subst (λ (p : Held E F). Turned log by mark fix acts lock ask reply p (held_of z' m3)) is record {
+      subst (λ (p : PassState E F). Turned log by mark fix acts lock ask reply p (held_of z' m3)) is record {
         before = x;
         after = y;
         acted = acted;

@@ -3,15 +3,15 @@ use Rattle.std.specs.Prelude.{◌≡◌, [], ◌∷◌, Option, None, option_map
 use Rattle.turnstile.specs.declared.view.Known.{Known}
 use Rattle.turnstile.specs.declared.view.Terms.{Terms}
 use Rattle.turnstile.specs.Steps.{SeatState, first_known}
-use Rattle.turnstile.specs.Passes.{Identity, Lock, Held, Told}
+use Rattle.turnstile.specs.Passes.{Identity, TurnstileState, PassState, Told}
 
-abbrev pub lock_at : {F : Type 0} → Identity → Terms F → Lock F
+abbrev pub lock_at : {F : Type 0} → Identity → Terms F → TurnstileState F
 lock_at z t = record { identity = z; count = t.count; start = t.start; fixed = t.fixed }
 
-abbrev pub terms_of : {F : Type 0} → Lock F → Terms F
+abbrev pub terms_of : {F : Type 0} → TurnstileState F → Terms F
 terms_of l = record { count = l.count; start = l.start; fixed = l.fixed }
 
-abbrev pub held_as : {E F : Type 0} → Option (Lock F) → Known E → Held E F
+abbrev pub held_as : {E F : Type 0} → Option (TurnstileState F) → Known E → PassState E F
 held_as l k =
     record {
       lock = l;
@@ -22,7 +22,7 @@ held_as l k =
       drawn = k.drawn;
     }
 
-abbrev pub known_in : {E F : Type 0} → Held E F → Known E
+abbrev pub known_in : {E F : Type 0} → PassState E F → Known E
 known_in p =
     record { number = p.number; seen = p.seen; mark = p.mark; turns = p.turns; drawn = p.drawn }
 
@@ -30,7 +30,7 @@ module _ {O E F : Type 0} where
   abbrev pub known_of : SeatState O E F → Known E
   known_of m = first_known m.0.passes
 
-  abbrev pub held_of : Identity → SeatState O E F → Held E F
+  abbrev pub held_of : Identity → SeatState O E F → PassState E F
   held_of z m = held_as (option_map (lock_at z) m.0.terms) (known_of m)
 
   abbrev pub told_of : Identity → SeatState O E F → Told E F

@@ -73,8 +73,8 @@ module _ {O E F : Type 0} where
       × (v.taken ≡ Some core)
 
   -- the object is at home, or the seat whose ticket is served has it out
-  abbrev pub Slot : O → ℕ → State (Option O) (View O E F) → Type 0
-  Slot core holder s = (s.homes ≡ some (Some core) ∷ []) ⊎ Out core holder s
+  abbrev pub IsPlaced : O → ℕ → State (Option O) (View O E F) → Type 0
+  IsPlaced core holder s = (s.homes ≡ some (Some core) ∷ []) ⊎ Out core holder s
 
 -- The core is the object as the last turn left it. Its log is the history: what a turn in progress
 -- does joins it as the served word rises.
@@ -91,7 +91,7 @@ pub record Turns {O E F : Type 0} (log : O → List E) (by : E → ℕ) (mark : 
   pub waiting : ticket ≡ serving + total ticket_count s.views
   pub bound : ticket ≤ 2 ^ 62
   pub drawn : ticket ≡ terms.start + total turn_count s.views
-  pub slot : Slot core (queue serving) s
+  pub slot : IsPlaced core (queue serving) s
   pub views : (j : ℕ) (v : View O E F)
       → get_elem? s.views j ≡ some v
       → ViewFits log by mark core ticket serving queue owner terms j v
@@ -116,33 +116,3 @@ dealer ks t =
 -- the seat that has brought an object with this log
 abbrev pub opening_view : {E O F : Type 0} → List E → Terms F → View O E F
 opening_view log t = dealer (fresh_from log t.start 0 t.count) (Some t)
-
--- The seat that brings the object has no pass and a ticket: 0 while the empty slot is at home, and 1
--- once it has taken the slot. No other seat has a ticket and no pass.
-abbrev pub bringer : {O E F : Type 0} → ℕ → Terms F → View O E F
-bringer n t =
-    record {
-      passes = [];
-      told = [];
-      told_mark = 0;
-      ticket = Some n;
-      taken = None;
-      terms = Some t;
-    }
-
--- what the first seat is told
-abbrev pub first_view : {O E F : Type 0} → Terms F → View O E F
-first_view t = bringer 0 t
-
--- The rule: the object has not come yet, and there is one seat; or turns are made.
-pub data Holds {O E F : Type 0} (log : O → List E) (by : E → ℕ) (mark : O → ℕ) (fix : O → F)
-    (terms : Terms F) (s : State (Option O) (View O E F)) : Type 0 where
-  awaits : s.words ≡ terms.start ∷ terms.start ∷ []
-      → s.homes ≡ some None ∷ []
-      → s.views ≡ bringer 0 terms ∷ []
-      → Holds log by mark fix terms s
-  comes : s.words ≡ terms.start ∷ terms.start ∷ []
-      → s.homes ≡ none ∷ []
-      → s.views ≡ bringer 1 terms ∷ []
-      → Holds log by mark fix terms s
-  turns : Turns log by mark fix terms s → Holds log by mark fix terms s

@@ -5,7 +5,7 @@ use Rattle.turnstile.specs.declared.view.Known.{Known}
 use Rattle.turnstile.specs.declared.view.View.{View}
 use Rattle.turnstile.specs.declared.view.Terms.{Terms}
 use Rattle.turnstile.specs.Logs.{StartsWith, own}
-use Rattle.turnstile.specs.Rule.{fresh, dealer, opening_view}
+use Rattle.turnstile.specs.Rule.{fresh, dealer}
 
 -- a seat's view, and the slots that it has taken
 abbrev pub SeatState : Type 0 → Type 0 → Type 0 → Type 0
@@ -38,16 +38,6 @@ module _ {O E F : Type 0} where
   -- the ticket was drawn, if it was still the next one
   abbrev pub draws : Step (Option O) → SeatState O E F → ℕ → SeatState O E F → Type 0
   draws st m r m' = (r ≡ st.first → m' ≡ (with_ticket m.0 st.first, m.1)) × (r ≢ st.first → m' ≡ m)
-
-module _ {O E F : Type 0} where
-  -- the empty slot was taken
-  abbrev pub opens : Step (Option O) → SeatState O E F → ℕ → SeatState O E F → Type 0
-  opens st m r m' = m' ≡ (record m.0 { ticket = Some 1 }, (0, None) ∷ m.1)
-
-  -- the object was put there, and the passes have seen its log
-  abbrev pub begins : (O → List E) → Step (Option O) → SeatState O E F → ℕ → SeatState O E F → Type 0
-  begins log st m r m' = (t : Terms F) (y : O) → m.0.terms ≡ Some t → m.1 ≡ (0, Some y) ∷ []
-      → m' ≡ (opening_view (log y) t, [])
 
 -- the object x is no older than what the pass knows
 pub record IsFresh {O E F : Type 0} (log : O → List E) (by : E → ℕ) (mark : O → ℕ) (fix : O → F)

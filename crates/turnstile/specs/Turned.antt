@@ -1,14 +1,14 @@
 -- What a turn tells.
 use Rattle.std.specs.Prelude.{◌≡◌, ℕ, ◌≤◌, List, ◌++◌}
 use Rattle.turnstile.specs.Logs.{StartsWith, Grown, gained}
-use Rattle.turnstile.specs.Passes.{Lock, Held, mine}
+use Rattle.turnstile.specs.Passes.{TurnstileState, PassState, mine}
 
 -- The object was found no older than all that the pass had seen, and did what was asked. The pass
 -- has then seen it as it was left, and has made the entry of this turn, if there is one, and no
 -- other.
 pub record Turned {O E F A R : Type 0} (log : O → List E) (by : E → ℕ) (mark : O → ℕ) (fix : O → F)
-    (acts : O → ℕ → A → R → O → Type 0) (lock : Lock F) (ask : A) (reply : R)
-    (old new : Held E F) : Type 0 where
+    (acts : O → ℕ → A → R → O → Type 0) (lock : TurnstileState F) (ask : A) (reply : R)
+    (old new : PassState E F) : Type 0 where
   pub before : O
   pub after : O
   pub acted : acts before old.number ask reply after

@@ -1,6 +1,6 @@
 //! The rule of the table.
 use crate::object::Object;
-use crate::view::{Terms, View};
+use crate::view::{Opening, View};
 use atomic_table::TableRule;
 use std::marker::PhantomData;
 
@@ -8,10 +8,10 @@ pub struct Law<O> {
     object: PhantomData<O>,
 }
 
-impl<O: Object> TableRule<Option<O>, View<O, O::Entry, O::Fixed>, Terms<O::Fixed>> for Law<O> {
-    ghost use Rattle.turnstile.specs.Rule.{Holds, first_view};
+impl<O: Object> TableRule<Option<O>, View<O, O::Entry, O::Fixed>, Opening<O, O::Fixed>> for Law<O> {
+    ghost use Rattle.turnstile.specs.Rule.{Turns, opening_view};
 
-    ghost holds = { Holds O.log O.by O.mark O.fixed };
+    ghost holds = { λ about. Turns O.log O.by O.mark O.fixed about.terms };
 
-    ghost first = { first_view };
+    ghost first = { λ about. opening_view (O.log about.object.value) about.terms };
 }

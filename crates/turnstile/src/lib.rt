@@ -33,9 +33,9 @@
 //! ```
 //!
 //! **How it works.** There are two words and one slot. The ticket word counts the turns drawn, the
-//! served word says which turn is served, and the slot has the object. The slot is empty at first:
-//! who builds the turnstile puts the object there, before the passes are dealt, and they have seen
-//! its log as it was put. A turn raises the ticket
+//! served word says which turn is served, and the slot has the object, from the start on. So the
+//! passes have seen its log when they are dealt: a snapshot of the object, which has no bytes, is
+//! part of what the table is told when it is made. A turn raises the ticket
 //! word by one, and what it found there is its ticket. It reads the served word until that is its
 //! ticket. A thread at most two turns away spins for some microseconds, about as long as a wake
 //! takes, before it sleeps; any other sleeps at once. Each sleeps on its own bell. Bells carry no

@@ -18,10 +18,10 @@ pub struct Pass<O: Object> {
 
 impl<O: Object> Model for Pass<O> {
     ghost use Rattle.std.specs.Prelude.{◌≡◌, ◌<◌, IfSome};
-    ghost use Rattle.turnstile.specs.Passes.{Held};
+    ghost use Rattle.turnstile.specs.Passes.{PassState};
     ghost use Rattle.turnstile.specs.Places.{IsAtRest, known_of, held_of};
 
-    ghost Value = { Held O.Entry O.Fixed };
+    ghost Value = { PassState O.Entry O.Fixed };
 
     ghost view = { λ p. held_of p.seat.table_id p.seat.me };
 

@@ -1,23 +1,9 @@
 //! What each step tells the seat that makes it. These types are for the proofs alone.
-ghost use Rattle.turnstile.specs.Steps.{opens, begins, counts, draws, called, ends, dealt, dealt_one, noted, spent_view, heard, gathered, learns};
+ghost use Rattle.turnstile.specs.Steps.{counts, draws, called, ends, dealt, dealt_one, noted, spent_view, heard, gathered, learns};
 
 use crate::object::Object;
 use crate::view::View;
 use atomic_table::{Join, Play, Split};
-
-/// A load of the ticket word, by which the first seat takes the empty slot.
-pub struct Open;
-
-impl<O, E, F> Play<Option<O>, View<O, E, F>> for Open {
-    ghost then = { opens };
-}
-
-/// A load of the ticket word, by which the slot goes back with the object, and turns begin.
-pub struct Begin;
-
-impl<O: Object> Play<Option<O>, View<O, O::Entry, O::Fixed>> for Begin {
-    ghost then = { begins O.log };
-}
 
 /// A load of the ticket word: how many turns are drawn.
 pub struct Count;

@@ -78,6 +78,7 @@ impl Tally {
         }
     }
 
+    /// The turns that asked to be entered, by their passes.
     pub fn entries(&self) -> &[u64]
         ensures { result.now ≡ self.now.entries }
     {

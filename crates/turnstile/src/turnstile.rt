@@ -4,7 +4,7 @@ ghost use Rattle.turnstile.specs.Logs.{Grown, StartsWith};
 ghost use Rattle.turnstile.specs.Passes.{IsSamePass, mine, passes_from, new_passes};
 ghost use Rattle.turnstile.specs.Turned.{Turned};
 ghost use Rattle.turnstile.specs.Closed.{AreAll, Closed};
-ghost use Rattle.turnstile.specs.Rule.{dealer, fresh, fresh_from, first_view, opening_view};
+ghost use Rattle.turnstile.specs.Rule.{dealer, fresh, fresh_from};
 ghost use Rattle.turnstile.specs.Steps.{with_ticket, with_core, with_count, view_after, IsFresh};
 ghost use Rattle.turnstile.specs.Places.{terms_of, known_of, known_in, IsAtRest};
 
@@ -12,10 +12,11 @@ use crate::bells::{Bells, Waiter};
 use crate::law::Law;
 use crate::object::Object;
 use crate::pass::{Note, Pass, Place};
-use crate::plays::{Begin, Count, Deal, Draw, End, Gather, Hear, Learn, Open, Take, Tell};
-use crate::view::{Terms, View};
+use crate::plays::{Count, Deal, Draw, End, Gather, Hear, Learn, Take, Tell};
+use crate::view::{Opening, Terms, View};
 use atomic_table::Table;
 use base_core::NoMemory;
+use std::snapshot::Snapshot;
 use std::alloc::Global;
 use std::marker::Model;
 use std::sync::Wait;
@@ -35,21 +36,21 @@ const SERVING: usize = 1;
 /// what its turns are counted from, and the object's fixed part.
 #[derive(Drop)]
 pub struct Turnstile<O: Object> {
-    table: Table<Option<O>, View<O, O::Entry, O::Fixed>, Terms<O::Fixed>, Law<O>, Global>,
+    table: Table<Option<O>, View<O, O::Entry, O::Fixed>, Opening<O, O::Fixed>, Law<O>, Global>,
     bells: Bells,
     count: usize,
 }
 
 impl<O: Object> Model for Turnstile<O> {
     ghost use Rattle.std.specs.Prelude.{◌≡◌, ◌<◌};
-    ghost use Rattle.turnstile.specs.Passes.{Lock};
+    ghost use Rattle.turnstile.specs.Passes.{TurnstileState};
     ghost use Rattle.turnstile.specs.Places.{lock_at};
 
-    ghost Value = { Lock O.Fixed };
+    ghost Value = { TurnstileState O.Fixed };
 
-    ghost view = { λ t. lock_at t.table.shared.table_id t.table.shared.key };
+    ghost view = { λ t. lock_at t.table.shared.table_id t.table.shared.key.terms };
 
-    ghost invariant = { λ t. (t.table.shared.key.count ≡ t.count)
+    ghost invariant = { λ t. (t.table.shared.key.terms.count ≡ t.count)
         × (0 < t.count)
         × (t.table.shared.table_id.words ≡ 2)
         × (t.table.shared.table_id.slots ≡ 1) };
@@ -95,10 +96,14 @@ impl<O: Object> Turnstile<O> {
             start,
             fixed: object.fixed_part(),
         };
+        let opening = Opening {
+            terms,
+            object: Snapshot::of(&object),
+        };
         let bells = Bells::new(alloc)?;
         let mut slots = Vec::new(alloc);
-        slots.push(None)?;
-        let Ok((table, mut seat)) = Table::new(alloc, &[start, start], slots, &terms) else {
+        slots.push(Some(object))?;
+        let Ok((table, seat)) = Table::new(alloc, &[start, start], slots, &opening) else {
             return Err(NoMemory);
         };
         let turnstile = Turnstile {
@@ -106,27 +111,8 @@ impl<O: Object> Turnstile<O> {
             bells,
             count,
         };
-        turnstile.bring(&mut seat, object);
         let passes = turnstile.deal_all(alloc, seat)?;
         Ok((turnstile, passes))
-    }
-
-    // Puts the object into the slot. The passes, which this seat has, have then seen its log.
-    fn bring(&self, seat: &mut Place<O>, object: O)
-        requires own { seat.old.table_id ≡ self.now.identity }
-        requires first { seat.old.me ≡ (first_view (terms_of self.now), []) }
-        requires bears { All (λ e. O.by e < self.now.count) (O.log object) }
-        requires fixed { O.fixed object ≡ self.now.fixed }
-        requires start { self.now.start ≤ 2 ^ 62 }
-        ensures own { seat.new.table_id ≡ seat.old.table_id }
-        ensures all { seat.new.me ≡ (opening_view (O.log object) (terms_of self.now), []) }
-    {
-        self.table.shared.load::<Open>(seat, TICKET);
-        match self.table.shared.exchange(seat, 0, Some(object)) {
-            None => {}
-            Some(_) => unreachable!(),
-        }
-        self.table.shared.load::<Begin>(seat, TICKET);
     }
 
     fn deal_all(&self, alloc: Global, mut seat: Place<O>) -> Result<Vec<Pass<O>>, NoMemory>

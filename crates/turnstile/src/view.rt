@@ -1,5 +1,6 @@
 //! What a seat at the table knows. These types are for the proofs alone: of [`Terms`] one value is
 //! made, and of the others none.
+use std::snapshot::Snapshot;
 use std::collections::LinkedList;
 
 /// What one pass knows.
@@ -29,4 +30,11 @@ pub struct Terms<F> {
     pub count: u64,
     pub start: u64,
     pub fixed: F,
+}
+
+/// What the table is told when it is made, and the object as it came.
+#[derive(Drop)]
+pub struct Opening<O, F> {
+    pub terms: Terms<F>,
+    pub object: Snapshot<O>,
 }

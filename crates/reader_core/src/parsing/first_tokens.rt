@@ -4,7 +4,7 @@ ghost use Rattle.std.specs.List.{list_any};
 ghost use Rattle.lexer_core.specs.declared.token.TokenKind.{TokenKind};
 ghost use Rattle.lexer_core.specs.declared.token.TokenKind.TheVariants as kinds;
 ghost use Rattle.reader_core.specs.Grammar.{Grammar, Items, More, One, AnyName, AnyTest, AnyLiteral, followed_by, item_fault, same};
-ghost use Rattle.reader_core.specs.Cursor.{Leads};
+ghost use Rattle.reader_core.specs.Cursor.{Parses};
 ghost use Rattle.reader_core.specs.Privileges.{word_keyword, first_words};
 ghost use Rattle.reader_core.specs.Sentences.{first_names, names_rule, conditions_rule, condition_item, privileges_rule, privilege_item, behind_word};
 ghost use Rattle.reader_core.specs.Saying.{name_says, word_says};
@@ -32,7 +32,7 @@ fn has_word(privileges: &[Privilege], word: PrivilegeWord) -> bool
 impl Reader<'_> {
     /// The name that begins an item of a list of at most so many, after these.
     pub fn item_name<T: Named>(&mut self, items: &[T], limit: usize) -> Result<Name, ReadFault>
-        ensures leads { (i : Grammar) → Leads
+        ensures leads { (i : Grammar) → Parses
             (λ k. Items (names_rule limit) (first_names T.name_of items.now) (One AnyName i) k)
             (λ n k. followed_by i (More (names_rule limit)
             (first_names T.name_of items.now ++ kinds.Name n ∷ []) (One AnyName i) k))
@@ -48,7 +48,7 @@ impl Reader<'_> {
 
     /// The column that begins a condition, after these.
     pub fn tested_column(&mut self, before: &[Condition]) -> Result<Name, ReadFault>
-        ensures leads { Leads
+        ensures leads { Parses
             (λ k. Items conditions_rule (map (λ c. kinds.Name c.column) before.now)
             condition_item k)
             (λ n k. One AnyTest (One AnyLiteral (More conditions_rule
@@ -65,7 +65,7 @@ impl Reader<'_> {
 
     /// The word that begins a privilege, after these.
     pub fn item_word(&mut self, before: &[Privilege]) -> Result<PrivilegeWord, ReadFault>
-        ensures leads { Leads
+        ensures leads { Parses
             (λ k. Items privileges_rule (first_words before.now) privilege_item k)
             (λ w k. behind_word w (More privileges_rule
             (first_words before.now ++ kinds.Keyword (word_keyword w) ∷ []) privilege_item k))

@@ -2,7 +2,7 @@
 ghost use Rattle.std.specs.Prelude.{◌≡◌, ◌∷◌, ◌++◌, [], ◌<◌, None, Some, IfOk, map, refl};
 ghost use Rattle.lexer_core.specs.Lexing.{kind_of};
 ghost use Rattle.reader_core.specs.Grammar.{Items, More, item_fault};
-ghost use Rattle.reader_core.specs.Cursor.{Leads, next_is};
+ghost use Rattle.reader_core.specs.Cursor.{Parses, next_is};
 
 use crate::parsing::list::Item;
 use crate::parsing::reader::Reader;

@@ -4,9 +4,9 @@ ghost use Rattle.lexer_core.specs.Lexing.{Lexeme};
 ghost use Rattle.lexer_core.specs.declared.token.TokenKind.{TokenKind};
 ghost use Rattle.reader_core.specs.Grammar.{Grammar, Rule, Items, More, item_fault};
 ghost use Rattle.reader_core.specs.Recogniser.{AreFaultless};
-ghost use Rattle.reader_core.specs.Cursor.{Reads, Leads, next_is, next_lexeme};
+ghost use Rattle.reader_core.specs.Cursor.{Reads, Parses, next_is, next_lexeme};
 ghost use Rattle.reader_core.specs.declared.separator.Separator.{Separator};
-ghost use Rattle.reader_core.specs.Saying.{listed, separator_class, separator_lexeme};
+ghost use Rattle.reader_core.specs.Saying.{separated, separator_class, separator_lexeme};
 
 use crate::parsing::reader::Reader;
 use crate::separator::Separator;
@@ -33,7 +33,7 @@ pub trait Item: Drop + Sized {
 
     /// Reads the item that comes after these.
     fn read(reader: &mut Reader<'_>, alloc: Global, before: &[Self]) -> Result<Self, ReadFault>
-        ensures leads { Leads (λ k. Items rule (map first before.now) grammar k)
+        ensures leads { Parses (λ k. Items rule (map first before.now) grammar k)
             (λ x k. More rule (map first (before.now ++ x ∷ [])) grammar k) says
             result reader.old reader.new }
         ensures faultless { IfOk result (λ x.
@@ -100,7 +100,7 @@ impl Gathered<Value> for ValuesBuilder {
 /// One item, and more of them behind separators.
 pub fn list<T: Item, L: Gathered<T>>(reader: &mut Reader<'_>, alloc: Global) -> Result<L, ReadFault>
     ensures reads { Reads (λ k. Items T.rule [] T.grammar k)
-        (λ l. listed (separator_lexeme T.SEPARATOR) T.says (L.items_of l))
+        (λ l. separated (separator_lexeme T.SEPARATOR) T.says (L.items_of l))
         result reader.old reader.new }
     ensures some { IfOk result (λ l. 0 < length (L.items_of l)) }
     ensures faultless { IfOk result (λ l. AreFaultless T.rule [] (map T.first (L.items_of l))) }

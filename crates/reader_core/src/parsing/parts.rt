@@ -7,7 +7,7 @@ ghost use Rattle.reader_core.specs.Grammar.{Items};
 ghost use Rattle.reader_core.specs.Cursor.{Reads};
 ghost use Rattle.reader_core.specs.Privileges.{word_of};
 ghost use Rattle.reader_core.specs.Sentences.{optional, name_list, selection, in_brackets, behind_word, privileges_rule, privilege_item, privileges_from, names_rule, set_item, filter, grant_option, grant_option_for, only_table};
-ghost use Rattle.reader_core.specs.Saying.{comma_lexeme, listed, names_say, name_says, user_says, selection_says, columns_say, privilege_columns, privilege_says, privileges_from_say, set_says, filter_says, option_says, option_for_says, only_says};
+ghost use Rattle.reader_core.specs.Saying.{comma_lexeme, separated, names_say, name_says, user_says, selection_says, columns_say, privilege_columns, privilege_says, privileges_from_say, set_says, filter_says, option_says, option_for_says, only_says};
 ghost use Rattle.reader_core.specs.Forming.{IsWellFormedPrivilege, ArePrivileges};
 
 use crate::parsing::list::list;
@@ -27,8 +27,9 @@ impl Reader<'_> {
         Ok(Distinct::from_vec(alloc, names)?)
     }
 
+    /// Reads a list of 1 to 16 different users.
     pub fn users(&mut self, alloc: Global) -> Result<Distinct<User, MAX_USERS>, ReadFault>
-        ensures { Reads (name_list 16) (λ users. listed comma_lexeme user_says users)
+        ensures { Reads (name_list 16) (λ users. separated comma_lexeme user_says users)
             result self.old self.new }
     {
         let users = list::<User, Vec<User>>(self, alloc)?;
@@ -93,9 +94,10 @@ impl Reader<'_> {
         }
     }
 
+    /// Reads a list of privileges, no kind of them twice.
     pub fn privileges(&mut self, alloc: Global) -> Result<Privileges, ReadFault>
         ensures reads { Reads (λ k. Items privileges_rule [] privilege_item k)
-            (λ ps. listed comma_lexeme privilege_says ps) result self.old self.new }
+            (λ ps. separated comma_lexeme privilege_says ps) result self.old self.new }
         ensures well_formed { IfOk result (λ ps. ArePrivileges ps) }
     {
         let privileges = list::<Privilege, Vec<Privilege>>(self, alloc)?;
@@ -123,7 +125,7 @@ impl Reader<'_> {
     /// The assignments of UPDATE.
     pub fn sets(&mut self, alloc: Global) -> Result<Distinct<Assignment, MAX_ITEMS>, ReadFault>
         ensures { Reads (λ k. Items (names_rule 32) [] set_item k)
-            (λ sets. listed comma_lexeme set_says sets) result self.old self.new }
+            (λ sets. separated comma_lexeme set_says sets) result self.old self.new }
     {
         let sets = list::<Assignment, Vec<Assignment>>(self, alloc)?;
         Ok(Distinct::from_vec(alloc, sets)?)

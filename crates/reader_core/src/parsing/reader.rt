@@ -65,6 +65,7 @@ impl<'a> Model for Reader<'a> {
 }
 
 impl<'a> Reader<'a> {
+    /// At the beginning of the tokens of a line.
     pub fn new(line: &'a [u8], tokens: &'a [Token]) -> Reader<'a>
         requires short { length line.now ≤ 4096 }
         requires spelled { AreSpelled line.now tokens.now }
@@ -75,6 +76,7 @@ impl<'a> Reader<'a> {
 }
 
 impl Reader<'_> {
+    /// The kind of the next token, if there is one.
     pub fn peek(&self) -> Option<TokenKind>
         ensures { result ≡ next_kind self.now }
     {
@@ -91,6 +93,7 @@ impl Reader<'_> {
         self.rest.len()
     }
 
+    /// Goes on behind the next token.
     pub fn advance(&mut self)
         requires { next_kind self.old ≢ None }
         ensures rest { self.new.rest ≡ drop 1 self.old.rest }
@@ -110,6 +113,7 @@ impl Reader<'_> {
         ReadFault::At { code, offset }
     }
 
+    /// Whether this keyword comes next.
     pub fn at_keyword(&self, keyword: Keyword) -> bool
         ensures next { result ≡ next_is (Key keyword) self.now }
         ensures lexeme { result ≡ true → next_lexeme self.now ≡ Some (lexemes.Key keyword) }
@@ -126,6 +130,7 @@ impl Reader<'_> {
         }
     }
 
+    /// Whether this mark comes next.
     pub fn at_mark(&self, mark: Mark) -> bool
         ensures next { result ≡ next_is (Sign mark) self.now }
         ensures lexeme { result ≡ true → next_lexeme self.now ≡ Some (lexemes.Sign mark) }
@@ -142,6 +147,7 @@ impl Reader<'_> {
         }
     }
 
+    /// Whether this separator comes next.
     pub fn at_separator(&self, separator: Separator) -> bool
         ensures next { result ≡ next_is (separator_class separator) self.now }
         ensures lexeme { result ≡ true
@@ -153,6 +159,7 @@ impl Reader<'_> {
         }
     }
 
+    /// Reads this keyword, or tells where it was expected.
     pub fn keyword(&mut self, wanted: Keyword) -> Result<(), ReadFault>
         ensures { Reads (λ k. One (Key wanted) k) (λ _. lexemes.Key wanted ∷ [])
             result self.old self.new }
@@ -164,6 +171,7 @@ impl Reader<'_> {
         Ok(())
     }
 
+    /// Reads this mark, or tells where it was expected.
     pub fn mark(&mut self, wanted: Mark) -> Result<(), ReadFault>
         ensures { Reads (λ k. One (Sign wanted) k) (λ _. lexemes.Sign wanted ∷ [])
             result self.old self.new }
@@ -175,6 +183,7 @@ impl Reader<'_> {
         Ok(())
     }
 
+    /// Reads a name.
     pub fn name(&mut self) -> Result<Name, ReadFault>
         ensures { Reads (λ k. One AnyName k) name_says result self.old self.new }
     {
@@ -208,6 +217,7 @@ impl Reader<'_> {
         }
     }
 
+    /// Reads the type of a column.
     pub fn column_type(&mut self) -> Result<ColType, ReadFault>
         ensures { Reads (λ k. One AnyType k) type_says result self.old self.new }
     {
@@ -301,6 +311,7 @@ impl Reader<'_> {
         }
     }
 
+    /// Reads a comparison.
     pub fn comparison(&mut self) -> Result<Comparison, ReadFault>
         ensures { Reads (λ k. One AnyTest k) comparison_says result self.old self.new }
     {

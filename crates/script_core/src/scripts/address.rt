@@ -1,12 +1,14 @@
-//! Who speaks in a script's line.
-ghost use Rattle.std.specs.Prelude.{◌≡◌, ◌≤◌, IfOk, length};
+//! Who speaks in a line, `user: statement`, and what he asks.
+ghost use Rattle.std.specs.Prelude.{◌≡◌, ◌≤◌, IfErr, IfOk, length};
 ghost use Rattle.std.specs.List.{list_all, prefix_len};
 ghost use Rattle.base_core.specs.Words.{is_word_byte};
 ghost use Rattle.lexer_core.specs.Lexing.{is_blank};
-ghost use Rattle.script_core.specs.Script.{addressed, addressed_by, addressed_up_to};
+ghost use Rattle.script_core.specs.Addressed.{addressed_by, addressed_up_to, Asks, IsUnreadFor};
 
 use base_core::{User, Word};
-use lexer_core::{Code, MAX_LINE, MAX_NAME, byte_at, is_blank, word_len};
+use lexer_core::{Code, MAX_NAME, ReadFault, Token, byte_at, is_blank, word_len};
+use reader_core::{Statement, read_with};
+use std::alloc::Global;
 
 fn is_blank_line(line: &[u8]) -> bool
     ensures { result ≡ list_all is_blank line.now }
@@ -37,11 +39,10 @@ fn addressed_by(line: &[u8], n: usize) -> Result<(User, usize), (Code, usize)>
 }
 
 /// Who speaks, and the place behind the colon, in a line that may have so many bytes. Otherwise the
-/// fault and its byte: `TooLong` at that many, `Empty` for a line of blanks, `LongName` for a first
-/// word of more than 30 bytes, and `Expected` where no user and colon stand first, these three at 0.
+/// fault and its byte.
 // Inlined, as each line of a script is cut by it.
 #[inline(always)]
-pub fn addressed_up_to(most: usize, line: &[u8]) -> Result<(User, usize), (Code, usize)>
+fn addressed_up_to(most: usize, line: &[u8]) -> Result<(User, usize), (Code, usize)>
     ensures exact { result ≡ addressed_up_to most line.now }
     ensures within { IfOk result (λ found. (found.1 ≤ length line.now) × (found.1 ≤ 31)) }
 {
@@ -54,10 +55,34 @@ pub fn addressed_up_to(most: usize, line: &[u8]) -> Result<(User, usize), (Code,
     addressed_by(line, word_len(line))
 }
 
-/// The same of a script's line, which may have 4,096 bytes.
-pub fn addressed(line: &[u8]) -> Result<(User, usize), (Code, usize)>
-    ensures exact { result ≡ addressed line.now }
-    ensures within { IfOk result (λ found. (found.1 ≤ length line.now) × (found.1 ≤ 31)) }
+/// Reads a line, `user: statement`, that may have so many bytes: who speaks, and what he asks.
+///
+/// Otherwise the line's one fault: `TooLong` at that many bytes; `Empty` for a line of blanks,
+/// `LongName` for a first word of more than 30 bytes, and `Expected` where no user and colon stand
+/// first, these three at 0; else that of the statement, counted from the front of the line.
+/// `NoMemory` where a request for memory was refused. The vector has room for the tokens; what it
+/// has before and behind the call means nothing.
+// Inlined, so that a statement is not moved once more for each line.
+#[inline(always)]
+pub fn read_addressed(
+    alloc: Global,
+    tokens: &mut Vec<Token>,
+    most: usize,
+    line: &[u8],
+) -> Result<(User, Statement), ReadFault>
+    ensures asks { IfOk result (λ said. Asks most line.now said.0 said.1) }
+    ensures unread { IfErr result (IsUnreadFor most line.now) }
 {
-    addressed_up_to(MAX_LINE, line)
+    let (user, start) = match addressed_up_to(most, line) {
+        Ok(address) => address,
+        Err((code, offset)) => return Err(ReadFault::At { code, offset }),
+    };
+    match read_with(alloc, tokens, &line[start..]) {
+        Ok(statement) => Ok((user, statement)),
+        Err(ReadFault::At { code, offset }) => {
+            let offset = start + offset;
+            Err(ReadFault::At { code, offset })
+        }
+        Err(ReadFault::NoMemory) => Err(ReadFault::NoMemory),
+    }
 }

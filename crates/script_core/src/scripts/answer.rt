@@ -1,21 +1,18 @@
 //! What is said of a line, and what is written for it.
-ghost use Rattle.std.specs.Prelude.{◌≡◌, ℕ, List, [], ◌∷◌, ◌++◌, false, true, Ok, OnOk, OnErr, MatchResult};
-ghost use Rattle.base_core.specs.Streams.{Writes, WritesFrontOf};
+ghost use Rattle.std.specs.Prelude.{◌≡◌, ℕ, List, false, true, Ok};
+ghost use Rattle.base_core.specs.Streams.{MayWrite};
 ghost use Rattle.reader_core.specs.Language.{Spells};
 ghost use Rattle.monitor_core.specs.Verdict.{is_change};
 ghost use Rattle.system_core.specs.Journal.{verdict_at};
 ghost use Rattle.system_core.specs.Step.{change_reply};
 ghost use Rattle.system_core.specs.declared.machine.event.Entry.{Entry};
-ghost use Rattle.script_core.specs.Script.{is_refused};
 ghost use Rattle.script_core.specs.Replying.{TellsAsked, TellsSaid, TellsThen, TellsKept};
 ghost use Rattle.script_core.specs.Keeping.{with_keeper, AnswersKept};
 
-use crate::scripts::address::addressed;
-use base_core::{Broken, Moment, NoMemory, Sink};
-use export_core::NoGate;
+use crate::scripts::address::read_addressed;
+use base_core::{Broken, Moment, NoGate, NoMemory, Sink};
 use journal_core::{Keeper, keep_last};
-use lexer_core::{Code, ReadFault, Token};
-use reader_core::read_with;
+use lexer_core::{Code, MAX_LINE, ReadFault, Token};
 use reply_core::{ReplyBuffer, write_done, write_fault, write_reply, write_unread};
 use std::alloc::Global;
 use system_core::{Entry, Event, Reply, System};
@@ -31,22 +28,9 @@ pub enum Said {
     Answer(Reply),
 }
 
-fn is_refused(reply: &Reply) -> bool
-    ensures { result ≡ is_refused reply.now }
-{
-    match reply {
-        Reply::Refused { .. } => true,
-        _ => false,
-    }
-}
-
 fn write_said<W: Sink>(buffer: &mut ReplyBuffer, said: Said, writer: &mut W) -> Result<(), Broken>
     requires { W.failed writer.old ≡ false }
-    ensures failed { MatchResult result (λ _. W.failed writer.new ≡ false)
-        (λ _. W.failed writer.new ≡ true) }
-    ensures ok { OnOk result (Writes (TellsSaid said) (W.taken writer.old) (W.taken writer.new)) }
-    ensures err { OnErr result
-        (WritesFrontOf (TellsSaid said) (W.taken writer.old) (W.taken writer.new)) }
+    ensures { MayWrite W.failed W.taken (TellsSaid said) result writer.old writer.new }
 {
     match said {
         Said::Fault { code, offset } => write_fault(buffer, code, offset, writer),
@@ -65,16 +49,11 @@ fn tell<W: Sink>(
     said: Said,
 ) -> Result<(), Broken>
     requires { W.failed writer.old ≡ false }
-    ensures failed { MatchResult result (λ _. W.failed writer.new ≡ false)
-        (λ _. W.failed writer.new ≡ true) }
-    ensures ok { OnOk result
-        (Writes (TellsThen said system.old system.new) (W.taken writer.old) (W.taken writer.new)) }
-    ensures err { OnErr result
-        (WritesFrontOf (TellsThen said system.old system.new)
-        (W.taken writer.old) (W.taken writer.new)) }
+    ensures { MayWrite W.failed W.taken (TellsThen said system.old system.new)
+        result writer.old writer.new }
 {
     let reply = system.step(Event::Step);
-    let refused = is_refused(&reply);
+    let refused = reply.is_refused();
     drop(reply);
     if !refused {
         system.let_go();
@@ -102,14 +81,8 @@ fn tell_fault<W: Sink>(
     offset: usize,
 ) -> Result<(), Broken>
     requires { W.failed writer.old ≡ false }
-    ensures failed { MatchResult result (λ _. W.failed writer.new ≡ false)
-        (λ _. W.failed writer.new ≡ true) }
-    ensures ok { OnOk result
-        (Writes (TellsThen (Said.Fault code offset) system.old system.new)
-        (W.taken writer.old) (W.taken writer.new)) }
-    ensures err { OnErr result
-        (WritesFrontOf (TellsThen (Said.Fault code offset) system.old system.new)
-        (W.taken writer.old) (W.taken writer.new)) }
+    ensures { MayWrite W.failed W.taken (TellsThen (Said.Fault code offset) system.old system.new)
+        result writer.old writer.new }
 {
     tell(buffer, system, writer, Said::Fault { code, offset })
 }
@@ -122,14 +95,8 @@ fn tell_unread<W: Sink>(
     writer: &mut W,
 ) -> Result<(), Broken>
     requires { W.failed writer.old ≡ false }
-    ensures failed { MatchResult result (λ _. W.failed writer.new ≡ false)
-        (λ _. W.failed writer.new ≡ true) }
-    ensures ok { OnOk result
-        (Writes (TellsThen Said.Unread system.old system.new)
-        (W.taken writer.old) (W.taken writer.new)) }
-    ensures err { OnErr result
-        (WritesFrontOf (TellsThen Said.Unread system.old system.new)
-        (W.taken writer.old) (W.taken writer.new)) }
+    ensures { MayWrite W.failed W.taken (TellsThen Said.Unread system.old system.new)
+        result writer.old writer.new }
 {
     tell(buffer, system, writer, Said::Unread)
 }
@@ -143,14 +110,8 @@ fn tell_reply<W: Sink>(
     reply: Reply,
 ) -> Result<(), Broken>
     requires { W.failed writer.old ≡ false }
-    ensures failed { MatchResult result (λ _. W.failed writer.new ≡ false)
-        (λ _. W.failed writer.new ≡ true) }
-    ensures ok { OnOk result
-        (Writes (TellsThen (Said.Answer reply) system.old system.new)
-        (W.taken writer.old) (W.taken writer.new)) }
-    ensures err { OnErr result
-        (WritesFrontOf (TellsThen (Said.Answer reply) system.old system.new)
-        (W.taken writer.old) (W.taken writer.new)) }
+    ensures { MayWrite W.failed W.taken (TellsThen (Said.Answer reply) system.old system.new)
+        result writer.old writer.new }
 {
     if system.is_idle() {
         return write_reply(buffer, reply, writer, &NoGate);
@@ -168,14 +129,9 @@ fn tell_change<W: Sink>(
     made: Result<Moment, NoMemory>,
 ) -> Result<(), Broken>
     requires { W.failed writer.old ≡ false }
-    ensures failed { MatchResult result (λ _. W.failed writer.new ≡ false)
-        (λ _. W.failed writer.new ≡ true) }
-    ensures ok { OnOk result
-        (Writes (TellsThen (Said.Answer (change_reply at made)) system.old system.new)
-        (W.taken writer.old) (W.taken writer.new)) }
-    ensures err { OnErr result
-        (WritesFrontOf (TellsThen (Said.Answer (change_reply at made)) system.old system.new)
-        (W.taken writer.old) (W.taken writer.new)) }
+    ensures { MayWrite W.failed W.taken
+        (TellsThen (Said.Answer (change_reply at made)) system.old system.new)
+        result writer.old writer.new }
 {
     tell_reply(buffer, system, writer, Reply::to_change(at, made))
 }
@@ -195,16 +151,10 @@ fn ask_change<W: Sink, K: Keeper>(
     requires allowed { let now = system.old in
         verdict_at now.limits now.journal entry.user entry.statement ≡ Ok tt }
     requires change { is_change entry.statement ≡ true }
-    ensures failed { MatchResult result (λ _. W.failed writer.new ≡ false)
-        (λ _. W.failed writer.new ≡ true) }
-    ensures ok { OnOk result (Writes
+    ensures { MayWrite W.failed W.taken
         (TellsKept K.keeps K.fails K.failed entry
         (with_keeper system.old keeper.old) (with_keeper system.new keeper.new))
-        (W.taken writer.old) (W.taken writer.new)) }
-    ensures err { OnErr result (WritesFrontOf
-        (TellsKept K.keeps K.fails K.failed entry
-        (with_keeper system.old keeper.old) (with_keeper system.new keeper.new))
-        (W.taken writer.old) (W.taken writer.new)) }
+        result writer.old writer.new }
 {
     let at = system.moment();
     let made = match system.change(entry) {
@@ -229,14 +179,8 @@ fn ask_any<W: Sink>(
     entry: Entry,
 ) -> Result<(), Broken>
     requires { W.failed writer.old ≡ false }
-    ensures failed { MatchResult result (λ _. W.failed writer.new ≡ false)
-        (λ _. W.failed writer.new ≡ true) }
-    ensures ok { OnOk result
-        (Writes (TellsAsked entry system.old system.new)
-        (W.taken writer.old) (W.taken writer.new)) }
-    ensures err { OnErr result
-        (WritesFrontOf (TellsAsked entry system.old system.new)
-        (W.taken writer.old) (W.taken writer.new)) }
+    ensures { MayWrite W.failed W.taken (TellsAsked entry system.old system.new)
+        result writer.old writer.new }
 {
     let Entry {
         pass,
@@ -262,16 +206,10 @@ fn ask<W: Sink, K: Keeper>(
     requires writes { W.failed writer.old ≡ false }
     requires works { K.failed keeper.old ≡ false }
     requires spelled { (line : List ℕ) × Spells line entry.statement }
-    ensures failed { MatchResult result (λ _. W.failed writer.new ≡ false)
-        (λ _. W.failed writer.new ≡ true) }
-    ensures ok { OnOk result (Writes
+    ensures { MayWrite W.failed W.taken
         (TellsKept K.keeps K.fails K.failed entry
         (with_keeper system.old keeper.old) (with_keeper system.new keeper.new))
-        (W.taken writer.old) (W.taken writer.new)) }
-    ensures err { OnErr result (WritesFrontOf
-        (TellsKept K.keeps K.fails K.failed entry
-        (with_keeper system.old keeper.old) (with_keeper system.new keeper.new))
-        (W.taken writer.old) (W.taken writer.new)) }
+        result writer.old writer.new }
 {
     if system.may_change(&entry) {
         return ask_change(buffer, system, writer, keeper, entry);
@@ -292,25 +230,13 @@ pub fn answer<W: Sink, K: Keeper>(
 ) -> Result<(), Broken>
     requires writes { W.failed writer.old ≡ false }
     requires works { K.failed keeper.old ≡ false }
-    ensures failed { MatchResult result (λ _. W.failed writer.new ≡ false)
-        (λ _. W.failed writer.new ≡ true) }
-    ensures ok { OnOk result (Writes
+    ensures { MayWrite W.failed W.taken
         (λ text. AnswersKept K.keeps K.fails K.failed
         (with_keeper system.old keeper.old) line.now text (with_keeper system.new keeper.new))
-        (W.taken writer.old) (W.taken writer.new)) }
-    ensures err { OnErr result (WritesFrontOf
-        (λ text. AnswersKept K.keeps K.fails K.failed
-        (with_keeper system.old keeper.old) line.now text (with_keeper system.new keeper.new))
-        (W.taken writer.old) (W.taken writer.new)) }
+        result writer.old writer.new }
 {
-    let (user, start) = match addressed(line) {
-        Ok(address) => address,
-        Err((code, offset)) => {
-            return tell_fault(buffer, system, writer, code, offset);
-        }
-    };
-    match read_with(alloc, tokens, &line[start..]) {
-        Ok(statement) => {
+    match read_addressed(alloc, tokens, MAX_LINE, line) {
+        Ok((user, statement)) => {
             let entry = Entry {
                 pass: 0,
                 user,
@@ -318,10 +244,7 @@ pub fn answer<W: Sink, K: Keeper>(
             };
             ask(buffer, system, writer, keeper, entry)
         }
-        Err(ReadFault::At { code, offset }) => {
-            let offset = start + offset;
-            tell_fault(buffer, system, writer, code, offset)
-        }
+        Err(ReadFault::At { code, offset }) => tell_fault(buffer, system, writer, code, offset),
         Err(ReadFault::NoMemory) => tell_unread(buffer, system, writer),
     }
 }

@@ -25,7 +25,8 @@ struct ScriptServer<'a, K> {
 
 impl<'a, K: Keeper> LineServer for ScriptServer<'a, K> {
     ghost use Rattle.std.specs.Prelude.{◌≡◌};
-    ghost use Rattle.script_core.specs.Keeping.{with_keeper, AnswersKept, AnswersKept-too_long};
+    ghost use Rattle.script_core.specs.Keeping.{with_keeper, AnswersKept};
+    ghost use Rattle.script_core.specs.TooLong.{AnswersKept-too_long};
 
     ghost answers = { λ old line text new.
         AnswersKept K.keeps K.fails K.failed (with_keeper old.system.now old.keeper.now) line text

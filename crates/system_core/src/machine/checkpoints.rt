@@ -2,7 +2,7 @@
 ghost use Rattle.std.specs.List.{list_any};
 ghost use Rattle.std.specs.Prelude.{◌≡◌, ◌&&◌, ◌++◌, ◌∷◌, [], map, option_map, Some, IfOk, OnOk};
 ghost use Rattle.base_core.specs.declared.lack.Lack.TheVariants as lacks;
-ghost use Rattle.export_core.specs.Export.{held_then, holds_now, held, listed, is_any};
+ghost use Rattle.export_core.specs.Export.{held_then, holds_now, held, listed_marks, is_any};
 ghost use Rattle.system_core.specs.Judging.{moment_for};
 ghost use Rattle.system_core.specs.Standing.{image_check};
 ghost use Rattle.system_core.specs.Step.{active_listed};
@@ -108,7 +108,7 @@ fn holds_any<A: Authority>(
     columns: &[Column],
 ) -> bool
     ensures { result
-        ≡ is_any (listed image.now (A.content rights.now) user.now table columns.now) }
+        ≡ is_any (listed_marks image.now (A.content rights.now) user.now table columns.now) }
 {
     any_listed(image, rights, user, table, columns)
 }

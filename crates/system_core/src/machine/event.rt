@@ -1,5 +1,6 @@
 //! Events, replies, and the entries of the journal.
 ghost use Rattle.std.specs.Prelude.{◌≡◌};
+ghost use Rattle.system_core.specs.Replies.{is_done, is_refused, is_refused_memory, told_moment};
 ghost use Rattle.system_core.specs.Step.{change_reply};
 
 use base_core::{Lack, Moment, NoMemory, Row, Sequence, User};
@@ -97,6 +98,58 @@ pub enum Reply {
 }
 
 impl Reply {
+    /// Whether a change was made.
+    pub fn is_done(&self) -> bool
+        ensures { result ≡ is_done self.now }
+    {
+        match self {
+            Reply::Done { .. } => true,
+            _ => false,
+        }
+    }
+
+    /// Whether something does not fit, is full, or memory ran out.
+    pub fn is_refused(&self) -> bool
+        ensures { result ≡ is_refused self.now }
+    {
+        match self {
+            Reply::Refused { .. } => true,
+            _ => false,
+        }
+    }
+
+    /// Whether memory ran out.
+    pub fn is_refused_memory(&self) -> bool
+        ensures { result ≡ is_refused_memory self.now }
+    {
+        match self {
+            Reply::Refused {
+                lack: Lack::NoMemory,
+                ..
+            } => true,
+            _ => false,
+        }
+    }
+
+    /// The moment that the reply bears. The steps of a checkpoint bear none.
+    pub fn moment(&self) -> Option<Moment>
+        ensures { result ≡ told_moment self.now }
+    {
+        match self {
+            Reply::Done { at }
+            | Reply::Rows { at, .. }
+            | Reply::Listed { at, .. }
+            | Reply::Begun { at, .. }
+            | Reply::Denied { at, .. }
+            | Reply::Refused { at, .. } => Some(*at),
+            Reply::Export(ticket) => Some(ticket.at()),
+            Reply::Idle
+            | Reply::Stepped { .. }
+            | Reply::Finished { .. }
+            | Reply::Abandoned { .. } => None,
+        }
+    }
+
     /// The reply to an allowed change that was asked at this moment, by what
     /// [`System::change`](crate::System::change) says of it.
     pub fn to_change(at: Moment, made: Result<Moment, NoMemory>) -> Reply

@@ -6,7 +6,7 @@ ghost use Rattle.grants_core.specs.History.{in_force_after};
 ghost use Rattle.monitor_core.specs.Verdict.{columns_of, is_change, allowed_by};
 ghost use Rattle.capture_core.specs.Image.{row_total};
 ghost use Rattle.grants_core.specs.Lawful.{AreLawful};
-ghost use Rattle.system_core.specs.Journal.{IsLawful, verdict_at, contents, changes, rights_at};
+ghost use Rattle.system_core.specs.Journal.{IsLawful, verdict_at, tables_at, changes, rights_at};
 ghost use Rattle.monitor_core.specs.Atoms.{columns_given};
 ghost use Rattle.capture_core.specs.Capturing.{begin_lack, CanGoOn, TellsProgress};
 ghost use Rattle.system_core.specs.Standing.{AgreeOn, database_of, checkpointing, after_begin, after_step};
@@ -36,9 +36,9 @@ pub struct Ledger {
 }
 
 impl Model for Ledger {
-    ghost use Rattle.system_core.specs.Standing.{Accepted, KeepsJournal};
+    ghost use Rattle.system_core.specs.Standing.{LedgerState, KeepsJournal};
 
-    ghost Value = { Accepted };
+    ghost Value = { LedgerState };
 
     ghost view = { λ l. record {
       journal = l.journal.items;
@@ -128,15 +128,15 @@ impl Ledger {
 
     /// The tables that the journal makes.
     pub fn tables(&self) -> &Tables
-        ensures tables { result.now.tables ≡ contents self.now.journal }
-        ensures few { row_total (contents self.now.journal) < 2 ^ 62 }
+        ensures tables { result.now.tables ≡ tables_at self.now.journal }
+        ensures few { row_total (tables_at self.now.journal) < 2 ^ 62 }
     {
         &self.tables
     }
 
     /// The rights that the journal makes, but for owners of names that are no tables.
     pub fn rights(&self) -> &Graph
-        ensures rights { AgreeOn (contents self.now.journal) result.now.content
+        ensures rights { AgreeOn (tables_at self.now.journal) result.now.content
             (rights_at self.now.journal) }
         ensures lawful { IsLawful self.now.limits self.now.journal }
         ensures few { length (rights_at self.now.journal).in_force < 2 ^ 62 }
@@ -292,8 +292,8 @@ impl Ledger {
         table: Name,
         filter: &[Condition],
     ) -> Result<Vec<Row>, NoMemory>
-        requires { IsSome (table_of (contents self.now.journal) table) }
-        ensures { let tables = contents self.now.journal in
+        requires { IsSome (table_of (tables_at self.now.journal) table) }
+        ensures { let tables = tables_at self.now.journal in
             let columns = columns_given (columns_of tables table) list.now in
             IfOk result (λ rows.
             option_map (selected_rows columns filter.now) (table_of tables table) ≡ Some rows.items) }

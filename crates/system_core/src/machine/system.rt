@@ -6,7 +6,7 @@ ghost use Rattle.monitor_core.specs.Verdict.{first_lack, is_change};
 ghost use Rattle.tables_core.specs.Contents.{table_of};
 ghost use Rattle.reader_core.specs.declared.statement.Statement.TheVariants as statements;
 ghost use Rattle.grants_core.specs.Lawful.{AreLawful};
-ghost use Rattle.system_core.specs.Journal.{verdict_at, contents, changes, rights_at};
+ghost use Rattle.system_core.specs.Journal.{verdict_at, tables_at, changes, rights_at};
 ghost use Rattle.system_core.specs.World.{opening, entry, moment_of, IsLawfulWorld};
 ghost use Rattle.system_core.specs.Judging.{checkpoint_checks, verdict_of};
 ghost use Rattle.system_core.specs.Step.{change_reply, lack_reply, CarriesOut, Responds, Advances, GivesUp, Step, Run, IsRunOfSome};
@@ -115,7 +115,7 @@ impl System {
 
     /// The tables that the journal makes, with their rows.
     pub fn tables(&self) -> &Tables
-        ensures { result.now.tables ≡ contents self.now.journal }
+        ensures { result.now.tables ≡ tables_at self.now.journal }
     {
         self.ledger.tables()
     }
@@ -182,7 +182,7 @@ impl System {
         table: Name,
         filter: &[Condition],
     ) -> Reply
-        requires { IsSome (table_of (contents self.old.journal) table) }
+        requires { IsSome (table_of (tables_at self.old.journal) table) }
         ensures { (pass : ℕ) (user : User)
             → CarriesOut self.old
             (entry pass user (statements.Select list.now table filter.now)) result self.new }

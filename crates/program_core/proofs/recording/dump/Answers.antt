@@ -1,13 +1,13 @@
 use Rattle.std.proofs.Common.{Ok, subst}
 use Rattle.dump_core.specs.Ending.{EndsDump}
-use Rattle.load_core.specs.Replaying.{EndsReplay, Leavings}
+use Rattle.load_core.specs.Replaying.{EndsReplay, ReplayedState}
 use Rattle.load_core.specs.declared.manner.Manner.{Manner}
 use Rattle.program_core.proofs.recording.dump.Goals as goal
 
 pub returns-clause-ok : goal.returns-clause-ok
 returns-clause-ok g c =
     let Reads : Manner → Type 0 = λ m. EndsReplay m c.in_ok-begins.begins (Ok c.in_ok-replayed.replayed) (g.S.Source.left c.args.reader.now) (g.S.Source.left c.replayed.new.reader) in
-    let Writes : Leavings → Type 0 = λ r. EndsDump r.world.journal (Ok tt) (g.W.Sink.taken c.args.writer.now) (g.W.Sink.taken c.dump_to-dumped.new.writer) in record {
+    let Writes : ReplayedState → Type 0 = λ r. EndsDump r.world.journal (Ok tt) (g.W.Sink.taken c.args.writer.now) (g.W.Sink.taken c.dump_to-dumped.new.writer) in record {
       replayed = record {
         begins = c.in_ok-begins.begins;
         leavings = c.in_ok-replayed.replayed;

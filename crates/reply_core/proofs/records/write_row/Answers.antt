@@ -1,48 +1,34 @@
 use Rattle.std.proofs.Common.{◌++◌, codes, flat_map, subst, sym}
-use Rattle.std.proofs.lemmas.Result.{on_ok_weaker, on_err_weaker}
-use Rattle.std.specs.Io.KnownBytes.{Appends}
 use Rattle.base_core.specs.Streams.{WritesFront}
+use Rattle.base_core.proofs.Fronts.{front-first, front-second, text-broken, text-same, text-then}
+use Rattle.export_core.specs.Record.{row_line}
 use Rattle.reply_core.specs.Texts.{value_text}
-use Rattle.reply_core.proofs.WritingLemmas.{OnErr-from, WritesFront-before}
-use Rattle.reply_core.proofs.Pieces.{three, broken_second, broken_third}
 use Rattle.reply_core.proofs.Fields.{row_line-parts}
 use Rattle.reply_core.proofs.records.write_row.Goals as goal
 
-pub returns-in_err-write_all-clause-err : goal.returns-in_err-write_all-clause-err
-returns-in_err-write_all-clause-err g c =
+pub returns-in_err-write_all : goal.returns-in_err-write_all
+returns-in_err-write_all g c =
     let before = g.W.Sink.taken c.args.writer.now in
     let after = g.W.Sink.taken c.write_all.new.writer in
-    OnErr-from c.from_residual.result
-    (subst (λ t. WritesFront before after t) (sym (row_line-parts c.args.values.now))
-    (WritesFront-before before after (codes "row") (flat_map value_text c.args.values.now ++ codes "\n") c.in_err-write_all.ensures.err))
+    let r = c.in_err-write_all.ensures in
+    let values = flat_map value_text c.args.values.now in
+    text-broken g.W.Sink.failed g.W.Sink.taken _ _ (row_line c.args.values.now) c.from_residual.result c.from_residual.ensures.0
+    (r.0, subst (λ t. WritesFront before after t) (sym (row_line-parts c.args.values.now)) (front-first before after (codes "row") (values ++ codes "\n") r.1))
 
-pub returns-in_err-write_values-clause-err : goal.returns-in_err-write_values-clause-err
-returns-in_err-write_values-clause-err g c =
+pub returns-in_err-write_values : goal.returns-in_err-write_values
+returns-in_err-write_values g c =
     let before = g.W.Sink.taken c.args.writer.now in
     let between = g.W.Sink.taken c.write_all.new.writer in
     let after = g.W.Sink.taken c.write_values.new.writer in
-    OnErr-from c.from_residual-in_err-write_values.result
-    (subst (λ t. WritesFront before after t) (sym (row_line-parts c.args.values.now))
-    (broken_second before between after (codes "row") (flat_map value_text c.args.values.now) (codes "\n") c.in_ok-write_all.ensures.ok c.in_err-write_values.ensures.err))
+    let r = c.in_err-write_values.ensures in
+    let values = flat_map value_text c.args.values.now in
+    text-broken g.W.Sink.failed g.W.Sink.taken _ _ (row_line c.args.values.now) c.from_residual-in_err-write_values.result c.from_residual-in_err-write_values.ensures.0
+    (r.0, subst (λ t. WritesFront before after t) (sym (row_line-parts c.args.values.now))
+    (front-second before between after (codes "row") (values ++ codes "\n") c.in_ok-write_all.ensures.1 (front-first between after values (codes "\n") r.1)))
 
-pub returns-clause-ok : goal.returns-clause-ok
-returns-clause-ok g c =
-    let before = g.W.Sink.taken c.args.writer.now in
-    let between = g.W.Sink.taken c.write_all.new.writer in
-    let near = g.W.Sink.taken c.write_values.new.writer in
-    let after = g.W.Sink.taken c.write_all-2.new.writer in
-    on_ok_weaker c.write_all-2.result
-    (λ a. subst (λ t. Appends before after t) (sym (row_line-parts c.args.values.now))
-    (three before between near after (codes "row") (flat_map value_text c.args.values.now) (codes "\n") c.in_ok-write_all.ensures.ok c.in_ok-write_values.ensures.ok a))
-    c.write_all-2.ensures.ok
-
-pub returns-clause-err : goal.returns-clause-err
-returns-clause-err g c =
-    let before = g.W.Sink.taken c.args.writer.now in
-    let between = g.W.Sink.taken c.write_all.new.writer in
-    let near = g.W.Sink.taken c.write_values.new.writer in
-    let after = g.W.Sink.taken c.write_all-2.new.writer in
-    on_err_weaker c.write_all-2.result
-    (λ w. subst (λ t. WritesFront before after t) (sym (row_line-parts c.args.values.now))
-    (broken_third before between near after (codes "row") (flat_map value_text c.args.values.now) (codes "\n") c.in_ok-write_all.ensures.ok c.in_ok-write_values.ensures.ok w))
-    c.write_all-2.ensures.err
+pub returns : goal.returns
+returns g c =
+    let values = flat_map value_text c.args.values.now in
+    text-same g.W.Sink.failed g.W.Sink.taken _ _ (codes "row" ++ (values ++ codes "\n")) (row_line c.args.values.now) c.write_all-2.result (sym (row_line-parts c.args.values.now))
+    (text-then g.W.Sink.failed g.W.Sink.taken _ _ _ (codes "row") (values ++ codes "\n") c.write_all-2.result c.in_ok-write_all.ensures.1
+    (text-then g.W.Sink.failed g.W.Sink.taken _ _ _ values (codes "\n") c.write_all-2.result c.in_ok-write_values.ensures.1 c.write_all-2.ensures))

@@ -1,8 +1,5 @@
 use Rattle.std.proofs.Common.{rules}
 use Rattle.reply_core.proofs.writing.write_fault.Goals as goal
 
-pub returns-clause-ok : goal.returns-clause-ok
-returns-clause-ok g c = search rules
-
-pub returns-clause-err : goal.returns-clause-err
-returns-clause-err g c = search rules
+pub returns : goal.returns
+returns g c = search rules

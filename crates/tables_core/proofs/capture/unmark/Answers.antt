@@ -1,7 +1,7 @@
 use Rattle.std.proofs.Common.{◌∙◌, arith}
 use Rattle.indexmap.specs.Layout.{length-set_value_at}
 use Rattle.base_core.specs.declared.name.Name.{Name}
-use Rattle.tables_core.specs.Capture.{Covered}
+use Rattle.tables_core.specs.Capture.{StoredTable}
 use Rattle.tables_core.proofs.CaptureLemmas.{marks-take, shown-put}
 use Rattle.tables_core.proofs.capture.unmark.Goals as goal
 
@@ -10,7 +10,7 @@ loop-place-preserved c =
     let k = c.loop-place.invariant in
     let ts = c.loop-place.tables.entries in
     let i = c.loop-place.place in
-    let t : Name × Covered = (c.pair_mut-table.result.0.now, c.pair_mut-table.result.1.now) in
+    let t : Name × StoredTable = (c.pair_mut-table.result.0.now, c.pair_mut-table.result.1.now) in
     let y = c.unmark.new.self in
     let is = c.pair_mut-table.ensures.value in
     record {

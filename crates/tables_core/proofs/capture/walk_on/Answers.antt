@@ -2,7 +2,7 @@ use Rattle.std.proofs.Common.{◌<◌, ◌≤◌, ◌+◌, ◌-◌, [], length, 
 use Rattle.std.proofs.lemmas.List.{drop_all}
 use Rattle.indexmap.specs.Layout.{length-set_value_at}
 use Rattle.base_core.specs.declared.name.Name.{Name}
-use Rattle.tables_core.specs.Capture.{Covered, due_for}
+use Rattle.tables_core.specs.Capture.{StoredTable, due_for}
 use Rattle.tables_core.proofs.CaptureLemmas.{Moves-then, marks-put, rest-joined, rest-passed, rest-stepped, shown-put, turn-length}
 use Rattle.tables_core.proofs.capture.walk_on.Goals as goal
 
@@ -12,7 +12,7 @@ returns-in-Err-clause-shown c =
     let n = c.args.walk.number in
     let ts = c.loop-place.tables.entries in
     let i = c.loop-place.place in
-    let t : Name × Covered = (c.pair_mut-table.result.0.now, c.pair_mut-table.result.1.now) in
+    let t : Name × StoredTable = (c.pair_mut-table.result.0.now, c.pair_mut-table.result.1.now) in
     let y = c.capture_step.new.self in
     let is = c.pair_mut-table.ensures.value in
     shown-put n t y ts i is c.capture_step.ensures.contents ∙ k.shown
@@ -23,7 +23,7 @@ returns-in-Err-clause-marks c =
     let n = c.args.walk.number in
     let ts = c.loop-place.tables.entries in
     let i = c.loop-place.place in
-    let t : Name × Covered = (c.pair_mut-table.result.0.now, c.pair_mut-table.result.1.now) in
+    let t : Name × StoredTable = (c.pair_mut-table.result.0.now, c.pair_mut-table.result.1.now) in
     let y = c.capture_step.new.self in
     let is = c.pair_mut-table.ensures.value in
     marks-put n t y ts i (omega (arith, c.capture_step.ensures.mark)) k.marks
@@ -34,7 +34,7 @@ returns-in-Err-clause-moves c =
     let n = c.args.walk.number in
     let ts = c.loop-place.tables.entries in
     let i = c.loop-place.place in
-    let t : Name × Covered = (c.pair_mut-table.result.0.now, c.pair_mut-table.result.1.now) in
+    let t : Name × StoredTable = (c.pair_mut-table.result.0.now, c.pair_mut-table.result.1.now) in
     let y = c.capture_step.new.self in
     let is = c.pair_mut-table.ensures.value in
     Moves-then k.moves [] (sym (rest-joined n t y i c.args.walk.end ts i is c.capture_step.ensures.mark c.in-Err.ensures.err)) (c.in-Err.ensures.out_err ∙ sym (append-nil c.loop-place.out.items))
@@ -45,7 +45,7 @@ returns-in-Err-clause-left c =
     let n = c.args.walk.number in
     let ts = c.loop-place.tables.entries in
     let i = c.loop-place.place in
-    let t : Name × Covered = (c.pair_mut-table.result.0.now, c.pair_mut-table.result.1.now) in
+    let t : Name × StoredTable = (c.pair_mut-table.result.0.now, c.pair_mut-table.result.1.now) in
     let y = c.capture_step.new.self in
     let is = c.pair_mut-table.ensures.value in
     ap (λ l. c.loop-place.given + length l) (rest-joined n t y i c.args.walk.end ts i is c.capture_step.ensures.mark c.in-Err.ensures.err) ∙ k.left
@@ -56,7 +56,7 @@ returns-then-given-count-clause-shown c =
     let n = c.args.walk.number in
     let ts = c.loop-place.tables.entries in
     let i = c.loop-place.place in
-    let t : Name × Covered = (c.pair_mut-table.result.0.now, c.pair_mut-table.result.1.now) in
+    let t : Name × StoredTable = (c.pair_mut-table.result.0.now, c.pair_mut-table.result.1.now) in
     let y = c.capture_step.new.self in
     let is = c.pair_mut-table.ensures.value in
     shown-put n t y ts i is c.capture_step.ensures.contents ∙ k.shown
@@ -67,7 +67,7 @@ returns-then-given-count-clause-marks c =
     let n = c.args.walk.number in
     let ts = c.loop-place.tables.entries in
     let i = c.loop-place.place in
-    let t : Name × Covered = (c.pair_mut-table.result.0.now, c.pair_mut-table.result.1.now) in
+    let t : Name × StoredTable = (c.pair_mut-table.result.0.now, c.pair_mut-table.result.1.now) in
     let y = c.capture_step.new.self in
     let is = c.pair_mut-table.ensures.value in
     marks-put n t y ts i (omega (arith, c.capture_step.ensures.mark)) k.marks
@@ -78,7 +78,7 @@ returns-then-given-count-clause-moves c =
     let n = c.args.walk.number in
     let ts = c.loop-place.tables.entries in
     let i = c.loop-place.place in
-    let t : Name × Covered = (c.pair_mut-table.result.0.now, c.pair_mut-table.result.1.now) in
+    let t : Name × StoredTable = (c.pair_mut-table.result.0.now, c.pair_mut-table.result.1.now) in
     let y = c.capture_step.new.self in
     let is = c.pair_mut-table.ensures.value in
     let to = c.args.walk.end in
@@ -92,7 +92,7 @@ returns-then-given-count-clause-left c =
     let n = c.args.walk.number in
     let ts = c.loop-place.tables.entries in
     let i = c.loop-place.place in
-    let t : Name × Covered = (c.pair_mut-table.result.0.now, c.pair_mut-table.result.1.now) in
+    let t : Name × StoredTable = (c.pair_mut-table.result.0.now, c.pair_mut-table.result.1.now) in
     let y = c.capture_step.new.self in
     let is = c.pair_mut-table.ensures.value in
     let to = c.args.walk.end in
@@ -107,7 +107,7 @@ loop-place-preserved c =
     let n = c.args.walk.number in
     let ts = c.loop-place.tables.entries in
     let i = c.loop-place.place in
-    let t : Name × Covered = (c.pair_mut-table.result.0.now, c.pair_mut-table.result.1.now) in
+    let t : Name × StoredTable = (c.pair_mut-table.result.0.now, c.pair_mut-table.result.1.now) in
     let y = c.capture_step.new.self in
     let is = c.pair_mut-table.ensures.value in
     let to = c.args.walk.end in

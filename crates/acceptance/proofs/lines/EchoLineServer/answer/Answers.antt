@@ -1,18 +1,18 @@
 use Rattle.std.proofs.Common.{◌++◌, codes}
+use Rattle.base_core.proofs.Fronts.{front-second, write-broken}
+use Rattle.std.specs.Prelude.{⊤}
 use Rattle.std.proofs.KnownBytes.{Appends-trans}
-use Rattle.lines_core.proofs.FeedLemmas.{OnErr-from, WritesFront-after}
 use Rattle.acceptance.proofs.lines.EchoLineServer.answer.Goals as goal
 
-pub returns-clause-ok : goal.returns-clause-ok
-returns-clause-ok g c = record {
+pub returns : goal.returns
+returns g c = (c.in_ok-write_all-2.ensures.0, record {
   text = c.args.line.now ++ codes "\n";
-  answered = tt;
-  wrote = Appends-trans _ _ _ _ _ c.in_ok-write_all.ensures.ok c.in_ok-write_all-2.ensures.ok;
-}
-
-pub returns-in_err-write_all-2-clause-err : goal.returns-in_err-write_all-2-clause-err
-returns-in_err-write_all-2-clause-err g c = OnErr-from c.from_residual-in_err-write_all-2.result (record {
-  text = c.args.line.now ++ codes "\n";
-  answered = tt;
-  wrote = WritesFront-after _ _ _ _ _ c.in_ok-write_all.ensures.ok c.in_err-write_all-2.ensures.err;
+  is = tt;
+  wrote = Appends-trans _ _ _ _ _ c.in_ok-write_all.ensures.1 c.in_ok-write_all-2.ensures.1;
 })
+
+pub returns-in_err-write_all-2 : goal.returns-in_err-write_all-2
+returns-in_err-write_all-2 g c =
+    let r = c.in_err-write_all-2.ensures in
+    write-broken g.W.Sink.failed g.W.Sink.taken _ _ (λ _. ⊤) c.from_residual-in_err-write_all-2.result c.from_residual-in_err-write_all-2.ensures.0
+    (r.0, record { text = c.args.line.now ++ codes "\n"; is = tt; wrote = front-second _ _ _ _ _ c.in_ok-write_all.ensures.1 r.1 })

@@ -3,7 +3,7 @@ use Rattle.system_core.specs.World.{World, IsLawfulWorld}
 use Rattle.system_core.specs.declared.machine.event.Event.{Event}
 use Rattle.system_core.specs.Entering.{entered}
 use Rattle.desk_core.specs.Acting.{event_of, Acts}
-use Rattle.desk_core.specs.Guarded.{Guarded}
+use Rattle.desk_core.specs.Guarded.{CoreState}
 use Rattle.desk_core.specs.Kept.{KeepsEntered}
 use Rattle.desk_core.proofs.Taking.{step_at, act_stands}
 use Rattle.desk_core.proofs.object.CoreObject.act.Goals as goal
@@ -32,7 +32,7 @@ returns g c =
     let keeping = subst (λ (e : Event). KeepsEntered K.keeps K.fails K.failed c.self.inside.keeper (entered e c.step-reply.result) c.keep_entered-told.result c.keep_entered-told.new.keeper) is (c.keep_entered-told.ensures c.deref_mut.result.now c.event.result step') in
     let stands = act_stands K.keeps K.fails K.failed c.self.inside.system.value c.take_parting-parting.new.self (event_of c.args.pass c.args.ask) c.step-reply.result c.keep_entered-told.result c.self.inside.basis c.self.inside.keeper
     c.keep_entered-told.new.keeper c.self.invariant step keeping in
-    subst (λ (x : Guarded g.row.K.Denot). Acts K.keeps K.fails K.failed x c.args.pass c.args.ask (record { reply = c.step-reply.result; told = c.keep_entered-told.result })
+    subst (λ (x : CoreState g.row.K.Denot). Acts K.keeps K.fails K.failed x c.args.pass c.args.ask (record { reply = c.step-reply.result; told = c.keep_entered-told.result })
     (record { world = c.take_parting-parting.new.self; origin = c.self.inside.basis; keeper = c.keep_entered-told.new.keeper }))
     c.self.view_is
     (record {

@@ -3,7 +3,7 @@ use Rattle.std.specs.Arc.{arc_value}
 use Rattle.std.specs.List.{slice_get}
 use Rattle.std.proofs.lemmas.Option.{MatchOption-at_some}
 use Rattle.capture_core.specs.declared.image.Image.{Image}
-use Rattle.export_core.specs.Ticket.{Exporting}
+use Rattle.export_core.specs.Ticket.{TicketState}
 use Rattle.export_core.specs.declared.judgement.Judgement.TheVariants.{Listed}
 use Rattle.export_core.proofs.Listing.{listed_within}
 use Rattle.export_core.proofs.WalkLemmas.{comes_next, within, table_line_comes, not_ended, stands_at}
@@ -27,5 +27,5 @@ returns-in-Some c =
     let found : slice_get t.judgements.items t.told ≡ Some (Listed marks) = ap (λ js. slice_get js t.told) (sym c.deref.ensures.value) ∙ sym c.judgement_at.ensures ∙ ap option_copied c.in-Some-Listed.is ∙ ap Some c.in-Some-Listed.field-0-is in
     let tables : c.as_slice.result.now ≡ (arc_value t.image).tables = c.as_slice.ensures ∙ ap (λ (i : Image). i.tables) c.deref-2.ensures in
     let here = stands_at t c.self.invariant table (Listed marks) found (c.index-as_slice-self.is ∙ ap (λ ts. get_or ts (t.first + t.told) table) tables) in
-    ap (λ (e : Exporting). slice_get e.to_come 0) (sym c.self.view_is)
+    ap (λ (e : TicketState). slice_get e.to_come 0) (sym c.self.view_is)
     ∙ comes_next t _ (table_line_comes t c.self.invariant (table, Listed marks) here _ (not_ended t c.self.invariant (table, Listed marks) here) (MatchOption-at_some _ _ _ c.in-Some.is (c.row_at.ensures marks)))

@@ -16,4 +16,4 @@ returns-in-Err-clause-err g c =
     let text : c.deref.result.now ≡ before ++ line = c.deref.ensures.value ∙ ap (λ v. v.items) c.get_ref-2.ensures ∙ c.in-Ok.ensures.text in
     let whole = take_all (length c.deref.result.now - c.len-start.result) (drop c.len-start.result c.deref.result.now) (omega (arith, length-drop c.len-start.result c.deref.result.now)) in
     let written = whole ∙ ap (λ n. drop n c.deref.result.now) start ∙ ap (drop (length before)) text ∙ drop-append_seam before line in
-    (0, breaks_one c.args.self.now c.pass.new.self line _ _ c.in-Some.ensures c.pass.ensures (subst (WritesFront (g.W.Sink.taken c.args.writer.now) (g.W.Sink.taken c.write_all.new.writer)) written c.in-Err.ensures.err))
+    (0, breaks_one c.args.self.now c.pass.new.self line _ _ c.in-Some.ensures c.pass.ensures (subst (WritesFront (g.W.Sink.taken c.args.writer.now) (g.W.Sink.taken c.write_all.new.writer)) written c.in-Err.ensures.1))

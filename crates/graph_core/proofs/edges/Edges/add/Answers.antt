@@ -9,14 +9,14 @@ use Rattle.grants_core.proofs.SinglesLemmas.{length-singles}
 use Rattle.links_core.specs.declared.link.Link.{Link}
 use Rattle.links_core.specs.Links.{Linked, AreNumbered}
 use Rattle.links_core.proofs.EndsLemmas.{all_join}
-use Rattle.graph_core.specs.Edges.{Kept}
+use Rattle.graph_core.specs.Edges.{EdgesState}
 use Rattle.graph_core.specs.Indices.{Indexed, grant_of, IsWithin, Extends}
 use Rattle.graph_core.proofs.ExtendLemmas.{grants_kept, all_within_kept}
 use Rattle.graph_core.proofs.NumberLemmas.{numbered_alike}
 use Rattle.graph_core.proofs.edges.Edges.add.Goals as goal
 
 -- what indices stand for stays, as more come
-kept_same : (old new : Indexed) (l : Linked) → Extends old new → AllByRecursion (IsWithin old) l.links → AllByRecursion (IsWithin old) l.rest → ◌≡◌ {A = Kept} (record { edges = map (grant_of new) l.links; next = l.next; rest = map (grant_of new) l.rest }) (record { edges = map (grant_of old) l.links; next = l.next; rest = map (grant_of old) l.rest })
+kept_same : (old new : Indexed) (l : Linked) → Extends old new → AllByRecursion (IsWithin old) l.links → AllByRecursion (IsWithin old) l.rest → ◌≡◌ {A = EdgesState} (record { edges = map (grant_of new) l.links; next = l.next; rest = map (grant_of new) l.rest }) (record { edges = map (grant_of old) l.links; next = l.next; rest = map (grant_of old) l.rest })
 kept_same old new l extends links rest =
     ap (λ (k : List Grant). record { edges = k; next = l.next; rest = map (grant_of new) l.rest }) (grants_kept old new l.links extends links)
     ∙ ap (λ (k : List Grant). record { edges = map (grant_of old) l.links; next = l.next; rest = k }) (grants_kept old new l.rest extends rest)
@@ -36,7 +36,7 @@ add-requires-clause-numbered c =
 
 pub add-requires-clause-within : goal.add-requires-clause-within
 add-requires-clause-within c =
-    let view : c.self.inside.links.next ≡ c.args.self.now.next = ap (λ (k : Kept). k.next) c.self.view_is in
+    let view : c.self.inside.links.next ≡ c.args.self.now.next = ap (λ (k : EdgesState). k.next) c.self.view_is in
     let long : length c.deref-2.result.now ≡ length c.args.atoms.now * length c.args.whom.now =
     ap length c.deref-2.ensures.value ∙ sym (length-map c.in_ok-more.more.items (grant_of c.links_of.new.indices)) ∙ ap length (c.in_ok-more.ensures.grants ∙ c.deref.ensures.value ∙ c.in_ok-grants.ensures)
     ∙ length-singles c.next.result c.args.at c.args.by.now c.args.atoms.now c.args.whom.now c.args.option in
@@ -68,7 +68,7 @@ returns-clause-edges c =
 
 pub returns-clause-next : goal.returns-clause-next
 returns-clause-next c =
-    let view : c.self.inside.links.next ≡ c.args.self.now.next = ap (λ (k : Kept). k.next) c.self.view_is in
+    let view : c.self.inside.links.next ≡ c.args.self.now.next = ap (λ (k : EdgesState). k.next) c.self.view_is in
     let long : length c.deref-2.result.now ≡ length c.args.atoms.now * length c.args.whom.now =
     ap length c.deref-2.ensures.value ∙ sym (length-map c.in_ok-more.more.items (grant_of c.links_of.new.indices)) ∙ ap length (c.in_ok-more.ensures.grants ∙ c.deref.ensures.value ∙ c.in_ok-grants.ensures)
     ∙ length-singles c.next.result c.args.at c.args.by.now c.args.atoms.now c.args.whom.now c.args.option in

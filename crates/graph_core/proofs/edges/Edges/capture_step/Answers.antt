@@ -4,7 +4,7 @@ use Rattle.std.proofs.lemmas.List.{take-map, take-append-drop}
 use Rattle.links_core.specs.declared.link.Link.{Link}
 use Rattle.links_core.specs.Links.{numbered_as}
 use Rattle.links_core.proofs.EndsLemmas.{all_split}
-use Rattle.graph_core.specs.Edges.{Kept}
+use Rattle.graph_core.specs.Edges.{EdgesState}
 use Rattle.graph_core.specs.Indices.{grant_of, IsWithin}
 use Rattle.graph_core.proofs.OverLemmas.{all_over, map_numbered}
 use Rattle.graph_core.proofs.edges.Edges.capture_step.Goals as goal
@@ -30,4 +30,4 @@ returns-clause-items c =
     c.put_grants.ensures
     ∙ ap (λ k. k ++ map (λ p. grant_of e.indices p.1) c.deref.result.now) c.reserve.ensures.items
     ∙ ap (λ k. c.args.out.now.items ++ k) (ap (map (λ (p : ℕ × Link). grant_of e.indices p.1)) (given c.deref.result.now c.capture_step.new.out.items c.new-links.result.items (take c.args.count c.self.inside.links.rest) c.deref.ensures.value c.in_ok-given.ensures.items c.new-links.ensures.items) ∙ map_numbered (grant_of e.indices) (take count e.links.rest) ∙ sym (take-map (grant_of e.indices) count e.links.rest))
-    ∙ ap (λ (k : Kept). c.args.out.now.items ++ take count k.rest) c.self.view_is
+    ∙ ap (λ (k : EdgesState). c.args.out.now.items ++ take count k.rest) c.self.view_is

@@ -8,10 +8,10 @@ pub invariant_of-self : goal.invariant_of-self
 invariant_of-self c =
     let Marked : List Grant → Type 0 = λ k. AreMarked c.self.inside.owners k in
     record {
-      in_order = c.revoke_option.ensures.in_order;
-      supported = c.revoke_option.ensures.supported;
-      marked = subst Marked (sym c.revoke_option.ensures.valid) (AreMarked-unoptioned c.self.inside.owners c.self.inside.edges.edges c.args.by c.args.atoms.now c.args.whom.now c.self.invariant.marked);
+      in_order = c.revoke.ensures.in_order;
+      supported = c.revoke.ensures.supported;
+      marked = subst Marked (sym c.revoke.ensures.valid) (AreMarked-unoptioned c.self.inside.owners c.self.inside.edges.edges c.args.by c.args.atoms.now c.args.whom.now c.self.invariant.marked);
     }
 
 pub returns-clause-content : goal.returns-clause-content
-returns-clause-content c = rw (← c.self.view_is) (same_content _ _ _ _ _ _ refl c.revoke_option.ensures.valid c.revoke_option.ensures.next)
+returns-clause-content c = rw (← c.self.view_is) (same_content _ _ _ _ _ _ refl c.revoke.ensures.valid c.revoke.ensures.next)

@@ -4,16 +4,16 @@ use Rattle.std.specs.Option.{option_copied}
 use Rattle.std.proofs.lemmas.Bool.{eq-eqb, ne_eqb}
 use Rattle.std.specs.List.Sorted.{IsPartitionPoint}
 use Rattle.links_core.specs.declared.end.End.{End}
-use Rattle.links_core.specs.Ends.{Held, IsByUser, numbers_at}
+use Rattle.links_core.specs.Ends.{EndsState, IsByUser, numbers_at}
 use Rattle.links_core.proofs.EndsLemmas.{sorted_drop, at_user-from, first-own, first-other, first-none, all_drop}
 use Rattle.links_core.proofs.ends.Ends.first_at.Goals as goal
 
 -- the numbers are those of the ends from the place on that was answered
-numbers_from : (old now : Held) (ends rest : List End) (user start : ℕ) → old ≡ now → ends ≡ old.ends → rest ≡ drop start ends → IsPartitionPoint (λ e. e.user < user) (λ e. user ≤ e.user) ends start → start ≤ length ends → slice_get (numbers_at user rest) 0 ≡ slice_get (numbers_at user now.ends) 0
+numbers_from : (old now : EndsState) (ends rest : List End) (user start : ℕ) → old ≡ now → ends ≡ old.ends → rest ≡ drop start ends → IsPartitionPoint (λ e. e.user < user) (λ e. user ≤ e.user) ends start → start ≤ length ends → slice_get (numbers_at user rest) 0 ≡ slice_get (numbers_at user now.ends) 0
 numbers_from old now ends rest user start view all is first within =
     ap (λ k. slice_get (numbers_at user k) 0) is
     ∙ ap (λ k. slice_get (map (λ (e : End). e.number) k) 0) (sym (at_user-from ends user start first within))
-    ∙ ap (λ k. slice_get (numbers_at user k) 0) all ∙ ap (λ (h : Held). slice_get (numbers_at user h.ends) 0) view
+    ∙ ap (λ k. slice_get (numbers_at user k) 0) all ∙ ap (λ (h : EndsState). slice_get (numbers_at user h.ends) 0) view
 
 pub returns-in_default : goal.returns-in_default
 returns-in_default c =

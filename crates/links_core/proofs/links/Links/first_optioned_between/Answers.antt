@@ -5,12 +5,12 @@ use Rattle.links_core.specs.declared.end.End.{End}
 use Rattle.links_core.specs.Links.{ends_at, grantee_of, links_in, passes_at, goes_to, IsLinked}
 use Rattle.links_core.proofs.LookUpLemmas.{own_values-kept, find_listed, find_same, goes_to_is, found_at, number_of}
 use Rattle.std.specs.Option.{option_copied}
-use Rattle.links_core.specs.Ends.{Held, at_user}
-use Rattle.links_core.specs.Listed.{listed}
+use Rattle.links_core.specs.Ends.{EndsState, at_user}
+use Rattle.links_core.specs.Listed.{ends_listed}
 use Rattle.links_core.proofs.links.Links.first_optioned_between.Goals as goal
 
 -- the link for which the end that was answered stands
-first_is : (contents : List (ℕ × Link)) (next : ℕ) (received given : List Held) (by user : ℕ) (atom : ℕ) (ends : List End) (first : Option End) → IsLinked contents next received given → ends ≡ at_user user (listed received atom) → first ≡ find (λ e. passes_at (λ g. g.option && (g.grantor == by)) contents e.number) ends → found_at contents (number_of first) ≡ find (λ g. (g.option && (g.grantor == by)) && goes_to user atom g) (links_in contents)
+first_is : (contents : List (ℕ × Link)) (next : ℕ) (received given : List EndsState) (by user : ℕ) (atom : ℕ) (ends : List End) (first : Option End) → IsLinked contents next received given → ends ≡ at_user user (ends_listed received atom) → first ≡ find (λ e. passes_at (λ g. g.option && (g.grantor == by)) contents e.number) ends → found_at contents (number_of first) ≡ find (λ g. (g.option && (g.grantor == by)) && goes_to user atom g) (links_in contents)
 first_is contents next received given by user atom ends first kept is answered =
     let same = ap (λ (k : List End). map (λ e. e.number) k) is ∙ kept.received_at.at atom user in
     ap (λ o. found_at contents (number_of o)) answered

@@ -3,5 +3,5 @@ use Rattle.std.proofs.KnownBytes.{Appends-nil}
 use Rattle.session_core.specs.Session.{ended}
 use Rattle.session_core.proofs.session.SessionLineServer.answer.Goals as goal
 
-pub returns-then-self-clause-ok : goal.returns-then-self-clause-ok
-returns-then-self-clause-ok g c = record { text = []; answered = (ended c.if-self.true, refl, refl); wrote = Appends-nil _ }
+pub returns-then-self : goal.returns-then-self
+returns-then-self g c = (c.requires, record { text = []; is = (ended c.if-self.true, refl, refl); wrote = Appends-nil _ })

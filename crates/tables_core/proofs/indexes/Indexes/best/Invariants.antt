@@ -1,7 +1,7 @@
 use Rattle.std.specs.Option.{IfSome}
 use Rattle.tables_core.specs.Contents.{satisfies}
-use Rattle.tables_core.specs.Indexing.{Leads}
+use Rattle.tables_core.specs.Indexing.{ListsEachPassing}
 use Rattle.tables_core.proofs.indexes.Indexes.best.Given as goal
 
 abbrev pub invariant-loop-at : goal.invariant-loop-at
-invariant-loop-at l = IfSome l.best (λ best. Leads l.self.kept.items (satisfies l.conditions.columns.now l.conditions.items.now) best.0.now best.1.now)
+invariant-loop-at l = IfSome l.best (λ best. ListsEachPassing l.self.kept.items (satisfies l.conditions.columns.now l.conditions.items.now) best.0.now best.1.now)

@@ -1,7 +1,7 @@
 use Rattle.std.proofs.Common.{◌≡◌, Bool, true, false, List, refl, sym, subst}
 use Rattle.base_core.specs.Filter.{is_chosen}
 use Rattle.base_core.specs.declared.value.Value.{Value}
-use Rattle.tables_core.specs.Bounding.{IsWithin}
+use Rattle.tables_core.specs.Bounding.{AdmitsRow}
 use Rattle.tables_core.proofs.scan.Scan.choose.Goals as goal
 
 -- what a row must pass to be chosen, and does not
@@ -14,4 +14,4 @@ returns-else-admit c =
     let scan = c.args.self.now in
     let chosen = is_chosen scan.conditions.now.columns.now scan.conditions.now.items.now c.args.row.now.values in
     not-chosen c.admit.result chosen c.if-admit.false
-    (λ is. c.admit.ensures (subst (λ (row : List Value). IsWithin scan.bounds row) (sym c.as_slice.ensures) (scan.found c.args.row.now.values is)))
+    (λ is. c.admit.ensures (subst (λ (row : List Value). AdmitsRow scan.bounds row) (sym c.as_slice.ensures) (scan.found c.args.row.now.values is)))

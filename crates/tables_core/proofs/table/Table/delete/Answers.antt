@@ -1,6 +1,6 @@
 use Rattle.std.proofs.Common.{Bool, not, sym, ◌∙◌, rules}
 use Rattle.std.proofs.lemmas.List.Elements.{All-filter, All-weaker}
-use Rattle.tables_core.specs.Contents.{Contents, satisfies}
+use Rattle.tables_core.specs.Contents.{Table, satisfies}
 use Rattle.tables_core.specs.Indexing.{Numbered, EachLists}
 use Rattle.tables_core.proofs.FittingLemmas.{IsWellTyped-deleted}
 use Rattle.tables_core.proofs.table.Table.delete.Goals as goal
@@ -10,7 +10,7 @@ drop_chosen-dropped-requires c = rw c.prepare-2.ensures.contents (c.prepare.ensu
 
 pub invariant_of-self : goal.invariant_of-self
 invariant_of-self c =
-    let t : Contents = record { owner = c.self.inside.owner; columns = c.self.inside.columns; inserted = c.self.inside.inserted; rows = c.self.inside.rows.store.contents } in
+    let t : Table = record { owner = c.self.inside.owner; columns = c.self.inside.columns; inserted = c.self.inside.inserted; rows = c.self.inside.rows.store.contents } in
     let rows = c.self.inside.rows.store.contents in
     let stays : Numbered → Bool = λ r. not (satisfies c.as_slice-columns.result.now c.args.filter.now r) in
     let still = All-weaker (EachLists c.prepare.new.self.kept.items) (EachLists c.note_dropped.new.self.kept.items) c.note_dropped.ensures rows (c.prepare.ensures c.self.invariant.2) in (

@@ -1,7 +1,7 @@
 use Rattle.std.proofs.Common.{◌≡◌, ◌+◌, ◌++◌, ◌∷◌, [], List, sym, ap, subst, ◌∙◌}
 use Rattle.std.proofs.lemmas.List.Elements.{All-push, All-weaker}
-use Rattle.tables_core.specs.Contents.{Contents}
-use Rattle.tables_core.specs.Capture.{Covered}
+use Rattle.tables_core.specs.Contents.{Table}
+use Rattle.tables_core.specs.Capture.{StoredTable}
 use Rattle.tables_core.specs.Fitting.{ValuesFit}
 use Rattle.tables_core.specs.Indexing.{Numbered, EachLists}
 use Rattle.tables_core.proofs.FittingLemmas.{IsWellTyped-with_row}
@@ -21,8 +21,8 @@ invariant_of-self-2 c =
     let numbered = c.self.invariant.1 in
     let row = c.args.row in
     let new : Numbered = (c.self.inside.inserted, row) in
-    let t : Contents = record { owner = c.self.inside.owner; columns = c.self.inside.columns; inserted = c.self.inside.inserted; rows = c.self.inside.rows.store.contents } in
-    let Fits : Covered → Type 0 = λ k. ValuesFit k.contents.columns row.values in
+    let t : Table = record { owner = c.self.inside.owner; columns = c.self.inside.columns; inserted = c.self.inside.inserted; rows = c.self.inside.rows.store.contents } in
+    let Fits : StoredTable → Type 0 = λ k. ValuesFit k.contents.columns row.values in
     let more : c.push.new.self.store.contents ≡ before ++ new ∷ [] = c.in_ok-push.ensures.contents ∙ ap (λ n. before ++ (n, row) ∷ []) (sym numbered) in
     let still = All-weaker (EachLists c.self.inside.indexes.kept.items) (EachLists c.note.new.self.kept.items) c.note.ensures.kept before c.self.invariant.2 in (
       rw more (IsWellTyped-with_row t row (subst Fits (sym c.self.view_is) c.requires.fits) c.self.invariant.0),

@@ -1,7 +1,7 @@
 use Rattle.std.proofs.Common.{sym, ap, ◌∙◌, arith}
 use Rattle.std.specs.Option.{option_copied_mut, option_map}
 use Rattle.tables_core.specs.Contents.{without_chosen_rows}
-use Rattle.tables_core.specs.Capture.{Covered, shown_tables}
+use Rattle.tables_core.specs.Capture.{StoredTable, shown_tables}
 use Rattle.tables_core.proofs.ContentsLemmas.{with_change-none}
 use Rattle.tables_core.proofs.ChangeLemmas.{shown-found, shown-changed, rest-after, walk-after}
 use Rattle.tables_core.proofs.tables.Tables.delete.Goals as goal
@@ -26,5 +26,5 @@ returns-in-Some-clause-rest c =
 pub returns-in_default-clause-tables : goal.returns-in_default-clause-tables
 returns-in_default-clause-tables c =
     let none = sym c.get_mut.ensures.value ∙ ap option_copied_mut c.in_default.is in
-    let gone = shown-found c.args.name c.self.inside.tables.entries ∙ ap (option_map (λ (t : Covered). t.contents)) none in
+    let gone = shown-found c.args.name c.self.inside.tables.entries ∙ ap (option_map (λ (t : StoredTable). t.contents)) none in
     rw (← c.self.view_is) (ap (λ m. shown_tables m.entries) c.get_mut.follows.holds-at-none ∙ sym (with_change-none c.args.name (without_chosen_rows c.args.filter.now) _ gone))

@@ -2,8 +2,8 @@ use Rattle.std.proofs.Common.{ℕ, List, sym, ap, subst, ◌∙◌, arith}
 use Rattle.std.specs.Option.{option_copied_mut, option_map, IsSomeAnd}
 use Rattle.std.proofs.lemmas.Result.{on_ok_weaker, on_err_weaker}
 use Rattle.base_core.specs.declared.value.Row.{Row}
-use Rattle.tables_core.specs.Contents.{Contents, with_updated_rows}
-use Rattle.tables_core.specs.Capture.{Covered}
+use Rattle.tables_core.specs.Contents.{Table, with_updated_rows}
+use Rattle.tables_core.specs.Capture.{StoredTable}
 use Rattle.tables_core.specs.Fitting.{AssignmentsFit}
 use Rattle.tables_core.proofs.ContentsLemmas.{same_database}
 use Rattle.tables_core.proofs.FittingLemmas.{length-updated_or_same}
@@ -13,20 +13,20 @@ use Rattle.tables_core.proofs.tables.Tables.update.Goals as goal
 pub update-requires : goal.update-requires
 update-requires c =
     let found = sym c.get_mut.ensures.value ∙ ap option_copied_mut c.in-Some.is in
-    let there = shown-found c.args.name c.self.inside.tables.entries ∙ ap (option_map (λ (t : Covered). t.contents)) found in
-    subst (λ o. IsSomeAnd o (λ (t : Contents). AssignmentsFit t.columns c.args.sets.now)) there (rw (← c.self.view_is) at c.requires)
+    let there = shown-found c.args.name c.self.inside.tables.entries ∙ ap (option_map (λ (t : StoredTable). t.contents)) found in
+    subst (λ o. IsSomeAnd o (λ (t : Table). AssignmentsFit t.columns c.args.sets.now)) there (rw (← c.self.view_is) at c.requires)
 
 pub unreachable-requires : goal.unreachable-requires
 unreachable-requires c =
     let none = sym c.get_mut.ensures.value ∙ ap option_copied_mut c.in-None.is in
-    let there = shown-found c.args.name c.self.inside.tables.entries ∙ ap (option_map (λ (t : Covered). t.contents)) none in
-    subst (λ o. IsSomeAnd o (λ (t : Contents). AssignmentsFit t.columns c.args.sets.now)) there (rw (← c.self.view_is) at c.requires)
+    let there = shown-found c.args.name c.self.inside.tables.entries ∙ ap (option_map (λ (t : StoredTable). t.contents)) none in
+    subst (λ o. IsSomeAnd o (λ (t : Table). AssignmentsFit t.columns c.args.sets.now)) there (rw (← c.self.view_is) at c.requires)
 
 pub invariant_of-self : goal.invariant_of-self
 invariant_of-self c =
     let found = sym c.get_mut.ensures.value ∙ ap option_copied_mut c.in-Some.is in
     let x = c.in-Some.table.now in
-    let rows : Contents → List (ℕ × Row) = λ t. t.rows in
+    let rows : Table → List (ℕ × Row) = λ t. t.rows in
     let ok = on_ok_weaker c.update.result (λ made. ap rows made) c.update.ensures.ok in
     let err = on_err_weaker c.update.result (λ same. ap rows same) c.update.ensures.no_memory in
     let same = length-updated_or_same x.contents c.args.sets.now c.args.filter.now c.update.new.self.contents.rows c.update.result ok err in

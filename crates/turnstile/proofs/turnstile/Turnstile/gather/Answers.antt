@@ -3,7 +3,6 @@ use Rattle.std.proofs.lemmas.List.{append-nil}
 use Rattle.std.proofs.lemmas.List.Elements.{All-pop}
 use Rattle.turnstile.specs.Places.{known_in, terms_of}
 use Rattle.turnstile.proofs.Cuts.{gathers_goes}
-use Rattle.turnstile.proofs.Opens.{joins}
 use Rattle.turnstile.proofs.Ends.{known_off}
 use Rattle.turnstile.proofs.Whole.{at_lock}
 use Rattle.turnstile.proofs.turnstile.Turnstile.gather.Goals as goal
@@ -22,7 +21,7 @@ loop-pass-init g c = let lock = c.args.self.now in let was = c.in-Some.ensures.i
 pub join_seat-requires : goal.join_seat-requires
 join_seat-requires g c = let lock = c.args.self.now in let was = c.in-Some-pop.ensures.items in let inv = c.loop-pass.invariant in let here = ap (λ l. l.identity) (sym c.self.view_is) in
     let off = All-pop (λ p. p.lock ≡ Some lock) c.loop-pass.passes.items c.pop-in-loop-pass.new.self.items (Some c.in-Some-pop.pass) was inv.1 in let rest = c.pass.invariant.0 in
-    (inv.0 ∙ here, (at_lock _ lock.identity _ (terms_of lock) (ap (λ p. p.lock) c.pass.view_is ∙ off.1)).0 ∙ here, rest.carries, search rules, joins _ _ _ _ _ _ _ _ _ _ _ (gathers_goes _ _ _ _ _ _ _ _ _ inv.3 rest.no_ticket rest.none_taken))
+    (inv.0 ∙ here, (at_lock _ lock.identity _ (terms_of lock) (ap (λ p. p.lock) c.pass.view_is ∙ off.1)).0 ∙ here, rest.carries, search rules, gathers_goes _ _ _ _ _ _ _ _ _ inv.3 rest.no_ticket rest.none_taken)
 
 pub loop-pass-preserved : goal.loop-pass-preserved
 loop-pass-preserved g c = let lock = c.args.self.now in let was = c.in-Some-pop.ensures.items in let inv = c.loop-pass.invariant in let old = c.loop-pass.passes.items in let new = c.pop-in-loop-pass.new.self.items in let x = c.in-Some-pop.pass in

@@ -1,8 +1,9 @@
-use Rattle.std.proofs.Common.{[], refl, sym, ◌∙◌}
+use Rattle.std.proofs.Common.{◌≡◌, [], refl, sym, ◌∙◌}
 use Rattle.std.proofs.KnownBytes.{Appends-nil}
-use Rattle.script_core.specs.Keeping.{over}
+use Rattle.base_core.proofs.Fronts.{write-map}
+use Rattle.script_core.specs.Keeping.{with_keeper, AnswersKept, over}
 use Rattle.script_core.proofs.scripts.server.ScriptServerLineServer.answer.Goals as goal
 
-pub returns-then-has_failed-clause-ok : goal.returns-then-has_failed-clause-ok
-returns-then-has_failed-clause-ok g c =
-    record { text = []; answered = (over (sym c.has_failed.ensures ∙ c.if-has_failed.true), refl, refl); wrote = Appends-nil _ }
+pub returns-then-has_failed : goal.returns-then-has_failed
+returns-then-has_failed g c =
+    (c.requires, record { text = []; is = (over (sym c.has_failed.ensures ∙ c.if-has_failed.true), refl, refl); wrote = Appends-nil _ })

@@ -8,7 +8,7 @@ use Rattle.catalogue_core.specs.Kept.{last_eight}
 use Rattle.system_core.specs.declared.machine.event.Reply.TheVariants.{Finished}
 use Rattle.system_core.specs.World.{World}
 use Rattle.system_core.specs.Step.{Advances}
-use Rattle.system_core.specs.Standing.{Accepted, Checkpointing, checkpointing, database_of, world_of, after_step}
+use Rattle.system_core.specs.Standing.{LedgerState, Checkpointing, checkpointing, database_of, world_of, after_step}
 use Rattle.system_core.proofs.Captured.{stands-due}
 use Rattle.system_core.proofs.Holding.{IsDone, IsNumberOf, holds-done, number-told, advances-done}
 use Rattle.system_core.proofs.machine.system.System.advance.Goals as goal
@@ -36,10 +36,10 @@ returns-in-Ok-Done c =
     let done : IsDone s.chunk old.active image = done-told s.chunk old.active c.in-Ok-Done.image (rw c.in-Ok-Done.field-0-is at c.in-Ok-Done.ensures.tells) in
     let number : IsNumberOf c.in-Some.number old.active =
     number-told s.capture.active (database_of s.ledger) s.ledger.grants_due c.in-Some.number c.in-Some.field-0-1 c.in-Some.field-0-2 (sym c.active.ensures ∙ c.in-Some.is) in
-    let To : Accepted → Checkpointing → List Image → Type 0 = λ accepted checkpoints images. Advances c.args.self.now c.args.self.now.active (Finished c.in-Some.number) (world_of s.chunk accepted checkpoints images) in
+    let To : LedgerState → Checkpointing → List Image → Type 0 = λ accepted checkpoints images. Advances c.args.self.now c.args.self.now.active (Finished c.in-Some.number) (world_of s.chunk accepted checkpoints images) in
     let reached : To s.ledger (after_step s.chunk old) (last_eight (s.catalogue ++ image ∷ [])) =
     subst (λ (w : World). Advances w w.active (Finished c.in-Some.number) (world_of s.chunk s.ledger (after_step s.chunk old) (last_eight (s.catalogue ++ image ∷ [])))) c.self.view_is
     (advances-done s.chunk s.ledger old s.catalogue image c.in-Some.number done number c.self.invariant.keeps) in
     subst (To c.step.new.self (checkpointing c.step.new.capture c.step.new.self)) (sym c.add.ensures.kept)
     (subst (λ (k : Checkpointing). To c.step.new.self k (last_eight (s.catalogue ++ image ∷ []))) (sym c.in-Ok-Done.ensures.ok)
-    (subst (λ (l : Accepted). To l (after_step s.chunk old) (last_eight (s.catalogue ++ image ∷ []))) (sym c.step.ensures.same) reached))
+    (subst (λ (l : LedgerState). To l (after_step s.chunk old) (last_eight (s.catalogue ++ image ∷ []))) (sym c.step.ensures.same) reached))

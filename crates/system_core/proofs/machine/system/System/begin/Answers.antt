@@ -1,7 +1,7 @@
 use Rattle.std.proofs.Common.{◌≡◌, ℕ, Option, length, ap}
 use Rattle.base_core.specs.declared.value.Moment.{Moment}
 use Rattle.capture_core.specs.Capturing.{ActiveCapture, in_progress}
-use Rattle.system_core.specs.Standing.{Accepted, Checkpointing, database_of, checkpointing, after_begin}
+use Rattle.system_core.specs.Standing.{LedgerState, Checkpointing, database_of, checkpointing, after_begin}
 use Rattle.system_core.proofs.Captured.{stands-due}
 use Rattle.system_core.proofs.Holding.{holds-begun}
 use Rattle.system_core.proofs.Beginning.{begin-refused, was_free, free-none, free-room}
@@ -17,7 +17,7 @@ returns-in-Err c =
 pub invariant_of-self-2 : goal.invariant_of-self-2
 invariant_of-self-2 c =
     let s = c.self.inside in
-    let ledger : Accepted = s.ledger in
+    let ledger : LedgerState = s.ledger in
     let old : Checkpointing = checkpointing s.capture ledger in
     let free = was_free s.chunk ledger s.capture s.catalogue c.begin.result c.in-Ok.number c.in-Ok.is c.begin.ensures.lack in
     let none = ap (λ (o : Option ActiveCapture). in_progress o (database_of ledger) ledger.grants_due) (free-none s.capture ledger.limits.checkpoints free) in

@@ -1,14 +1,14 @@
 use Rattle.std.proofs.Common.{◌≡◌, Ok, sym, subst}
 use Rattle.system_core.specs.Journal.{verdict_at}
 use Rattle.system_core.specs.World.{World}
-use Rattle.system_core.specs.Standing.{Accepted, Stands}
+use Rattle.system_core.specs.Standing.{LedgerState, Stands}
 use Rattle.system_core.proofs.Holding.{by_result}
 use Rattle.system_core.proofs.Captured.{stands-entered}
 use Rattle.system_core.proofs.machine.system.System.change.Goals as goal
 
 pub invariant_of-self : goal.invariant_of-self
 invariant_of-self c =
-    let At : Accepted → Type 0 = λ l. Stands c.self.inside.chunk l c.self.inside.capture c.self.inside.catalogue in
+    let At : LedgerState → Type 0 = λ l. Stands c.self.inside.chunk l c.self.inside.capture c.self.inside.catalogue in
     by_result c.change.result c.change.ensures.ok c.change.ensures.err
     (λ e. subst At (sym e) (stands-entered c.self.inside.chunk c.self.inside.ledger c.args.entry c.self.inside.capture c.self.inside.catalogue c.self.invariant))
     (λ e. subst At (sym e) c.self.invariant)

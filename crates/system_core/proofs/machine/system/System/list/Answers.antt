@@ -7,13 +7,13 @@ use Rattle.system_core.specs.declared.machine.event.Checkpoint.TheVariants as ch
 use Rattle.system_core.specs.Step.{active_listed}
 use Rattle.system_core.specs.World.{ActiveCheckpoint}
 use Rattle.capture_core.specs.Capturing.{in_progress}
-use Rattle.system_core.specs.Standing.{Accepted, database_of, as_active}
+use Rattle.system_core.specs.Standing.{LedgerState, database_of, as_active}
 use Rattle.system_core.proofs.Captured.{as_active-in_progress}
 use Rattle.system_core.proofs.machine.system.System.list.Goals as goal
 
 pub returns-in-Ok : goal.returns-in-Ok
 returns-in-Ok c =
-    let ledger : Accepted = c.self.inside.ledger in
+    let ledger : LedgerState = c.self.inside.ledger in
     let now : Moment = record { 0 = length c.self.inside.ledger.journal } in
     let at : c.moment-at.result ≡ now = ap (λ (n : ℕ). record { 0 = n }) c.moment-at.ensures.moment in
     rw (← c.self.view_is) (λ pass user. (

@@ -1,5 +1,6 @@
 //! What is told of sessions and captures as they go on.
-use base_core::{Moment, User};
+use crate::name::User;
+use crate::value::Moment;
 
 /// What is told of a session or a capture as it goes on. It holds up who called it until it
 /// returns, and has no part in what is written or captured, so no contract speaks of it.
@@ -27,23 +28,4 @@ impl Gate for NoGate {
     fn before_record(&self, _given: u64) {}
 
     fn before_step(&self, _left: u64) {}
-}
-
-/// A gate, and how many records it has let through, up to the greatest number.
-#[derive(Drop)]
-pub(crate) struct Passage<'a, G: Gate> {
-    gate: &'a G,
-    given: u64,
-}
-
-impl<'a, G: Gate> Passage<'a, G> {
-    pub(crate) fn new(gate: &'a G) -> Passage<'a, G> {
-        Passage { gate, given: 0 }
-    }
-
-    /// Lets the next record through.
-    pub(crate) fn before_record(&mut self) {
-        self.gate.before_record(self.given);
-        self.given = self.given.saturating_add(1);
-    }
 }

@@ -1,0 +1,21 @@
+//! A gate, and how many records it has let through.
+use base_core::Gate;
+
+/// A gate, and how many records it has let through, up to the greatest number.
+#[derive(Drop)]
+pub(crate) struct Passage<'a, G: Gate> {
+    gate: &'a G,
+    given: u64,
+}
+
+impl<'a, G: Gate> Passage<'a, G> {
+    pub(crate) fn new(gate: &'a G) -> Passage<'a, G> {
+        Passage { gate, given: 0 }
+    }
+
+    /// Lets the next record through.
+    pub(crate) fn before_record(&mut self) {
+        self.gate.before_record(self.given);
+        self.given = self.given.saturating_add(1);
+    }
+}
