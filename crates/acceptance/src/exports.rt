@@ -1,7 +1,7 @@
 //! How exports of whole tables and of some columns go on where a writer failed.
-use base_core::NoGate;
 use crate::calls::replies;
 use crate::slow::Slow;
+use base_core::NoGate;
 use export_core::Ticket;
 use std::alloc::Global;
 use std::process::Abort;

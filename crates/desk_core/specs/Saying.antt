@@ -17,4 +17,3 @@ pub record Saying : Type 0 where
 abbrev pub IsSpelledEvent : Event → Type 0
 IsSpelledEvent (events.Say pass user asked) = (line : List ℕ) × Spells line asked
 IsSpelledEvent _ = Unit {0}
-

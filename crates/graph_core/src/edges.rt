@@ -161,7 +161,15 @@ impl Edges {
         ensures next { self.new.next ≡ self.old.next }
         ensures rest { self.new.rest ≡ self.old.rest }
     {
-        revoke(owners, &self.indices, &mut self.links, loss, by, atoms, whom);
+        revoke(
+            owners,
+            &self.indices,
+            &mut self.links,
+            loss,
+            by,
+            atoms,
+            whom,
+        );
     }
 
     /// All edges, in number order. `NoMemory` where their copy has no room. Each number is below

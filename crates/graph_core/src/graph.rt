@@ -126,7 +126,8 @@ impl Authority for Graph {
             ≡ after_revoke self.old.content by atoms.now whom.now }
         ensures rest { self.new.rest ≡ self.old.rest }
     {
-        self.edges.revoke(&self.owners, Loss::Grant, &by, atoms, whom);
+        self.edges
+            .revoke(&self.owners, Loss::Grant, &by, atoms, whom);
     }
 
     fn revoke_option(&mut self, by: User, atoms: &[Atom], whom: &[User])
@@ -134,7 +135,8 @@ impl Authority for Graph {
             ≡ after_revoke_option self.old.content by atoms.now whom.now }
         ensures rest { self.new.rest ≡ self.old.rest }
     {
-        self.edges.revoke(&self.owners, Loss::Option, &by, atoms, whom);
+        self.edges
+            .revoke(&self.owners, Loss::Option, &by, atoms, whom);
     }
 
     #[inline(always)]

@@ -16,9 +16,9 @@ use crate::plays::{Count, Deal, Draw, End, Gather, Hear, Learn, Take, Tell};
 use crate::view::{Opening, Terms, View};
 use atomic_table::Table;
 use base_core::NoMemory;
-use std::snapshot::Snapshot;
 use std::alloc::Global;
 use std::marker::Model;
+use std::snapshot::Snapshot;
 use std::sync::Wait;
 
 /// All turns are drawn: their count, from the turnstile's start on, is 2^62.

@@ -1,7 +1,7 @@
 //! What a seat at the table knows. These types are for the proofs alone: of [`Terms`] one value is
 //! made, and of the others none.
-use std::snapshot::Snapshot;
 use std::collections::LinkedList;
+use std::snapshot::Snapshot;
 
 /// What one pass knows.
 pub struct Known<E> {

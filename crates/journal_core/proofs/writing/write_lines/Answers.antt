@@ -19,15 +19,19 @@ returns-in_err-write_all g c =
     let b = g.W.Sink.taken c.loop-entry.writer in
     let d = g.W.Sink.taken c.write_all.new.writer in
     let r = c.in_err-write_all.ensures in
-    text-broken g.W.Sink.failed g.W.Sink.taken _ _ (journal_text c.args.entries.now) c.from_residual.result c.from_residual.ensures.0
-    (r.0, line-broken c.args.entries.now c.loop-entry.entry-index c.entry-item.result (omega arith) c.entry-item.is a b d c.loop-entry.invariant.1
-    (subst (λ (t : List ℕ). WritesFront b d t) c.line.ensures r.1))
+    text-broken g.W.Sink.failed g.W.Sink.taken _ _ (journal_text c.args.entries.now) c.from_residual.result c.from_residual.ensures.0 (
+      r.0,
+      line-broken c.args.entries.now c.loop-entry.entry-index c.entry-item.result (omega arith) c.entry-item.is a b d c.loop-entry.invariant.1
+          (subst (λ (t : List ℕ). WritesFront b d t) c.line.ensures r.1),
+    )
 
 pub loop-entry-preserved : goal.loop-entry-preserved
 loop-entry-preserved g c =
     let a = g.W.Sink.taken c.args.writer.now in
     let b = g.W.Sink.taken c.loop-entry.writer in
     let d = g.W.Sink.taken c.write_all.new.writer in
-    let r = c.in_ok-write_all.ensures in
-    (r.0, line-more c.args.entries.now c.loop-entry.entry-index c.entry-item.result (omega arith) c.entry-item.is a b d c.loop-entry.invariant.1
-    (subst (λ (t : List ℕ). Appends b d t) c.line.ensures r.1))
+    let r = c.in_ok-write_all.ensures in (
+      r.0,
+      line-more c.args.entries.now c.loop-entry.entry-index c.entry-item.result (omega arith) c.entry-item.is a b d c.loop-entry.invariant.1
+          (subst (λ (t : List ℕ). Appends b d t) c.line.ensures r.1),
+    )

@@ -32,9 +32,11 @@ returns-in_err-write_run g c =
     let all = flat_map doubled_byte c.args.text.now in
     let whole = next_run before.0 rest all run (drop (c.in-Some.n + 1) rest) c.in-Some.n (sym c.in-Some.ensures.at) refl refl before.2 in
     let r = c.in_err-write_run.ensures in
-    text-broken g.W.Sink.failed g.W.Sink.taken _ _ all c.from_residual.result c.from_residual.ensures.0
-    (r.0, subst (λ t. WritesFront start after t) (sym (append_assoc before.0 (run ++ quote ∷ []) left) ∙ whole)
-    (front-second start between after before.0 ((run ++ quote ∷ []) ++ left) before.1 (front-first between after (run ++ quote ∷ []) left r.1)))
+    text-broken g.W.Sink.failed g.W.Sink.taken _ _ all c.from_residual.result c.from_residual.ensures.0 (
+      r.0,
+      subst (λ t. WritesFront start after t) (sym (append_assoc before.0 (run ++ quote ∷ []) left) ∙ whole)
+          (front-second start between after before.0 ((run ++ quote ∷ []) ++ left) before.1 (front-first between after (run ++ quote ∷ []) left r.1)),
+    )
 
 pub returns : goal.returns
 returns g c =

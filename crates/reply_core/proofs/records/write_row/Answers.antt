@@ -22,9 +22,11 @@ returns-in_err-write_values g c =
     let after = g.W.Sink.taken c.write_values.new.writer in
     let r = c.in_err-write_values.ensures in
     let values = flat_map value_text c.args.values.now in
-    text-broken g.W.Sink.failed g.W.Sink.taken _ _ (row_line c.args.values.now) c.from_residual-in_err-write_values.result c.from_residual-in_err-write_values.ensures.0
-    (r.0, subst (λ t. WritesFront before after t) (sym (row_line-parts c.args.values.now))
-    (front-second before between after (codes "row") (values ++ codes "\n") c.in_ok-write_all.ensures.1 (front-first between after values (codes "\n") r.1)))
+    text-broken g.W.Sink.failed g.W.Sink.taken _ _ (row_line c.args.values.now) c.from_residual-in_err-write_values.result c.from_residual-in_err-write_values.ensures.0 (
+      r.0,
+      subst (λ t. WritesFront before after t) (sym (row_line-parts c.args.values.now))
+          (front-second before between after (codes "row") (values ++ codes "\n") c.in_ok-write_all.ensures.1 (front-first between after values (codes "\n") r.1)),
+    )
 
 pub returns : goal.returns
 returns g c =

@@ -13,9 +13,11 @@ returns-in_err-write_text g c =
     let after = g.W.Sink.taken c.write_text.new.writer in
     let more = some_records reply in
     let r = c.in_err-write_text.ensures in
-    write-broken g.W.Sink.failed g.W.Sink.taken _ _ (TellsReply reply) c.from_residual.result c.from_residual.ensures.0
-    (r.0, WritesFrontOf-map (Both Text (TellsRecords reply)) (TellsReply reply) before after (both-tells reply)
-    (first-broken Text (TellsRecords reply) before after more.0 more.1 (record { text = reply_text reply; is = refl; wrote = r.1 })))
+    write-broken g.W.Sink.failed g.W.Sink.taken _ _ (TellsReply reply) c.from_residual.result c.from_residual.ensures.0 (
+      r.0,
+      WritesFrontOf-map (Both Text (TellsRecords reply)) (TellsReply reply) before after (both-tells reply)
+          (first-broken Text (TellsRecords reply) before after more.0 more.1 (record { text = reply_text reply; is = refl; wrote = r.1 })),
+    )
 
 pub returns : goal.returns
 returns g c =

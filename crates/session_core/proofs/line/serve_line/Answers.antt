@@ -27,8 +27,12 @@ returns-in-Ok-execute-clause-ok g c =
     let at = c.moment-at.result in
     told_ok _ w c.tell-in-Ok.result c.tell-in-Ok.ensures
     (write-ok g.W.Sink.failed g.W.Sink.taken _ _ _ w (write-map g.W.Sink.failed g.W.Sink.taken _ _ (TellsReply c.in-Ok-execute.reply) _ w
-    (λ text t. (at, subst (λ (m : Option Moment). AnswersUser c.args.desk.now c.args.user c.args.line.now c.args.pass.now text m c.execute.new.pass) (sym c.moment-at.ensures)
-    (said c.in-Ok.statement c.in-Ok-execute.reply c.in-Ok.ensures.spelled c.in-Ok-execute.ensures.same c.in-Ok-execute.ensures.answered t), c.last_moment.ensures)) c.write_reply-written.ensures))
+    (λ text t. (
+      at,
+      subst (λ (m : Option Moment). AnswersUser c.args.desk.now c.args.user c.args.line.now c.args.pass.now text m c.execute.new.pass) (sym c.moment-at.ensures)
+          (said c.in-Ok.statement c.in-Ok-execute.reply c.in-Ok.ensures.spelled c.in-Ok-execute.ensures.same c.in-Ok-execute.ensures.answered t),
+      c.last_moment.ensures,
+    )) c.write_reply-written.ensures))
 
 pub returns-in-Ok-execute-clause-err : goal.returns-in-Ok-execute-clause-err
 returns-in-Ok-execute-clause-err g c =
@@ -36,8 +40,12 @@ returns-in-Ok-execute-clause-err g c =
     let at = c.moment-at.result in
     told_err _ w c.tell-in-Ok.result c.tell-in-Ok.ensures
     (write-err g.W.Sink.failed g.W.Sink.taken _ _ _ w (write-map g.W.Sink.failed g.W.Sink.taken _ _ (TellsReply c.in-Ok-execute.reply) _ w
-    (λ text t. (at, subst (λ (m : Option Moment). AnswersUser c.args.desk.now c.args.user c.args.line.now c.args.pass.now text m c.execute.new.pass) (sym c.moment-at.ensures)
-    (said c.in-Ok.statement c.in-Ok-execute.reply c.in-Ok.ensures.spelled c.in-Ok-execute.ensures.same c.in-Ok-execute.ensures.answered t), c.last_moment.ensures)) c.write_reply-written.ensures))
+    (λ text t. (
+      at,
+      subst (λ (m : Option Moment). AnswersUser c.args.desk.now c.args.user c.args.line.now c.args.pass.now text m c.execute.new.pass) (sym c.moment-at.ensures)
+          (said c.in-Ok.statement c.in-Ok-execute.reply c.in-Ok.ensures.spelled c.in-Ok-execute.ensures.same c.in-Ok-execute.ensures.answered t),
+      c.last_moment.ensures,
+    )) c.write_reply-written.ensures))
 
 pub returns-in-Err-At-clause-ok : goal.returns-in-Err-At-clause-ok
 returns-in-Err-At-clause-ok g c =

@@ -5,11 +5,14 @@ use Rattle.std.proofs.KnownBytes.{Appends-trans}
 use Rattle.acceptance.proofs.lines.EchoLineServer.answer.Goals as goal
 
 pub returns : goal.returns
-returns g c = (c.in_ok-write_all-2.ensures.0, record {
-  text = c.args.line.now ++ codes "\n";
-  is = tt;
-  wrote = Appends-trans _ _ _ _ _ c.in_ok-write_all.ensures.1 c.in_ok-write_all-2.ensures.1;
-})
+returns g c = (
+  c.in_ok-write_all-2.ensures.0,
+  record {
+    text = c.args.line.now ++ codes "\n";
+    is = tt;
+    wrote = Appends-trans _ _ _ _ _ c.in_ok-write_all.ensures.1 c.in_ok-write_all-2.ensures.1;
+  },
+)
 
 pub returns-in_err-write_all-2 : goal.returns-in_err-write_all-2
 returns-in_err-write_all-2 g c =

@@ -34,12 +34,14 @@ returns-in-Err-keep_last g c =
     let old = c.args.system.now in
     let mid = c.change.new.self in
     let carries = was_done old mid e (moment_of old) c.in-Ok.made c.change.result c.in-Ok.is c.change.ensures in
-    let lost = c.in-Err-keep_last.ensures.err old.journal e (done-journal old mid e c.in-Ok.made carries) in
-    (c.requires.writes, record {
-      text = [];
-      is = done-unkept K.keeps K.fails K.failed old mid c.args.keeper.now c.keep_last.new.keeper e c.in-Ok.made c.in-Err-keep_last.ensures.failed c.requires.allowed c.requires.change carries lost;
-      wrote = Appends-nil _;
-    })
+    let lost = c.in-Err-keep_last.ensures.err old.journal e (done-journal old mid e c.in-Ok.made carries) in (
+      c.requires.writes,
+      record {
+        text = [];
+        is = done-unkept K.keeps K.fails K.failed old mid c.args.keeper.now c.keep_last.new.keeper e c.in-Ok.made c.in-Err-keep_last.ensures.failed c.requires.allowed c.requires.change carries lost;
+        wrote = Appends-nil _;
+      },
+    )
 
 pub returns-then-not-is_idle : goal.returns-then-not-is_idle
 returns-then-not-is_idle g c =

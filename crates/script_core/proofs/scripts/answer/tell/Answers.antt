@@ -25,9 +25,11 @@ returns-in-Err g c =
     let came : Step mid events.Abandon given_up new = subst (λ (w : World). Step mid events.Abandon given_up w) (sym c.let_go-2.ensures) c.step-given_up.ensures in
     let more = tells-some given_up in
     let then = said-then c.args.said c.args.system.now mid new c.step-reply.result given_up c.step-reply.ensures (sym c.is_refused-refused.ensures ∙ c.if-not-refused.false) came in
-    let r = c.in-Err.ensures in
-    (r.0, WritesFrontOf-map (Both (TellsSaid c.args.said) (TellsReply given_up)) (TellsThen c.args.said c.args.system.now new) _ _ then
-    (first-broken (TellsSaid c.args.said) (TellsReply given_up) (g.W.Sink.taken c.args.writer.now) (g.W.Sink.taken c.write_said-2.new.writer) more.0 more.1 r.1))
+    let r = c.in-Err.ensures in (
+      r.0,
+      WritesFrontOf-map (Both (TellsSaid c.args.said) (TellsReply given_up)) (TellsThen c.args.said c.args.system.now new) _ _ then
+          (first-broken (TellsSaid c.args.said) (TellsReply given_up) (g.W.Sink.taken c.args.writer.now) (g.W.Sink.taken c.write_said-2.new.writer) more.0 more.1 r.1),
+    )
 
 pub returns-in-Ok : goal.returns-in-Ok
 returns-in-Ok g c =
