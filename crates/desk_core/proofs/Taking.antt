@@ -11,46 +11,51 @@ use Rattle.turnstile.specs.Turned.{Turned}
 use Rattle.turnstile.specs.Closed.{Closed, Kept}
 use Rattle.desk_core.specs.declared.object.Ask.{Ask}
 use Rattle.std.specs.declared.snapshot.Snapshot.{Snapshot}
-use Rattle.desk_core.specs.declared.object.Unkept.{Unkept}
 use Rattle.system_core.specs.declared.machine.event.Entry.{Entry}
 use Rattle.system_core.specs.declared.machine.event.Event.{Event}
 use Rattle.system_core.specs.declared.machine.event.Reply.{Reply}
 use Rattle.system_core.specs.Entering.{entered}
-use Rattle.system_core.specs.Step.{Step}
 use Rattle.system_core.specs.World.{World, IsLawfulWorld}
 use Rattle.system_core.proofs.Entered.{step_enters}
 use Rattle.journal_core.specs.Keeping.{KeepsAll}
-use Rattle.desk_core.specs.Guarded.{Origin, CoreState, AnswerState, DeskLock, DeskPass, origin_of, snapshot}
-use Rattle.desk_core.specs.Kept.{KeepsEntered, HasKept, IsKept}
+use Rattle.journal_core.specs.Recorder.{with_keeper, StepsKept}
+use Rattle.journal_core.specs.declared.recorder.Acted.{Acted}
+use Rattle.journal_core.specs.declared.recorder.Unkept.{Unkept}
+use Rattle.journal_core.proofs.Entering.{entered-told}
+use Rattle.desk_core.specs.Guarded.{Origin, CoreState, DeskLock, DeskPass, origin_of, snapshot}
+use Rattle.desk_core.specs.Kept.{HasKept, IsKept}
 use Rattle.desk_core.specs.Acting.{event_of, basis, Acts}
 use Rattle.desk_core.specs.Turns.{asked_by, journal_of, begun_of, basis_of, Took, Answered, took, Ended}
-use Rattle.desk_core.proofs.Entering.{keeps_on, told_works}
+use Rattle.desk_core.proofs.Entering.{keeps_on}
 
 gained-is : (old new entries : List Entry) → new ≡ old ++ entries → gained old new ≡ entries
 gained-is old new entries e = ap (λ log. drop (length old) log) e ∙ drop_at old entries (length old) refl
 
--- a step between worlds that are called otherwise
-pub step_at : (old old' new new' : World) (event event' : Event) (reply : Reply) → old ≡ old' → event ≡ event' → new' ≡ new → Step old event reply new → Step old' event' reply new'
-step_at old old' new new' event event' reply was is last step = subst (λ (t : World × Event × World). Step t.0 t.1 reply t.2) (λ i. (was i, is i, sym last i)) step
-
 module _ {K : Type 0} (keeps fails : K → Entry → K → Type 0) (failed : K → Bool) where
+  -- a step between worlds that are called otherwise
+  pub steps_at : (old old' new new' : World) (event event' : Event) (acted : Acted) (k k' : K) → old ≡ old' → event ≡ event' → new' ≡ new
+      → StepsKept keeps fails failed (with_keeper old k) event acted.reply acted.told (with_keeper new k')
+      → StepsKept keeps fails failed (with_keeper old' k) event' acted.reply acted.told (with_keeper new' k')
+  steps_at old old' new new' event event' acted k k' was is last steps =
+      subst (λ (t : World × Event × World). StepsKept keeps fails failed (with_keeper t.0 k) t.1 acted.reply acted.told (with_keeper t.2 k')) (λ i. (was i, is i, sym last i)) steps
+
   -- what the core stands for stays in order
-  pub act_stands : (old new : World) (event : Event) (reply : Reply) (told : Bool) (origin : Origin K) (k k' : K)
+  pub act_stands : (old new : World) (event : Event) (acted : Acted) (origin : Origin K) (k k' : K)
       → (old.chunk ≡ origin.chunk) × IsFull old.limits × (origin.front ≤ length old.journal) × HasKept keeps failed origin old.journal k
-      → Step old event reply new → KeepsEntered keeps fails failed k (entered event reply) told k'
+      → StepsKept keeps fails failed (with_keeper old k) event acted.reply acted.told (with_keeper new k')
       → (new.chunk ≡ origin.chunk) × IsFull new.limits × (origin.front ≤ length new.journal) × HasKept keeps failed origin new.journal k'
-  act_stands old new event reply told origin k k' (is, full, low, had) step keeping = let m = step_enters old new event reply step in (
+  act_stands old new event acted origin k k' (is, full, low, had) steps = let m = step_enters old new event acted.reply steps.step in (
     m.chunk ∙ is,
     subst (λ (l : Limits). IsFull l) (sym m.limits) full,
-    (let long = ap length m.journal ∙ length-append old.journal (entered event reply) in omega arith),
-    keeps_on keeps fails failed origin old.journal (entered event reply) new.journal k k' told low m.journal had keeping,
+    (let long = ap length m.journal ∙ length-append old.journal (entered event acted.reply) in omega arith),
+    keeps_on keeps fails failed origin old.journal (entered event acted.reply) new.journal k k' acted.told low m.journal had steps.keeping,
   )
 
-  module _ (desk : DeskLock K) (ask : Ask) (answer : AnswerState) (old new : DeskPass K)
+  module _ (desk : DeskLock K) (ask : Ask) (answer : Acted) (old new : DeskPass K)
       (t : Turned {O = CoreState K} (λ c. c.world.journal) asked_by (λ c. c.world.begun) basis (Acts keeps fails failed) desk ask answer old new) where
     pub turn_taken : (old.drawn < new.drawn) × (new.drawn ≤ 2 ^ 62) → new.turns ≡ old.turns + 1 → Took desk ask answer.reply old new
     turn_taken drawn counted =
-        let m = step_enters t.before.world t.after.world (event_of old.number ask) answer.reply t.acted.step in
+        let m = step_enters t.before.world t.after.world (event_of old.number ask) answer.reply t.acted.steps.step in
         record {
           before = t.before.world;
           after = t.after.world;
@@ -59,7 +64,7 @@ module _ {K : Type 0} (keeps fails : K → Entry → K → Type 0) (failed : K �
           chunk = ap (λ (s : Snapshot (Origin K)). s.value.chunk) t.fixed_is;
           seen_before = t.seen_before;
           mark_before = t.mark_before;
-          step = t.acted.step;
+          step = t.acted.steps.step;
           seen_after = t.seen_after;
           mark_after = t.mark_after;
           mine_after = t.mine_after ∙ ap (λ es. mine asked_by old ++ es) (gained-is t.before.world.journal t.after.world.journal (entered (event_of old.number ask) answer.reply) m.journal);
@@ -70,7 +75,7 @@ module _ {K : Type 0} (keeps fails : K → Entry → K → Type 0) (failed : K �
     -- what may be told is kept
     pub turn_kept : answer.told ≡ true → IsKept keeps failed (origin_of desk) new.seen
     turn_kept told =
-        let works = told_works keeps fails failed t.before.keeper t.after.keeper (entered (event_of old.number ask) answer.reply) answer.told t.acted.keeping told in
+        let works = (entered-told keeps fails failed t.before.keeper t.after.keeper (entered (event_of old.number ask) answer.reply) answer.told t.acted.steps.keeping told).0 in
         let keeper = ap (λ (o : Origin K). o.keeper) t.acted.origin ∙ ap (λ (s : Snapshot (Origin K)). s.value.keeper) t.fixed_is in
         let front = ap (λ (o : Origin K). o.front) t.acted.origin ∙ ap (λ (s : Snapshot (Origin K)). s.value.front) t.fixed_is in
         record {

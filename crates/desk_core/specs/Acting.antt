@@ -9,12 +9,12 @@ use Rattle.desk_core.specs.declared.object.Ask.TheVariants as asks
 use Rattle.system_core.specs.declared.machine.event.Entry.{Entry}
 use Rattle.system_core.specs.declared.machine.event.Event.{Event}
 use Rattle.system_core.specs.declared.machine.event.Event.TheVariants as events
-use Rattle.system_core.specs.Entering.{entered}
 use Rattle.system_core.specs.World.{IsLawfulWorld}
-use Rattle.system_core.specs.Step.{Step}
 use Rattle.system_core.proofs.Entered.{step_enters, one_at_most}
-use Rattle.desk_core.specs.Guarded.{Origin, snapshot, CoreState, AnswerState}
-use Rattle.desk_core.specs.Kept.{KeepsEntered, HasKept}
+use Rattle.journal_core.specs.Recorder.{with_keeper, StepsKept}
+use Rattle.journal_core.specs.declared.recorder.Acted.{Acted}
+use Rattle.desk_core.specs.Guarded.{Origin, snapshot, CoreState}
+use Rattle.desk_core.specs.Kept.{HasKept}
 
 -- what is asked through a pass, as an event
 abbrev pub event_of : ℕ → Ask → Event
@@ -30,28 +30,25 @@ module _ {K : Type 0} (keeps fails : K → Entry → K → Type 0) (failed : K �
   -- A step of the machine from a lawful world with full limits, asked through a pass. What it entered
   -- is kept before the reply may be told.
   pub record Acts
-      (old : CoreState K) (pass : ℕ) (ask : Ask) (answer : AnswerState) (new : CoreState K)
+      (old : CoreState K) (pass : ℕ) (ask : Ask) (answer : Acted) (new : CoreState K)
       : Type 0 where
     pub lawful : IsLawfulWorld old.world
     pub full : IsFull old.world.limits
-    pub step : Step old.world (event_of pass ask) answer.reply new.world
-    pub keeping : KeepsEntered keeps fails failed old.keeper
-        (entered (event_of pass ask) answer.reply)
-        answer.told
-        new.keeper
+    pub steps : StepsKept keeps fails failed (with_keeper old.world old.keeper)
+        (event_of pass ask) answer.reply answer.told (with_keeper new.world new.keeper)
     pub origin : new.origin ≡ old.origin
     pub has_kept : HasKept keeps failed new.origin new.world.journal new.keeper
 
   -- it enters one entry of the pass at most, no checkpoint is unbegun, and the basis stays
   pub acts_grow :
-      (old : CoreState K) (pass : ℕ) (ask : Ask) (answer : AnswerState) (new : CoreState K)
+      (old : CoreState K) (pass : ℕ) (ask : Ask) (answer : Acted) (new : CoreState K)
       → Acts old pass ask answer new
       → Grown {O = CoreState K} (λ c. c.world.journal) (λ (e : Entry). e.pass) (λ c. c.world.begun)
       basis pass old new
   acts_grow old pass (asks.Say said) answer new h =
       let m =
       step_enters old.world new.world (events.Say pass said.user said.statement) answer.reply
-      h.step
+      h.steps.step
       in
       record {
         adds =
@@ -61,14 +58,14 @@ module _ {K : Type 0} (keeps fails : K → Entry → K → Type 0) (failed : K �
         stays = (λ i. snapshot (record (h.origin i) { chunk = m.chunk i }));
       }
   acts_grow old pass asks.Step answer new h =
-      let m = step_enters old.world new.world events.Step answer.reply h.step in
+      let m = step_enters old.world new.world events.Step answer.reply h.steps.step in
       record {
         adds = inl (m.journal ∙ append-nil old.world.journal);
         rises = m.begun;
         stays = (λ i. snapshot (record (h.origin i) { chunk = m.chunk i }));
       }
   acts_grow old pass asks.Abandon answer new h =
-      let m = step_enters old.world new.world events.Abandon answer.reply h.step in
+      let m = step_enters old.world new.world events.Abandon answer.reply h.steps.step in
       record {
         adds = inl (m.journal ∙ append-nil old.world.journal);
         rises = m.begun;

@@ -1,10 +1,9 @@
--- What contracts see of the core as threads share it, of its answer, and of a desk with its passes.
-use Rattle.std.specs.Prelude.{ℕ, Bool}
+-- What contracts see of the core as threads share it, and of a desk with its passes.
+use Rattle.std.specs.Prelude.{ℕ}
 use Rattle.std.specs.declared.snapshot.Snapshot.{Snapshot}
 use Rattle.turnstile.specs.Passes.{TurnstileState, PassState, Told}
 use Rattle.system_core.specs.World.{World}
 use Rattle.system_core.specs.declared.machine.event.Entry.{Entry}
-use Rattle.system_core.specs.declared.machine.event.Reply.{Reply}
 
 -- What a desk was built on: the chunk of its core, how many entries the journal had, and the keeper of
 -- the changes from then on, as it was handed in.
@@ -18,11 +17,6 @@ pub record CoreState (K : Type 0) : Type 0 where
   pub world : World
   pub origin : Origin K
   pub keeper : K
-
--- a reply, and whether it may be told
-pub record AnswerState : Type 0 where
-  pub reply : Reply
-  pub told : Bool
 
 abbrev pub snapshot : {T : Type 0} → T → Snapshot T
 snapshot x = record { marker = record {}; value = x }

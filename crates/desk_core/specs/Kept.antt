@@ -1,8 +1,7 @@
 -- What becomes of the keeper of a desk's changes.
 -- Of a keeper, `keeps old e new`: from the state old the entry e may be kept, and new is the next;
--- `fails old e new`: from old it could not be kept whole, and new is the next; `failed k`: an entry
--- could not be kept.
-use Rattle.std.specs.Prelude.{◌≡◌, Bool, true, false, List, [], ◌∷◌, drop}
+-- `failed k`: an entry could not be kept.
+use Rattle.std.specs.Prelude.{◌≡◌, Bool, false, List, drop}
 use Rattle.system_core.specs.declared.machine.event.Entry.{Entry}
 use Rattle.journal_core.specs.Keeping.{KeepsAll}
 use Rattle.desk_core.specs.Guarded.{Origin}
@@ -19,21 +18,3 @@ module _ {K : Type 0} (keeps : K → Entry → K → Type 0) (failed : K → Boo
     pub keeper : K
     pub works : failed keeper ≡ false
     pub kept : KeepsAll keeps origin.keeper (drop origin.front journal) keeper
-
-module _ {K : Type 0} (keeps fails : K → Entry → K → Type 0) (failed : K → Bool) where
-  -- What becomes of a keeper as these entries, one at most, are entered, and whether the reply may be
-  -- told: they are kept; or the one cannot be kept; or the keeper has failed before and stays as it is.
-  pub data KeepsEntered (old : K) (entries : List Entry) : Bool → K → Type 0 where
-    kept : {new : K}
-        → failed old ≡ false
-        → failed new ≡ false
-        → KeepsAll keeps old entries new
-        → KeepsEntered old entries true new
-    lost : {new : K}
-        → failed old ≡ false
-        → failed new ≡ true
-        → (e : Entry)
-        → entries ≡ e ∷ []
-        → fails old e new
-        → KeepsEntered old entries false new
-    past : failed old ≡ true → KeepsEntered old entries false old

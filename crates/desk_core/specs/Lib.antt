@@ -11,3 +11,4 @@ pub use Rattle.system_core.specs.World
 pub use Rattle.system_core.specs.Step
 pub use Rattle.system_core.specs.Entering
 pub use Rattle.journal_core.specs.Keeping
+pub use Rattle.journal_core.specs.Recorder

@@ -10,9 +10,9 @@ ghost use Rattle.desk_core.specs.Guarded.{origin_of};
 ghost use Rattle.desk_core.specs.Kept.{HasKept, IsKept};
 ghost use Rattle.desk_core.specs.Turns.{asked_by, Took, Answered, Ended};
 
-use crate::object::{Ask, Core, Said, Unkept};
+use crate::object::{Ask, Core, Said};
 use base_core::{Lack, Moment, NoMemory, User};
-use journal_core::Keeper;
+use journal_core::{Keeper, Unkept};
 use reader_core::Statement;
 use std::alloc::Global;
 use std::marker::Model;
@@ -210,6 +210,7 @@ impl<K: Keeper + Drop> Desk<K> {
                     system,
                     keeper,
                 } = core;
+                // The journal says that the world is lawful.
                 let _ = system.journal();
                 Ok((Box::into_inner(system), keeper))
             }

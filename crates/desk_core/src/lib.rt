@@ -49,4 +49,5 @@ mod desk;
 mod object;
 
 pub use desk::{Desk, Note, Pass};
-pub use object::{Basis, Unkept};
+pub use journal_core::Unkept;
+pub use object::Basis;

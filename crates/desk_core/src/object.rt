@@ -1,18 +1,12 @@
 //! The core as what a turn lock guards.
-ghost use Rattle.std.specs.Prelude.{◌≡◌, ◌<◌, ◌≤◌, ℕ, List, [], ◌∷◌, ◌++◌, length, true, false, Bool, IfOk, MatchResult, OnOk, OnErr};
+ghost use Rattle.std.specs.Prelude.{◌≡◌, ℕ, List, length, true, false, IfOk, MatchResult};
 ghost use Rattle.base_core.specs.Full.{IsFull};
 ghost use Rattle.reader_core.specs.Language.{Spells};
-ghost use Rattle.system_core.specs.declared.machine.event.Entry.{Entry};
-ghost use Rattle.system_core.specs.Entering.{entered};
-ghost use Rattle.system_core.specs.Step.{Step};
-ghost use Rattle.system_core.specs.World.{World};
+ghost use Rattle.journal_core.specs.Recorder.{IsSpelledEvent};
 ghost use Rattle.desk_core.specs.Acting.{event_of};
-ghost use Rattle.system_core.specs.declared.machine.event.Event.{Event};
-ghost use Rattle.desk_core.specs.Kept.{KeepsEntered};
-ghost use Rattle.desk_core.specs.Saying.{IsSpelledEvent};
 
-use base_core::{Broken, NoMemory, User};
-use journal_core::{Keeper, keep_last};
+use base_core::{NoMemory, User};
+use journal_core::{Acted, Keeper, Unkept, act};
 use reader_core::Statement;
 use std::alloc::Global;
 use std::marker::Model;
@@ -80,25 +74,20 @@ impl Ask {
     }
 }
 
-/// A reply is withheld: a change could not be kept.
-#[derive(Clone, Copy)]
-pub struct Unkept;
-
 /// A reply, whether it may be told, and what is freed behind the turn. Contracts see the reply, and
 /// whether it may be told.
 #[derive(Drop)]
 pub struct Answer {
-    reply: Reply,
-    told: bool,
+    acted: Acted,
     parting: Parting,
 }
 
 impl Model for Answer {
-    ghost use Rattle.desk_core.specs.Guarded.{AnswerState};
+    ghost use Rattle.journal_core.specs.declared.recorder.Acted.{Acted};
 
-    ghost Value = { AnswerState };
+    ghost Value = { Acted };
 
-    ghost view = { λ a. record { reply = a.reply; told = a.told } };
+    ghost view = { λ a. a.acted };
 }
 
 impl Answer {
@@ -107,12 +96,9 @@ impl Answer {
         ensures { MatchResult result
             (λ reply. (self.told ≡ true) × (reply ≡ self.reply)) (λ _. self.told ≡ false) }
     {
-        let Answer {
-            reply,
-            told,
-            parting,
-        } = self;
+        let Answer { acted, parting } = self;
         parting.free();
+        let Acted { reply, told } = acted;
         if told { Ok(reply) } else { Err(Unkept) }
     }
 }
@@ -189,22 +175,6 @@ impl<K: Keeper + Drop> Core<K> {
     }
 }
 
-/// Keeps what a step entered, by its reply, and says whether the reply may be told.
-fn keep_entered<K: Keeper>(system: &System, keeper: &mut K, reply: &Reply) -> bool
-    requires stepped { (old : World) × (event : Event)
-        × Step old event reply.now system.now × IsSpelledEvent event }
-    ensures { (old : World) (event : Event) → Step old event reply.now system.now
-        → KeepsEntered K.keeps K.fails K.failed keeper.old (entered event reply.now) result keeper.new }
-{
-    if keeper.has_failed() {
-        return false;
-    }
-    if reply.is_done() {
-        return keep_last(system, keeper).is_ok();
-    }
-    true
-}
-
 impl<K: Keeper + Drop> Object for Core<K> {
     ghost use Rattle.desk_core.specs.Acting.{Acts, acts_grow, basis};
 
@@ -227,15 +197,11 @@ impl<K: Keeper + Drop> Object for Core<K> {
     ghost acts = { Acts K.keeps K.fails K.failed };
 
     fn act(&mut self, pass: u64, ask: Ask) -> Answer {
+        // The journal says that the world is lawful.
         let _ = self.system.journal();
-        let reply = self.system.step(ask.event(pass));
-        let told = keep_entered(&self.system, &mut self.keeper, &reply);
+        let acted = act(&mut self.system, &mut self.keeper, ask.event(pass));
         let parting = self.system.take_parting();
-        Answer {
-            reply,
-            told,
-            parting,
-        }
+        Answer { acted, parting }
     }
 
     fn fixed_part(&self) -> Snapshot<Basis<K>> {

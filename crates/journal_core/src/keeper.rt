@@ -1,10 +1,10 @@
 //! What keeps accepted changes.
-ghost use Rattle.std.specs.Prelude.{◌≡◌, ℕ, List, [], ◌∷◌, ◌++◌, Bool, true, false, OnOk, OnErr, MatchResult};
+ghost use Rattle.std.specs.Prelude.{◌≡◌, ℕ, List, Bool, true, false, OnOk, OnErr, MatchResult};
 ghost use Rattle.reader_core.specs.Language.{Spells};
 ghost use Rattle.system_core.specs.declared.machine.event.Entry.{Entry};
 
 use base_core::Broken;
-use system_core::{Entry, System};
+use system_core::Entry;
 
 /// What keeps accepted changes, one after another. Each is kept before its reply is written, so
 /// that what was told can be made again.
@@ -51,24 +51,4 @@ impl Keeper for NoKeeper {
     fn keep(&mut self, _entry: &Entry) -> Result<(), Broken> {
         Ok(())
     }
-}
-
-/// Keeps the last entry of the system's journal, as [`Keeper::keep`] does.
-// Where the keeper keeps nothing, nothing is left of it.
-#[inline(always)]
-pub fn keep_last<K: Keeper>(system: &System, keeper: &mut K) -> Result<(), Broken>
-    requires works { K.failed keeper.old ≡ false }
-    requires last { (front : List Entry) × (last : Entry) × (line : List ℕ)
-        × (system.now.journal ≡ front ++ last ∷ []) × Spells line last.statement }
-    ensures failed { MatchResult result (λ _. K.failed keeper.new ≡ false)
-        (λ _. K.failed keeper.new ≡ true) }
-    ensures ok { OnOk result ((front : List Entry) (last : Entry)
-        → system.now.journal ≡ front ++ last ∷ [] → K.keeps keeper.old last keeper.new) }
-    ensures err { OnErr result ((front : List Entry) (last : Entry)
-        → system.now.journal ≡ front ++ last ∷ [] → K.fails keeper.old last keeper.new) }
-{
-    let Some(entry) = system.journal().last() else {
-        unreachable!()
-    };
-    keeper.keep(entry)
 }

@@ -14,6 +14,9 @@
 //! nothing else (`specs/Text.antt`, law [`kept_lines_are_the_text`]). After a failure the sink has
 //! a front of one more line at most.
 //!
+//! [`act`] has a system do one step, and the keeper keep what that entered, before the reply may be
+//! told (`specs/Recorder.antt`). [`enter`] does the same for a change that is known to be allowed.
+//!
 //! [`write_journal`] writes a whole journal at once, and has the sink hand it on at the end.
 //!
 //! # Cost
@@ -25,9 +28,11 @@
 mod keeper;
 mod laws;
 mod line_keeper;
+mod recorder;
 mod writing;
 
-pub use keeper::{Keeper, NoKeeper, keep_last};
+pub use keeper::{Keeper, NoKeeper};
 pub use laws::kept_lines_are_the_text;
 pub use line_keeper::LineKeeper;
+pub use recorder::{Acted, Unkept, act, enter};
 pub use writing::{JournalFault, write_journal};

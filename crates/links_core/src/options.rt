@@ -21,6 +21,7 @@ fn take_option(store: &mut Store<Link>, end: &End, by: usize)
     };
     if link.option && link.grantor == by {
         link.option = false;
+        // The store has a link of this number, so that it is replaced.
         let _ = store.replace(end.number, link);
     }
 }

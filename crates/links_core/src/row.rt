@@ -94,6 +94,7 @@ impl Row {
             ≡ take place self.old.ends ++ end ∷ drop place self.old.ends }
         ensures room { self.old.room ≤ self.new.room + 1 }
     {
+        // There is room, so that it is put there.
         let _ = self.block.insert(self.gone + place, end);
     }
 

@@ -13,7 +13,8 @@ use Rattle.system_core.specs.declared.machine.event.Entry.{Entry}
 use Rattle.journal_core.specs.Text.{journal_lines, journal_text, WasRead}
 use Rattle.journal_core.specs.Keeping.{KeepsLine, FailsLine}
 use Rattle.journal_core.proofs.Kept.{kept-text}
-use Rattle.script_core.specs.Keeping.{with_keeper, EndsKept}
+use Rattle.journal_core.specs.Recorder.{with_keeper}
+use Rattle.script_core.specs.Keeping.{EndsKept}
 use Rattle.script_core.proofs.KeptLemmas.{journal-kept}
 use Rattle.load_core.specs.Kept.{CanBeLoaded}
 use Rattle.load_core.specs.declared.fault.LoadFault.{LoadFault}

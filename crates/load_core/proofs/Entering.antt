@@ -1,5 +1,5 @@
 -- What a change that a line says comes to.
-use Rattle.std.proofs.Common.{◌≡◌, ℕ, Bool, true, false, Option, Some, None, Ok, Err, List, refl, ap, subst, ◌∙◌}
+use Rattle.std.proofs.Common.{◌≡◌, ℕ, Bool, true, false, Option, Some, None, Ok, Err, List, refl, sym, ap, subst, ◌∙◌}
 use Rattle.std.specs.Prelude.{if◌then◌else◌}
 use Rattle.base_core.specs.Lacks.{is_denial}
 use Rattle.base_core.specs.declared.lack.Lack.{Lack}
@@ -25,20 +25,19 @@ lack_not_done : (b : Bool) (at : Moment) (lack : Lack) → is_done (if b then re
 lack_not_done true at lack = refl
 lack_not_done false at lack = refl
 
--- a change that is not allowed is answered so, and changes nothing
-module _ (old new : World) (e : Entry) (reply : Reply) (denied : verdict_at old.limits old.journal e.user e.statement ≡ Ok tt → ⊥) (step : Step old (events.Say 0 e.user e.statement) reply new) where
-  by_check : (check : Check) → verdict_at old.limits old.journal e.user e.statement ≡ check → (is_done reply ≡ false) × (new ≡ old)
+-- a change that is not allowed is answered so
+module _ (w : World) (e : Entry) (reply : Reply) (denied : verdict_at w.limits w.journal e.user e.statement ≡ Ok tt → ⊥) (responds : Responds w e (verdict_of w e.user e.statement) reply w) where
+  by_check : (check : Check) → verdict_at w.limits w.journal e.user e.statement ≡ check → Step w (events.Say 0 e.user e.statement) reply w × (is_done reply ≡ false)
   by_check (Ok u) is = absurd (denied is)
   by_check (Err lack) is =
-      let failed : verdict_of old e.user e.statement ≡ Err lack = failed-first (verdict_at old.limits old.journal e.user e.statement) (checkpoint_checks old e.user e.statement) lack is in
-      let By : Check → Type 0 = λ check. Responds old (entry 0 e.user e.statement) check reply new in
-      let said : Responds old (entry 0 e.user e.statement) (Err lack) reply new = subst By failed step in
-      (ap is_done said.0 ∙ lack_not_done (is_denial lack) (judged_at old e.statement lack) lack, said.1)
+      let failed : verdict_of w e.user e.statement ≡ Err lack = failed-first (verdict_at w.limits w.journal e.user e.statement) (checkpoint_checks w e.user e.statement) lack is in
+      let By : Check → Type 0 = λ check. Responds w e check reply w in
+      let Said : Check → Type 0 = λ check. Responds w (entry 0 e.user e.statement) check reply w in
+      let said : Responds w e (Err lack) reply w = subst By failed responds in
+      (subst Said (sym failed) said, ap is_done said.0 ∙ lack_not_done (is_denial lack) (judged_at w e.statement lack) lack)
 
-  pub refused : is_change e.statement ≡ true → IsUndoneEntry old e (reasons.Answer reply) × (new ≡ old)
-  refused change =
-      let r = by_check (verdict_at old.limits old.journal e.user e.statement) refl in
-      ((change, subst (λ (w : World). Step old (events.Say 0 e.user e.statement) reply w) r.1 step, r.0), r.1)
+  pub refused : is_change e.statement ≡ true → IsUndoneEntry w e (reasons.Answer reply)
+  refused change = let undone = by_check (verdict_at w.limits w.journal e.user e.statement) refl in (change, undone.0, undone.1)
 
 -- what an entry comes to is what the line comes to that says it
 pub line_enters : (most : ℕ) (old new : World) (line : List ℕ) (e : Entry) → SaysEntry most line e → (stop : Option Undone) → EntersEntry old e stop new → EntersUpTo most old line stop new

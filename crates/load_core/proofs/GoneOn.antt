@@ -13,7 +13,8 @@ use Rattle.system_core.specs.declared.machine.event.Entry.{Entry}
 use Rattle.journal_core.specs.Text.{journal_lines, journal_text, WasRead}
 use Rattle.journal_core.specs.Keeping.{KeepsAll, KeepsLine, FailsLine}
 use Rattle.journal_core.proofs.Kept.{kept-text}
-use Rattle.script_core.specs.Keeping.{with_keeper, EndsKeptFrom}
+use Rattle.journal_core.specs.Recorder.{with_keeper}
+use Rattle.script_core.specs.Keeping.{EndsKeptFrom}
 use Rattle.script_core.proofs.KeptLemmas.{grown-kept}
 use Rattle.load_core.specs.Kept.{CanBeLoadedBehind}
 use Rattle.load_core.specs.Loading.{Loads, lines_unmarked, without_pass}

@@ -26,7 +26,8 @@ use Rattle.system_core.proofs.Entered.{step_enters}
 use Rattle.system_core.proofs.Lawful.{step-lawful}
 use Rattle.script_core.specs.Addressed.{colon, spoken_by, addressed_by, addressed_up_to, Asks}
 use Rattle.script_core.specs.Script.{AnswersLine, faulty, said, unread, Follows, stepped, gave_up}
-use Rattle.script_core.specs.Keeping.{WithKeeper, AnswersKept, over, answered, withheld, has_failed}
+use Rattle.journal_core.specs.Recorder.{WithKeeper}
+use Rattle.script_core.specs.Keeping.{AnswersKept, over, answered, withheld, has_failed}
 use Rattle.journal_core.specs.Text.{WasRead}
 use Rattle.load_core.specs.Loading.{without_pass}
 

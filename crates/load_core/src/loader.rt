@@ -1,12 +1,10 @@
 //! A core that enters the changes which lines say.
-ghost use Rattle.std.specs.Prelude.{◌≡◌, ◌<◌, ◌+◌, ◌^◌, length, Ok, None, Some, true};
-ghost use Rattle.monitor_core.specs.Verdict.{is_change};
-ghost use Rattle.system_core.specs.Journal.{verdict_at};
-ghost use Rattle.load_core.specs.Loading.{unmarked, IsUndoneEntry};
+ghost use Rattle.std.specs.Prelude.{◌≡◌, ◌<◌, ◌+◌, ◌^◌, length, None, Some};
+ghost use Rattle.load_core.specs.Loading.{unmarked};
 ghost use Rattle.load_core.specs.Loader.{line_at, EntersEntry, EntersUpTo, outcome_of, number_of, outcome_at};
 
 use crate::fault::{LoadFault, Undone};
-use base_core::{Broken, Lack, NoMemory, Sink};
+use base_core::{Broken, NoMemory, Sink};
 use lexer_core::{ReadFault, Token};
 use lines_core::{Ending, LONGEST_LINE, LineServer};
 use monitor_core::is_change;
@@ -14,7 +12,7 @@ use script_core::read_addressed;
 use std::alloc::Global;
 use std::marker::Model;
 use std::mem;
-use system_core::{Entry, Event, Reply, System};
+use system_core::{Entry, Reply, System};
 
 /// U+FEFF in UTF-8.
 const BYTE_ORDER_MARK: [u8; 3] = [0xEF, 0xBB, 0xBF];
@@ -130,26 +128,6 @@ fn line_at<'l>(system: &System, line: &'l [u8]) -> &'l [u8]
     }
 }
 
-/// The reply to a change that is not allowed.
-#[inline(never)]
-fn refuse(system: &mut System, entry: Entry) -> Undone
-    requires change { is_change entry.statement ≡ true }
-    requires denied { verdict_at system.old.limits system.old.journal entry.user entry.statement
-        ≡ Ok tt → ⊥ }
-    ensures { IsUndoneEntry system.old entry result × (system.new ≡ system.old) }
-{
-    let Entry {
-        pass: _,
-        user,
-        statement,
-    } = entry;
-    Undone::Answer(system.step(Event::Say {
-        pass: 0,
-        user,
-        statement,
-    }))
-}
-
 /// Enters an allowed change. Else it gives why not.
 fn enter(system: &mut System, entry: Entry) -> Option<Undone>
     ensures { EntersEntry system.old entry result system.new }
@@ -159,15 +137,12 @@ fn enter(system: &mut System, entry: Entry) -> Option<Undone>
         return Some(Undone::NoChange);
     }
     if !system.may_change(&entry) {
-        return Some(refuse(system, entry));
+        return Some(Undone::Answer(system.deny(entry)));
     }
     let at = system.moment();
     match system.change(entry) {
         Ok(_) => None,
-        Err(NoMemory) => Some(Undone::Answer(Reply::Refused {
-            at,
-            lack: Lack::NoMemory,
-        })),
+        Err(NoMemory) => Some(Undone::Answer(Reply::to_change(at, Err(NoMemory)))),
     }
 }
 

@@ -1,23 +1,18 @@
 -- What is written for a line is an answer to it.
-use Rattle.std.proofs.Common.{◌≡◌, ℕ, true, false, not, List, [], ◌++◌, Option, Some, None, Ok, is_some, refl, sym, subst}
+use Rattle.std.proofs.Common.{◌≡◌, ℕ, true, false, not, List, [], ◌++◌, Option, Some, None, is_some, refl, sym, subst}
 use Rattle.reply_core.specs.Texts.{reply_text}
 use Rattle.reply_core.specs.Telling.{TellsReply}
 use Rattle.base_core.proofs.Fronts.{Both}
 use Rattle.reply_core.proofs.WritingLemmas.{some_records}
 use Rattle.std.proofs.lemmas.List.{append-nil}
-use Rattle.base_core.specs.declared.name.User.{User}
-use Rattle.reader_core.specs.declared.statement.Statement.{Statement}
-use Rattle.monitor_core.specs.Verdict.{is_change}
-use Rattle.system_core.specs.Journal.{verdict_at}
-use Rattle.system_core.specs.World.{World, ActiveCheckpoint, entry}
+use Rattle.system_core.specs.World.{World, ActiveCheckpoint}
 use Rattle.system_core.specs.declared.machine.event.Reply.{Reply}
-use Rattle.system_core.specs.Step.{Advances, CarriesOut, Step}
+use Rattle.system_core.specs.Step.{Advances, Step}
+use Rattle.journal_core.specs.Recorder.{event_of_entry}
 use Rattle.system_core.specs.declared.machine.event.Entry.{Entry}
-use Rattle.system_core.proofs.Judged.{change-responds}
 use Rattle.system_core.specs.declared.machine.event.Reply.TheVariants as replies
 use Rattle.system_core.specs.declared.machine.event.Event.TheVariants as events
-use Rattle.lexer_core.specs.declared.lexer.TheConstants.{MAX_LINE}
-use Rattle.script_core.specs.Addressed.{Asks}
+use Rattle.lexer_core.specs.declared.fault.ReadFault.TheVariants as faults
 use Rattle.script_core.specs.Script.{Answers, AnswersLine, faulty, said, unread, Follows, stepped, gave_up}
 use Rattle.system_core.specs.Replies.{is_refused}
 use Rattle.script_core.specs.Replying.{ComesTo, TellsSaid, Advanced, TellsAdvanced, TellsBoth, TellsThen, TellsAsked}
@@ -25,8 +20,8 @@ use Rattle.script_core.specs.declared.scripts.answer.Said.{Said}
 use Rattle.script_core.specs.declared.scripts.answer.Said.TheVariants as says
 
 pub said-answers : (old new : World) (line : List ℕ) (what : Said) (text : List ℕ) → ComesTo old line what new → TellsSaid what text → AnswersLine old line text new
-said-answers old new line (says.Fault code offset) text (h, same) e = subst (λ w. AnswersLine old line text w) (sym same) (subst (λ t. AnswersLine old line t old) (sym e) (faulty h))
-said-answers old new line says.Unread text (a, same) e = subst (λ w. AnswersLine old line text w) (sym same) (subst (λ t. AnswersLine old line t old) (sym e) (unread a))
+said-answers old new line (says.Fault (faults.At code offset)) text (h, same) e = subst (λ w. AnswersLine old line text w) (sym same) (subst (λ t. AnswersLine old line t old) (sym e) (faulty h))
+said-answers old new line (says.Fault faults.NoMemory) text (a, same) e = subst (λ w. AnswersLine old line text w) (sym same) (subst (λ t. AnswersLine old line t old) (sym e) (unread a))
 said-answers old new line (says.Answer reply) text (user, asked, a, step) tells = said user asked reply a step tells
 
 pub advanced-follows : (old new : World) (what : Option Reply) (text : List ℕ) → Advanced old what new → TellsAdvanced what text → Follows old text new
@@ -60,10 +55,6 @@ said-alone what old new reply step silent text tells = (None, (reply, step, sile
 pub said-then : (what : Said) (old mid new : World) (refusal reply : Reply) → Step old events.Step refusal mid → is_refused refusal ≡ true → Step mid events.Abandon reply new → (text : List ℕ) → Both (TellsSaid what) (TellsReply reply) text → TellsThen what old new text
 said-then what old mid new refusal reply step refused up text both = (Some reply, (refusal, mid, step, refused, up), both)
 
--- what is said of what was asked
-pub asked-answers : (old new : World) (line : List ℕ) (user : User) (asked : Statement) → Asks MAX_LINE line user asked → (text : List ℕ) → TellsAsked (entry 0 user asked) old new text → Answers old line text new
-asked-answers old new line user asked asks text (reply, mid, step, tells) = then-answers old mid new line (says.Answer reply) (user, asked, asks, step) text tells
-
 idle-with : (w : World) (active : Option ActiveCheckpoint) → not (is_some active) ≡ true → Advances w active replies.Idle w
 idle-with w None idle = (refl, refl)
 idle-with w (Some a) idle = cc
@@ -73,9 +64,5 @@ pub said-idle : (w : World) (what : Said) → not (is_some w.active) ≡ true �
 said-idle w what idle text tells = said-alone what w w replies.Idle (idle-with w w.active idle) refl text tells
 
 -- what was asked, and what is told of it
-pub asked-then : (old mid new : World) (e : Entry) (reply : Reply) → Step old (events.Say e.pass e.user e.statement) reply mid → (text : List ℕ) → TellsThen (says.Answer reply) mid new text → TellsAsked e old new text
+pub asked-then : (old mid new : World) (e : Entry) (reply : Reply) → Step old (event_of_entry e) reply mid → (text : List ℕ) → TellsThen (says.Answer reply) mid new text → TellsAsked e old new text
 asked-then old mid new e reply step text tells = (reply, mid, step, tells)
-
--- an allowed change
-pub changed-then : (old mid new : World) (e : Entry) (reply : Reply) → verdict_at old.limits old.journal e.user e.statement ≡ Ok tt → is_change e.statement ≡ true → CarriesOut old e reply mid → (text : List ℕ) → TellsThen (says.Answer reply) mid new text → TellsAsked e old new text
-changed-then old mid new e reply allowed change carries text tells = asked-then old mid new e reply (change-responds old mid e reply allowed change carries) text tells

@@ -1,33 +1,32 @@
 -- What is written for a line is an answer to it, and its change is kept.
-use Rattle.std.proofs.Common.{◌≡◌, ℕ, Bool, true, false, not, List, [], ◌∷◌, ◌++◌, Option, Some, None, Ok, Err, is_some, Result, if◌then◌else◌, refl, ap, ◌∙◌, subst, append-nil}
+use Rattle.std.proofs.Common.{◌≡◌, ℕ, Bool, true, false, List, [], ◌∷◌, ◌++◌, Option, Some, None, Ok, Err, if◌then◌else◌, refl, sym, ap, ◌∙◌, subst, append-nil}
 use Rattle.base_core.specs.Lacks.{is_denial}
 use Rattle.base_core.specs.declared.name.User.{User}
 use Rattle.base_core.specs.declared.value.Moment.{Moment}
 use Rattle.base_core.specs.declared.lack.Lack.{Lack}
-use Rattle.base_core.specs.declared.lack.Lack.TheVariants as lacks
 use Rattle.reader_core.specs.declared.statement.Statement.{Statement}
 use Rattle.monitor_core.specs.Verdict.{Check, first_lack, is_change}
 use Rattle.system_core.specs.Journal.{verdict_at}
 use Rattle.system_core.specs.Judging.{checkpoint_checks, verdict_of, judged_at}
 use Rattle.system_core.specs.World.{World, entry}
-use Rattle.base_core.specs.declared.memory.NoMemory.{NoMemory}
-use Rattle.system_core.specs.Step.{change_reply, CarriesOut, Responds, Step}
+use Rattle.system_core.specs.Entering.{entered}
+use Rattle.system_core.specs.Step.{Responds, Step}
 use Rattle.system_core.specs.declared.machine.event.Entry.{Entry}
 use Rattle.system_core.specs.declared.machine.event.Event.TheVariants as events
 use Rattle.system_core.specs.declared.machine.event.Reply.{Reply}
 use Rattle.system_core.specs.declared.machine.event.Reply.TheVariants as replies
 use Rattle.system_core.proofs.Entered.{step_enters}
-use Rattle.system_core.proofs.Judged.{change-responds}
-use Rattle.reply_core.specs.Telling.{TellsReply}
+use Rattle.journal_core.specs.Keeping.{KeepsAll}
+use Rattle.journal_core.specs.Recorder.{WithKeeper, with_keeper, event_of_entry, KeepsEntered, kept, StepsKept}
+use Rattle.journal_core.proofs.Entering.{entered-told, entered-lost}
 use Rattle.lexer_core.specs.declared.lexer.TheConstants.{MAX_LINE}
 use Rattle.script_core.specs.Addressed.{Asks}
 use Rattle.script_core.specs.Script.{said}
-use Rattle.script_core.specs.Keeping.{WithKeeper, with_keeper, AnswersKept, answered, withheld}
-use Rattle.script_core.specs.Replying.{ComesTo, Advanced, TellsThen, TellsAsked, TellsKept}
-use Rattle.script_core.specs.Replying as replying
+use Rattle.script_core.specs.Keeping.{AnswersKept, answered, withheld}
+use Rattle.script_core.specs.Replying.{ComesTo, Advanced, TellsThen, TellsAsked, TellsActed, TellsKept}
 use Rattle.script_core.specs.declared.scripts.answer.Said.{Said}
 use Rattle.script_core.specs.declared.scripts.answer.Said.TheVariants as says
-use Rattle.script_core.proofs.Answering.{asked-answers, changed-then, said-idle, tells-some, then-answers}
+use Rattle.script_core.proofs.Answering.{tells-some, then-answers}
 use Rattle.script_core.proofs.KeptLemmas.{KeepsNew-none}
 
 -- ---- steps that enter nothing
@@ -52,68 +51,55 @@ first_passed : (check : Check) (more : List Check) → first_lack (check ∷ mor
 first_passed (Ok u) more h = refl
 first_passed (Err lack) more h = cc
 
--- what is no allowed change leaves the journal
-unchanged-journal : (old new : World) (e : Entry) (reply : Reply) → ((verdict_at old.limits old.journal e.user e.statement ≡ Ok tt) × (is_change e.statement ≡ true) → ⊥)
-    → Step old (events.Say e.pass e.user e.statement) reply new → new.journal ≡ old.journal
-unchanged-journal old new e (replies.Done at) denied step =
+-- what is no allowed change enters nothing
+unchanged-entered : (old new : World) (e : Entry) (reply : Reply) → ((verdict_at old.limits old.journal e.user e.statement ≡ Ok tt) × (is_change e.statement ≡ true) → ⊥)
+    → Step old (event_of_entry e) reply new → entered (event_of_entry e) reply ≡ []
+unchanged-entered old new e (replies.Done at) denied step =
     let done = done_responds old new e at (verdict_of old e.user e.statement) step in
     absurd (denied (first_passed (verdict_at old.limits old.journal e.user e.statement) (checkpoint_checks old e.user e.statement) done.0, done.1))
-unchanged-journal old new e reply denied step = (step_enters old new (events.Say e.pass e.user e.statement) reply step).journal ∙ append-nil old.journal
-
--- a change that was done
-pub was_done : (old mid : World) (e : Entry) (at made : Moment) (result : Result Moment NoMemory) → result ≡ Ok made → CarriesOut old e (change_reply at result) mid → CarriesOut old e (replies.Done made) mid
-was_done old mid e at made result is carries = subst (λ (r : Result Moment NoMemory). CarriesOut old e (change_reply at r) mid) is carries
-
--- one that was refused memory
-pub was_refused : (old mid : World) (e : Entry) (at : Moment) (lack : NoMemory) (result : Result Moment NoMemory) → result ≡ Err lack → CarriesOut old e (change_reply at result) mid → CarriesOut old e (replies.Refused at lacks.NoMemory) mid
-was_refused old mid e at lack result is carries = subst (λ (r : Result Moment NoMemory). CarriesOut old e (change_reply at r) mid) is carries
-
-pub done-journal : (old mid : World) (e : Entry) (made : Moment) → CarriesOut old e (replies.Done made) mid → mid.journal ≡ old.journal ++ e ∷ []
-done-journal old mid e made carries = ap (λ (w : World). w.journal) carries.2
+unchanged-entered old new e _ denied step = refl
 
 module _ {K : Type 0} (keeps fails : K → Entry → K → Type 0) (failed : K → Bool) where
   -- ---- what is told of what was asked
   pub any-kept : (old new : World) (k : K) (e : Entry) → failed k ≡ false → ((verdict_at old.limits old.journal e.user e.statement ≡ Ok tt) × (is_change e.statement ≡ true) → ⊥)
       → (text : List ℕ) → TellsAsked e old new text → TellsKept keeps fails failed e (with_keeper old k) (with_keeper new k) text
-  any-kept old new k e f denied text (reply, mid, step, follow) =
-      replying.told f (reply, mid, step, follow) (KeepsNew-none keeps (with_keeper old k) (with_keeper new k) (then-journal (says.Answer reply) mid new text follow ∙ unchanged-journal old mid e reply denied step) refl)
+  any-kept old new k e f denied text (reply, mid, step, follow) = record {
+    reply = reply;
+    told = true;
+    mid = with_keeper mid k;
+    acted = record {
+      step = step;
+      keeping = subst (λ (es : List Entry). KeepsEntered keeps fails failed k es true k) (sym (unchanged-entered old mid e reply denied step)) (kept f f refl);
+    };
+    tells = (follow, refl);
+  }
 
-  -- a change that was refused memory
-  pub refused-kept : (old mid new : World) (k : K) (e : Entry) (at : Moment) → failed k ≡ false → verdict_at old.limits old.journal e.user e.statement ≡ Ok tt → is_change e.statement ≡ true
-      → CarriesOut old e (replies.Refused at lacks.NoMemory) mid → (text : List ℕ) → TellsThen (says.Answer (replies.Refused at lacks.NoMemory)) mid new text
-      → TellsKept keeps fails failed e (with_keeper old k) (with_keeper new k) text
-  refused-kept old mid new k e at f allowed change carries text follow =
-      replying.told f (changed-then old mid new e (replies.Refused at lacks.NoMemory) allowed change carries text follow)
-      (KeepsNew-none keeps (with_keeper old k) (with_keeper new k) (then-journal (says.Answer (replies.Refused at lacks.NoMemory)) mid new text follow ∙ ap (λ (w : World). w.journal) carries.3) refl)
-
-  -- a change that was kept
-  pub done-kept : (old mid new : World) (k k' : K) (e : Entry) (made : Moment) → failed k' ≡ false → verdict_at old.limits old.journal e.user e.statement ≡ Ok tt → is_change e.statement ≡ true
-      → CarriesOut old e (replies.Done made) mid → keeps k e k' → (text : List ℕ) → TellsThen (says.Answer (replies.Done made)) mid new text
-      → TellsKept keeps fails failed e (with_keeper old k) (with_keeper new k') text
-  done-kept old mid new k k' e made f allowed change carries kept text follow =
-      replying.told f (changed-then old mid new e (replies.Done made) allowed change carries text follow)
-      (record { entries = e ∷ []; journal = then-journal (says.Answer (replies.Done made)) mid new text follow ∙ done-journal old mid e made carries; kept = (k', kept, refl) })
-
-  -- one behind which the step does nothing
-  pub done-idle : (old mid : World) (k k' : K) (e : Entry) (made : Moment) → failed k' ≡ false → verdict_at old.limits old.journal e.user e.statement ≡ Ok tt → is_change e.statement ≡ true
-      → CarriesOut old e (replies.Done made) mid → keeps k e k' → not (is_some mid.active) ≡ true → (text : List ℕ) → TellsReply (replies.Done made) text
-      → TellsKept keeps fails failed e (with_keeper old k) (with_keeper mid k') text
-  done-idle old mid k k' e made f allowed change carries kept idle text tells =
-      done-kept old mid mid k k' e made f allowed change carries kept text (said-idle mid (says.Answer (replies.Done made)) idle text tells)
-
-  -- one that could not be kept
-  pub done-unkept : (old mid : World) (k k' : K) (e : Entry) (made : Moment) → failed k' ≡ true → verdict_at old.limits old.journal e.user e.statement ≡ Ok tt → is_change e.statement ≡ true
-      → CarriesOut old e (replies.Done made) mid → fails k e k' → TellsKept keeps fails failed e (with_keeper old k) (with_keeper mid k') []
-  done-unkept old mid k k' e made f allowed change carries lost =
-      replying.withheld (replies.Done made) f (change-responds old mid e (replies.Done made) allowed change carries)
-      (record { entry = e; journal = done-journal old mid e made carries; unkept = lost })
+  -- a change whose reply may be told
+  pub change-told : (old mid new : World) (k k' : K) (e : Entry) (reply : Reply) → StepsKept keeps fails failed (with_keeper old k) (event_of_entry e) reply true (with_keeper mid k')
+      → (text : List ℕ) → TellsThen (says.Answer reply) mid new text → TellsKept keeps fails failed e (with_keeper old k) (with_keeper new k') text
+  change-told old mid new k k' e reply acted text follow = record { reply = reply; told = true; mid = with_keeper mid k'; acted = acted; tells = (follow, refl) }
 
   -- ---- what is written for a line
+  acted-answers : (old mid new : WithKeeper K) (line : List ℕ) (user : User) (asked : Statement) (reply : Reply) (told : Bool) → failed old.keeper ≡ false → Asks MAX_LINE line user asked
+      → StepsKept keeps fails failed old (events.Say 0 user asked) reply told mid → (text : List ℕ) → TellsActed told reply mid new text → AnswersKept keeps fails failed old line text new
+  acted-answers old mid new line user asked reply true f asks acted text (follow, same) =
+      let k = entered-told keeps fails failed old.keeper mid.keeper _ true acted.keeping refl in
+      answered f (ap failed same ∙ k.0) (then-answers old.world mid.world new.world line (says.Answer reply) (user, asked, asks, acted.step) text follow) (record {
+        entries = entered (events.Say 0 user asked) reply;
+        journal = then-journal (says.Answer reply) mid.world new.world text follow ∙ (step_enters old.world mid.world (events.Say 0 user asked) reply acted.step).journal;
+        kept = subst (λ (x : K). KeepsAll keeps old.keeper (entered (events.Say 0 user asked) reply) x) (sym same) k.1;
+      })
+  acted-answers old mid new line user asked reply false f asks acted text (none, same) =
+      let lost = entered-lost keeps fails failed old.keeper mid.keeper _ false acted.keeping refl f in
+      let some = tells-some reply in
+      let journal = (step_enters old.world mid.world (events.Say 0 user asked) reply acted.step).journal in
+      subst (λ (p : List ℕ × WithKeeper K). AnswersKept keeps fails failed old line p.0 p.1) (λ i. (sym none i, sym same i))
+      (withheld {text = some.0} f lost.2 (said user asked reply asks acted.step some.1)
+      (record { entry = lost.0; journal = journal ∙ ap (λ (es : List Entry). old.world.journal ++ es) lost.1; unkept = lost.3 }))
+
   pub kept-answers : (old new : WithKeeper K) (line : List ℕ) (user : User) (asked : Statement) → failed old.keeper ≡ false → Asks MAX_LINE line user asked
       → (text : List ℕ) → TellsKept keeps fails failed (entry 0 user asked) old new text → AnswersKept keeps fails failed old line text new
-  kept-answers old new line user asked f asks text (replying.told n tells k) = answered f n (asked-answers old.world new.world line user asked asks text tells) k
-  kept-answers old new line user asked f asks _ (replying.withheld reply n step lost) =
-      let some = tells-some reply in withheld {text = some.0} f n (said user asked reply asks step some.1) lost
+  kept-answers old new line user asked f asks text t = acted-answers old t.mid new line user asked t.reply t.told f asks t.acted text t.tells
 
   -- what enters nothing
   pub then-kept : (old new : World) (k : K) (line : List ℕ) (what : Said) → failed k ≡ false → ComesTo old line what old

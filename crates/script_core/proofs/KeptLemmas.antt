@@ -1,7 +1,6 @@
 -- What a keeper has of the lines that were answered with it.
 use Rattle.std.proofs.Common.{◌≡◌, ℕ, Bool, true, false, List, [], ◌∷◌, ◌++◌, Option, Result, Ok, Err, refl, sym, ap, ◌∙◌, subst, append_assoc, append-nil, inl, inr, ◌⊎◌}
 use Rattle.std.specs.Result.{OnErr}
-use Rattle.std.proofs.lemmas.Bool.{false≢true}
 use Rattle.lines_core.specs.Serving.{AnswersAll, Ends}
 use Rattle.lines_core.specs.declared.serving.SessionFault.{SessionFault}
 use Rattle.lines_core.specs.declared.serving.SessionFault.TheVariants as session_faults
@@ -10,19 +9,13 @@ use Rattle.system_core.specs.World.{World, opening}
 use Rattle.system_core.specs.declared.machine.event.Entry.{Entry}
 use Rattle.journal_core.specs.Keeping.{KeepsAll}
 use Rattle.script_core.specs.Script.{Answers, never, EndsScript}
-use Rattle.script_core.specs.Keeping.{WithKeeper, with_keeper, KeepsNew, AnswersKept, over, answered, withheld, AnswersFront, all, some, has_failed, EndsWithKeeper, EndsKeptFrom, EndsKept}
+use Rattle.journal_core.specs.Recorder.{WithKeeper, with_keeper}
+use Rattle.journal_core.proofs.Entering.{never-both, KeepsAll-append}
+use Rattle.script_core.specs.Keeping.{KeepsNew, AnswersKept, over, answered, withheld, AnswersFront, all, some, has_failed, EndsWithKeeper, EndsKeptFrom, EndsKept}
 use Rattle.script_core.specs.declared.scripts.fault.ScriptFault.{ScriptFault}
 use Rattle.script_core.specs.declared.scripts.fault.ScriptFault.TheVariants as faults
 
--- a test has one outcome
-pub never-both : {A : Type 0} (b : Bool) → b ≡ true → b ≡ false → A
-never-both b t f = absurd (false≢true (sym f ∙ t))
-
 module _ {K : Type 0} (keeps : K → Entry → K → Type 0) where
-  KeepsAll-append : (old mid new : K) (xs ys : List Entry) → KeepsAll keeps old xs mid → KeepsAll keeps mid ys new → KeepsAll keeps old (xs ++ ys) new
-  KeepsAll-append old mid new [] ys p q = subst (λ k. KeepsAll keeps k ys new) p q
-  KeepsAll-append old mid new (x ∷ xs) ys (next, h, t) q = (next, h, KeepsAll-append next mid new xs ys t q)
-
   -- the journal and the keeper stay
   pub KeepsNew-none : (old new : WithKeeper K) → new.world.journal ≡ old.world.journal → new.keeper ≡ old.keeper → KeepsNew keeps old new
   KeepsNew-none old new e k = record { entries = []; journal = e ∙ sym (append-nil old.world.journal); kept = k }
@@ -31,7 +24,7 @@ module _ {K : Type 0} (keeps : K → Entry → K → Type 0) where
   KeepsNew-trans old mid new a b = record {
     entries = a.entries ++ b.entries;
     journal = b.journal ∙ (ap (λ j. j ++ b.entries) a.journal ∙ append_assoc old.world.journal a.entries b.entries);
-    kept = KeepsAll-append old.keeper mid.keeper new.keeper a.entries b.entries a.kept b.kept;
+    kept = KeepsAll-append keeps old.keeper mid.keeper new.keeper a.entries b.entries a.kept b.kept;
   }
 
 module _ {K : Type 0} (keeps fails : K → Entry → K → Type 0) (failed : K → Bool) where

@@ -12,17 +12,10 @@ use Rattle.lines_core.specs.declared.serving.SessionFault.TheVariants as session
 use Rattle.system_core.specs.World.{World, opening}
 use Rattle.system_core.specs.declared.machine.event.Entry.{Entry}
 use Rattle.journal_core.specs.Keeping.{KeepsAll}
+use Rattle.journal_core.specs.Recorder.{WithKeeper, with_keeper}
 use Rattle.script_core.specs.Script.{AnswersLine, Answers}
 use Rattle.script_core.specs.declared.scripts.fault.ScriptFault.{ScriptFault}
 use Rattle.script_core.specs.declared.scripts.fault.ScriptFault.TheVariants as faults
-
--- a world, and the keeper of its changes
-pub record WithKeeper (K : Type 0) : Type 0 where
-  pub world : World
-  pub keeper : K
-
-abbrev pub with_keeper : {K : Type 0} → World → K → WithKeeper K
-with_keeper world keeper = record { world = world; keeper = keeper }
 
 -- the entries by which the journal grew were kept
 pub record KeepsNew {K : Type 0} (keeps : K → Entry → K → Type 0) (old new : WithKeeper K)

@@ -36,3 +36,4 @@ pub use Rattle.system_core.specs.Judging
 pub use Rattle.system_core.specs.Step
 pub use Rattle.reply_core.specs.Texts
 pub use Rattle.reply_core.specs.Telling
+pub use Rattle.journal_core.specs.Recorder

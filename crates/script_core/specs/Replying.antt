@@ -7,9 +7,10 @@ use Rattle.reply_core.specs.Telling.{TellsReply}
 use Rattle.system_core.specs.World.{World}
 use Rattle.system_core.specs.Step.{Step}
 use Rattle.lexer_core.specs.declared.lexer.TheConstants.{MAX_LINE}
-use Rattle.script_core.specs.Addressed.{Asks, IsFaulty, IsAddressed}
+use Rattle.lexer_core.specs.declared.fault.ReadFault.TheVariants as faults
+use Rattle.script_core.specs.Addressed.{Asks, IsUnreadFor}
 use Rattle.system_core.specs.Replies.{is_refused}
-use Rattle.script_core.specs.Keeping.{WithKeeper, KeepsNew, FailsNew}
+use Rattle.journal_core.specs.Recorder.{WithKeeper, event_of_entry, StepsKept}
 use Rattle.system_core.specs.declared.machine.event.Event.TheVariants as events
 use Rattle.system_core.specs.declared.machine.event.Entry.{Entry}
 use Rattle.system_core.specs.declared.machine.event.Reply.{Reply}
@@ -18,9 +19,7 @@ use Rattle.script_core.specs.declared.scripts.answer.Said.TheVariants as says
 
 -- what a line comes to
 abbrev pub ComesTo : World → List ℕ → Said → World → Type 0
-ComesTo old line (says.Fault code offset) new =
-    IsFaulty MAX_LINE line code offset × (new ≡ old)
-ComesTo old line says.Unread new = IsAddressed MAX_LINE line × (new ≡ old)
+ComesTo old line (says.Fault fault) new = IsUnreadFor MAX_LINE line fault × (new ≡ old)
 ComesTo old line (says.Answer reply) new =
     (user : User)
     × (asked : Statement)
@@ -29,8 +28,8 @@ ComesTo old line (says.Answer reply) new =
 
 -- what may be written of it
 abbrev pub TellsSaid : Said → List ℕ → Type 0
-TellsSaid (says.Fault code offset) text = text ≡ fault_text code offset
-TellsSaid says.Unread text = text ≡ unread_text
+TellsSaid (says.Fault (faults.At code offset)) text = text ≡ fault_text code offset
+TellsSaid (says.Fault faults.NoMemory) text = text ≡ unread_text
 TellsSaid (says.Answer reply) text = TellsReply reply text
 
 -- what a step of the checkpointer comes to: nothing to say, or that a checkpoint is given up
@@ -70,20 +69,21 @@ abbrev pub TellsAsked : Entry → World → World → List ℕ → Type 0
 TellsAsked e old new text =
     (reply : Reply)
     × (mid : World)
-    × Step old (events.Say e.pass e.user e.statement) reply mid
+    × Step old (event_of_entry e) reply mid
     × TellsThen (says.Answer reply) mid new text
 
--- The same with a keeper. Where the change could not be kept, nothing is written of the reply, and no
--- step follows.
-pub data TellsKept {K : Type 0} (keeps fails : K → Entry → K → Type 0) (failed : K → Bool)
-    (e : Entry) (old new : WithKeeper K) : List ℕ → Type 0 where
-  told : {text : List ℕ}
-      → failed new.keeper ≡ false
-      → TellsAsked e old.world new.world text
-      → KeepsNew keeps old new
-      → TellsKept keeps fails failed e old new text
-  withheld : (reply : Reply)
-      → failed new.keeper ≡ true
-      → Step old.world (events.Say e.pass e.user e.statement) reply new.world
-      → FailsNew fails old new
-      → TellsKept keeps fails failed e old new []
+-- What may be written of a reply: where it may be told, that, and what the step after it comes to; else
+-- nothing, and no step follows.
+abbrev pub TellsActed : {K : Type 0} → Bool → Reply → WithKeeper K → WithKeeper K → List ℕ → Type 0
+TellsActed true reply mid new text =
+    TellsThen (says.Answer reply) mid.world new.world text × (new.keeper ≡ mid.keeper)
+TellsActed false reply mid new text = (text ≡ []) × (new ≡ mid)
+
+-- The same as TellsAsked with a keeper, by which the reply may be told.
+pub record TellsKept {K : Type 0} (keeps fails : K → Entry → K → Type 0) (failed : K → Bool)
+    (e : Entry) (old new : WithKeeper K) (text : List ℕ) : Type 0 where
+  pub reply : Reply
+  pub told : Bool
+  pub mid : WithKeeper K
+  pub acted : StepsKept keeps fails failed old (event_of_entry e) reply told mid
+  pub tells : TellsActed told reply mid new text

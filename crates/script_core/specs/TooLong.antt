@@ -12,7 +12,8 @@ use Rattle.system_core.specs.World.{World}
 use Rattle.system_core.specs.declared.machine.event.Entry.{Entry}
 use Rattle.script_core.specs.Addressed.{addressed_up_to, IsAddressed, Asks, IsFaulty, address, statement}
 use Rattle.script_core.specs.Script.{AnswersLine, Answers, faulty, said, unread}
-use Rattle.script_core.specs.Keeping.{WithKeeper, AnswersKept, over, answered, withheld}
+use Rattle.journal_core.specs.Recorder.{WithKeeper}
+use Rattle.script_core.specs.Keeping.{AnswersKept, over, answered, withheld}
 
 -- ---- a line that may have so many bytes
 module _ (most : ℕ) (line : List ℕ) (h : most < length line) where

@@ -6,7 +6,8 @@ ghost use Rattle.system_core.specs.World.{World};
 ghost use Rattle.journal_core.specs.Keeping.{KeepsAll};
 ghost use Rattle.script_core.specs.InFull.{AnswersInFull, TellsOfMemory};
 ghost use Rattle.script_core.specs.Script.{Answers, EndsScript};
-ghost use Rattle.script_core.specs.Keeping.{WithKeeper, with_keeper, KeepsNew, AnswersKept, AnswersFront, EndsKeptFrom, EndsKept};
+ghost use Rattle.journal_core.specs.Recorder.{WithKeeper, with_keeper};
+ghost use Rattle.script_core.specs.Keeping.{KeepsNew, AnswersKept, AnswersFront, EndsKeptFrom, EndsKept};
 ghost use Rattle.script_core.specs.declared.scripts.fault.ScriptFault.{ScriptFault};
 
 use journal_core::Keeper;

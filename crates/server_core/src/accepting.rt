@@ -54,5 +54,6 @@ pub(crate) fn accept<R: Wait + Clock>(
 /// Has the listener take no further session: who waits for one is woken, and who connects from now on
 /// is refused.
 pub(crate) fn close(listener: &TcpListener) {
+    // One that is closed already takes none either.
     let _ = libc::net::shutdown(listener.as_raw_fd(), SHUT_RDWR);
 }

@@ -32,6 +32,7 @@ fn let_go(stream: &TcpStream) {
     if stream.shutdown(Shutdown::Write).is_err() {
         return;
     }
+    // A stream that refuses the limit is read without one.
     let _ = stream.set_read_timeout(Some(Duration::from_millis(LAST_MILLIS)));
     let mut rest = Steady::new(stream);
     let mut bytes = [0; 1024];
@@ -79,6 +80,7 @@ pub(crate) fn attend<K: Keeper + Drop, R: Wait>(
     requires { IsOf desk.now pass.old }
     ensures { Attends desk.now result pass.old pass.new }
 {
+    // A stream that refuses such a setting serves as well.
     let _ = stream.set_nodelay(true);
     let _ = stream.set_read_timeout(idle);
     let _ = stream.set_write_timeout(idle);

@@ -31,7 +31,7 @@ pub struct SharedLog<'a, W> {
 }
 
 impl<'a, W: Write> SharedLog<'a, W> {
-    /// Writes a line by one call.
+    /// Writes a line by one call. A fault of the log can be told nowhere.
     fn write<R: Wait>(&self, rt: &R, line: &[u8]) {
         let _ = self.writer.lock(rt).write_all(line);
     }

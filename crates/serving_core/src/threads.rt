@@ -56,6 +56,7 @@ fn check<K: Keeper + Drop, R: Wait + Clock>(
     ensures { IsCheckpointers begun.now.value.journal desk.now result }
 {
     let mut pass = pass;
+    // Where a change could not be kept, or all turns are drawn, each session is told too.
     let _ = checkpointer(rt, desk, &mut pass, &NoGate, stop);
     pass
 }

@@ -4,15 +4,17 @@ ghost use Rattle.base_core.specs.Streams.{MayWrite};
 ghost use Rattle.reader_core.specs.Language.{Spells};
 ghost use Rattle.monitor_core.specs.Verdict.{is_change};
 ghost use Rattle.system_core.specs.Journal.{verdict_at};
-ghost use Rattle.system_core.specs.Step.{change_reply};
+ghost use Rattle.system_core.specs.Step.{Step, change_reply};
 ghost use Rattle.system_core.specs.declared.machine.event.Entry.{Entry};
+ghost use Rattle.journal_core.specs.Recorder.{with_keeper, event_of_entry};
 ghost use Rattle.script_core.specs.Replying.{TellsAsked, TellsSaid, TellsThen, TellsKept};
-ghost use Rattle.script_core.specs.Keeping.{with_keeper, AnswersKept};
+ghost use Rattle.script_core.specs.Keeping.{AnswersKept};
 
 use crate::scripts::address::read_addressed;
 use base_core::{Broken, Moment, NoGate, NoMemory, Sink};
-use journal_core::{Keeper, keep_last};
-use lexer_core::{Code, MAX_LINE, ReadFault, Token};
+use journal_core::{Keeper, enter};
+use lexer_core::{MAX_LINE, ReadFault, Token};
+use monitor_core::is_change;
 use reply_core::{ReplyBuffer, write_done, write_fault, write_reply, write_unread};
 use std::alloc::Global;
 use system_core::{Entry, Event, Reply, System};
@@ -20,10 +22,8 @@ use system_core::{Entry, Event, Reply, System};
 /// What is said of a line.
 #[derive(Drop)]
 pub enum Said {
-    /// It has this fault, at this byte.
-    Fault { code: Code, offset: usize },
-    /// It could not be read: out of memory.
-    Unread,
+    /// It has this fault, or there was no memory to read it.
+    Fault(ReadFault),
     /// It was read, and this is the reply.
     Answer(Reply),
 }
@@ -33,8 +33,8 @@ fn write_said<W: Sink>(buffer: &mut ReplyBuffer, said: Said, writer: &mut W) -> 
     ensures { MayWrite W.failed W.taken (TellsSaid said) result writer.old writer.new }
 {
     match said {
-        Said::Fault { code, offset } => write_fault(buffer, code, offset, writer),
-        Said::Unread => write_unread(writer),
+        Said::Fault(ReadFault::At { code, offset }) => write_fault(buffer, code, offset, writer),
+        Said::Fault(ReadFault::NoMemory) => write_unread(writer),
         Said::Answer(reply) => write_reply(buffer, reply, writer, &NoGate),
     }
 }
@@ -70,35 +70,20 @@ fn tell<W: Sink>(
     }
 }
 
-/// Tells that a line has this fault.
+/// Tells why a line was not read.
 // Not inlined, here and below: the large stack frame would otherwise be cleared for every INSERT.
 #[inline(never)]
 fn tell_fault<W: Sink>(
     buffer: &mut ReplyBuffer,
     system: &mut System,
     writer: &mut W,
-    code: Code,
-    offset: usize,
+    fault: ReadFault,
 ) -> Result<(), Broken>
     requires { W.failed writer.old ≡ false }
-    ensures { MayWrite W.failed W.taken (TellsThen (Said.Fault code offset) system.old system.new)
+    ensures { MayWrite W.failed W.taken (TellsThen (Said.Fault fault) system.old system.new)
         result writer.old writer.new }
 {
-    tell(buffer, system, writer, Said::Fault { code, offset })
-}
-
-/// Tells that a line was not read.
-#[inline(never)]
-fn tell_unread<W: Sink>(
-    buffer: &mut ReplyBuffer,
-    system: &mut System,
-    writer: &mut W,
-) -> Result<(), Broken>
-    requires { W.failed writer.old ≡ false }
-    ensures { MayWrite W.failed W.taken (TellsThen Said.Unread system.old system.new)
-        result writer.old writer.new }
-{
-    tell(buffer, system, writer, Said::Unread)
+    tell(buffer, system, writer, Said::Fault(fault))
 }
 
 /// Tells the reply. Where no checkpoint is active the checkpointer's step does nothing, and is left
@@ -136,8 +121,8 @@ fn tell_change<W: Sink>(
     tell_reply(buffer, system, writer, Reply::to_change(at, made))
 }
 
-/// Asks an allowed change, keeps it, and then tells what it came to. Of one that could not be kept
-/// nothing is told, and no step of the checkpointer follows.
+/// Enters an allowed change, and then tells what it came to. Of one that could not be kept nothing is
+/// told, and no step of the checkpointer follows.
 fn ask_change<W: Sink, K: Keeper>(
     buffer: &mut ReplyBuffer,
     system: &mut System,
@@ -157,20 +142,41 @@ fn ask_change<W: Sink, K: Keeper>(
         result writer.old writer.new }
 {
     let at = system.moment();
-    let made = match system.change(entry) {
-        Ok(made) => made,
-        Err(NoMemory) => return tell_change(buffer, system, writer, at, Err(NoMemory)),
-    };
-    if let Err(Broken) = keep_last(system, keeper) {
+    let Ok(made) = enter(system, keeper, entry) else {
         return Ok(());
-    }
+    };
     if !system.is_idle() {
-        return tell_change(buffer, system, writer, at, Ok(made));
+        return tell_change(buffer, system, writer, at, made);
     }
-    write_done(buffer, made, writer)
+    match made {
+        Ok(made) => write_done(buffer, made, writer),
+        Err(NoMemory) => tell_change(buffer, system, writer, at, made),
+    }
 }
 
-/// Asks any statement, and tells the reply.
+/// The reply to what is no allowed change.
+fn reply_to(system: &mut System, entry: Entry) -> Reply
+    requires { let now = system.old in
+        (verdict_at now.limits now.journal entry.user entry.statement ≡ Ok tt)
+        × (is_change entry.statement ≡ true) → ⊥ }
+    ensures { Step system.old (event_of_entry entry) result system.new }
+{
+    if is_change(&entry.statement) {
+        return system.deny(entry);
+    }
+    let Entry {
+        pass,
+        user,
+        statement,
+    } = entry;
+    system.step(Event::Say {
+        pass,
+        user,
+        statement,
+    })
+}
+
+/// Asks what is no allowed change, and tells the reply.
 #[inline(never)]
 fn ask_any<W: Sink>(
     buffer: &mut ReplyBuffer,
@@ -178,20 +184,14 @@ fn ask_any<W: Sink>(
     writer: &mut W,
     entry: Entry,
 ) -> Result<(), Broken>
-    requires { W.failed writer.old ≡ false }
+    requires writes { W.failed writer.old ≡ false }
+    requires unchanged { let now = system.old in
+        (verdict_at now.limits now.journal entry.user entry.statement ≡ Ok tt)
+        × (is_change entry.statement ≡ true) → ⊥ }
     ensures { MayWrite W.failed W.taken (TellsAsked entry system.old system.new)
         result writer.old writer.new }
 {
-    let Entry {
-        pass,
-        user,
-        statement,
-    } = entry;
-    let reply = system.step(Event::Say {
-        pass,
-        user,
-        statement,
-    });
+    let reply = reply_to(system, entry);
     tell_reply(buffer, system, writer, reply)
 }
 
@@ -244,7 +244,6 @@ pub fn answer<W: Sink, K: Keeper>(
             };
             ask(buffer, system, writer, keeper, entry)
         }
-        Err(ReadFault::At { code, offset }) => tell_fault(buffer, system, writer, code, offset),
-        Err(ReadFault::NoMemory) => tell_unread(buffer, system, writer),
+        Err(fault) => tell_fault(buffer, system, writer, fault),
     }
 }

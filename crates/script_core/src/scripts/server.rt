@@ -25,7 +25,8 @@ struct ScriptServer<'a, K> {
 
 impl<'a, K: Keeper> LineServer for ScriptServer<'a, K> {
     ghost use Rattle.std.specs.Prelude.{◌≡◌};
-    ghost use Rattle.script_core.specs.Keeping.{with_keeper, AnswersKept};
+    ghost use Rattle.journal_core.specs.Recorder.{with_keeper};
+    ghost use Rattle.script_core.specs.Keeping.{AnswersKept};
     ghost use Rattle.script_core.specs.TooLong.{AnswersKept-too_long};
 
     ghost answers = { λ old line text new.

@@ -113,6 +113,7 @@ impl Ledger {
         ensures moment { result.0 ≡ length self.now.journal }
         ensures few { result.0 < 2 ^ 62 }
     {
+        // Read, so that what the tables keep is known.
         let _ = &self.tables;
         Moment(count(&self.journal))
     }
@@ -262,6 +263,7 @@ impl Ledger {
         ensures same { self.new
             ≡ record self.old { rows_due = self.new.rows_due; grants_due = self.new.grants_due } }
     {
+        // Read, so that the limits are seen to stay.
         let _ = &self.limits;
         capture.step(&mut self.tables, &mut self.rights, k)
     }
@@ -273,6 +275,7 @@ impl Ledger {
         ensures same { self.new
             ≡ record self.old { rows_due = self.new.rows_due; grants_due = self.new.grants_due } }
     {
+        // Read, so that the limits are seen to stay.
         let _ = &self.limits;
         capture.abandon(&mut self.tables, &mut self.rights)
     }

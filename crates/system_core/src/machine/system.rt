@@ -300,9 +300,11 @@ impl System {
         reply
     }
 
-    /// Names the lack of what is not allowed, as [`refuse`](System::refuse) does, and lets go of it.
+    /// Names the lack of what the monitor does not allow, as [`step`](System::step) does, and lets go
+    /// of it. Who found by [`may_change`](System::may_change) that a change is not allowed has it
+    /// judged once more so, and not twice.
     #[inline(never)]
-    fn turn_away(&self, entry: Entry) -> Reply
+    pub fn deny(&self, entry: Entry) -> Reply
         requires { let asked = entry.statement in
             verdict_at self.now.limits self.now.journal entry.user asked ≡ Ok tt → ⊥ }
         ensures { Responds self.now entry
@@ -326,7 +328,7 @@ impl System {
                     self.look_at(entry)
                 }
             }
-            None => self.turn_away(entry),
+            None => self.deny(entry),
         }
     }
 

@@ -1,8 +1,9 @@
 use Rattle.std.proofs.Common.{refl}
 use Rattle.base_core.proofs.Fronts.{write-map}
 use Rattle.lexer_core.specs.declared.lexer.TheConstants.{MAX_LINE}
-use Rattle.script_core.specs.Addressed.{Asks, IsAddressed, IsFaulty}
-use Rattle.script_core.specs.Keeping.{with_keeper, AnswersKept}
+use Rattle.script_core.specs.Addressed.{Asks}
+use Rattle.journal_core.specs.Recorder.{with_keeper}
+use Rattle.script_core.specs.Keeping.{AnswersKept}
 use Rattle.script_core.specs.Replying.{TellsThen, TellsKept}
 use Rattle.script_core.specs.declared.scripts.answer.Said.TheVariants as says
 use Rattle.system_core.specs.World.{entry}
@@ -22,27 +23,14 @@ returns-in-Ok g c =
     (λ text. AnswersKept K.keeps K.fails K.failed old line text new) c.ask.result
     (kept-answers K.keeps K.fails K.failed old new line user asked c.requires.works asks) c.ask.ensures
 
-pub returns-in-Err-At : goal.returns-in-Err-At
-returns-in-Err-At g c =
+pub returns-in-Err : goal.returns-in-Err
+returns-in-Err g c =
     let K = g.K.Keeper in
     let k = c.args.keeper.now in
     let line = c.args.line.now in
     let old = c.args.system.now in
     let new = c.tell_fault.new.system in
-    let what = says.Fault c.in-Err-At.code c.in-Err-At.offset in
-    let fault : IsFaulty MAX_LINE line c.in-Err-At.code c.in-Err-At.offset = rw c.in-Err-At.field-0-is at c.in-Err-At.ensures.unread in
+    let what = says.Fault c.in-Err.fault in
     write-map g.W.Sink.failed g.W.Sink.taken _ _ (TellsThen what old new)
     (λ text. AnswersKept K.keeps K.fails K.failed (with_keeper old k) line text (with_keeper new k)) c.tell_fault.result
-    (then-kept K.keeps K.fails K.failed old new k line what c.requires.works (fault, refl)) c.tell_fault.ensures
-
-pub returns-in-Err-NoMemory : goal.returns-in-Err-NoMemory
-returns-in-Err-NoMemory g c =
-    let K = g.K.Keeper in
-    let k = c.args.keeper.now in
-    let line = c.args.line.now in
-    let old = c.args.system.now in
-    let new = c.tell_unread.new.system in
-    let addressed : IsAddressed MAX_LINE line = rw c.in-Err-NoMemory.field-0-is at c.in-Err-NoMemory.ensures.unread in
-    write-map g.W.Sink.failed g.W.Sink.taken _ _ (TellsThen says.Unread old new)
-    (λ text. AnswersKept K.keeps K.fails K.failed (with_keeper old k) line text (with_keeper new k)) c.tell_unread.result
-    (then-kept K.keeps K.fails K.failed old new k line says.Unread c.requires.works (addressed, refl)) c.tell_unread.ensures
+    (then-kept K.keeps K.fails K.failed old new k line what c.requires.works (c.in-Err.ensures.unread, refl)) c.tell_fault.ensures

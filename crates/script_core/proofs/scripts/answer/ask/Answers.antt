@@ -1,10 +1,13 @@
 use Rattle.std.proofs.Common.{◌∙◌, sym}
 use Rattle.std.proofs.lemmas.Bool.{false≢true}
 use Rattle.base_core.proofs.Fronts.{write-map}
-use Rattle.script_core.specs.Keeping.{with_keeper}
+use Rattle.journal_core.specs.Recorder.{with_keeper}
 use Rattle.script_core.specs.Replying.{TellsAsked, TellsKept}
 use Rattle.script_core.proofs.KeptAnswers.{any-kept}
 use Rattle.script_core.proofs.scripts.answer.ask.Goals as goal
+
+pub ask_any-requires-clause-unchanged : goal.ask_any-requires-clause-unchanged
+ask_any-requires-clause-unchanged g c = λ both. false≢true (sym c.if-may_change.false ∙ c.may_change.ensures.1 both)
 
 pub returns : goal.returns
 returns g c =

@@ -7,8 +7,8 @@ use Rattle.script_core.proofs.scripts.answer.ask_any.Goals as goal
 pub returns : goal.returns
 returns g c =
     let old = c.args.system.now in
-    let mid = c.step-reply.new.self in
+    let mid = c.reply_to-reply.new.system in
     let new = c.tell_reply.new.system in
-    let reply = c.step-reply.result in
+    let reply = c.reply_to-reply.result in
     write-map g.W.Sink.failed g.W.Sink.taken _ _ (TellsThen (says.Answer reply) mid new) (TellsAsked c.args.entry old new) c.tell_reply.result
-    (asked-then old mid new c.args.entry reply c.step-reply.ensures) c.tell_reply.ensures
+    (asked-then old mid new c.args.entry reply c.reply_to-reply.ensures) c.tell_reply.ensures

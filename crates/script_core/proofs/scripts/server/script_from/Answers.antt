@@ -3,7 +3,8 @@ use Rattle.std.proofs.KnownBytes.{Keeps-refl}
 use Rattle.lines_core.specs.declared.serving.SessionFault.TheVariants as faults
 use Rattle.script_core.specs.declared.scripts.fault.ScriptFault.TheVariants as script_faults
 use Rattle.script_core.specs.declared.scripts.server.ScriptServer.{ScriptServer}
-use Rattle.script_core.proofs.KeptLemmas.{never-both, server_ends, script_ends, journal_ends, over-or-broken, session-once, fault-once, no-journal, no-fault}
+use Rattle.journal_core.proofs.Entering.{never-both}
+use Rattle.script_core.proofs.KeptLemmas.{server_ends, script_ends, journal_ends, over-or-broken, session-once, fault-once, no-journal, no-fault}
 use Rattle.script_core.proofs.scripts.server.script_from.Goals as goal
 
 pub returns-in_default-clause-ends : goal.returns-in_default-clause-ends
