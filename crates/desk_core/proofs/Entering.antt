@@ -4,16 +4,17 @@ use Rattle.std.proofs.lemmas.List.{drop-append-le}
 use Rattle.system_core.specs.declared.machine.event.Entry.{Entry}
 use Rattle.journal_core.specs.Keeping.{KeepsAll}
 use Rattle.journal_core.specs.Recorder.{KeepsEntered, kept, lost, past}
+use Rattle.journal_core.specs.declared.keeper.Keeper.{Ghosts}
 use Rattle.journal_core.proofs.Entering.{never-both, KeepsAll-append}
 use Rattle.desk_core.specs.Guarded.{Origin}
 use Rattle.desk_core.specs.Kept.{HasKept}
 
-module _ {K : Type 0} (keeps fails : K → Entry → K → Type 0) (failed : K → Bool) where
+module _ {K : Type 0} (rules : Ghosts K) where
   -- who has kept all keeps on, or has failed
   pub keeps_on : (origin : Origin K) (journal entries more : List Entry) (old new : K) (told : Bool) → origin.front ≤ length journal → more ≡ journal ++ entries
-      → HasKept keeps failed origin journal old → KeepsEntered keeps fails failed old entries told new → HasKept keeps failed origin more new
+      → HasKept rules origin journal old → KeepsEntered rules old entries told new → HasKept rules origin more new
   keeps_on origin journal entries more old new _ low is had (kept works still all) = λ _.
-      subst (λ es. KeepsAll keeps origin.keeper es new) (sym (ap (drop origin.front) is ∙ drop-append-le origin.front journal entries low))
-      (KeepsAll-append keeps origin.keeper old new (drop origin.front journal) entries (had works) all)
-  keeps_on origin journal entries more old new _ low is had (lost works broken e one unkept) = λ n. never-both (failed new) broken n
-  keeps_on origin journal entries more old _ _ low is had (past broken) = λ n. never-both (failed old) broken n
+      subst (λ es. KeepsAll rules.keeps origin.keeper es new) (sym (ap (drop origin.front) is ∙ drop-append-le origin.front journal entries low))
+      (KeepsAll-append rules.keeps origin.keeper old new (drop origin.front journal) entries (had works) all)
+  keeps_on origin journal entries more old new _ low is had (lost works broken e one unkept) = λ n. never-both (rules.failed new) broken n
+  keeps_on origin journal entries more old _ _ low is had (past broken) = λ n. never-both (rules.failed old) broken n

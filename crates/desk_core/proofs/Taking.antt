@@ -19,6 +19,7 @@ use Rattle.system_core.specs.World.{World, IsLawfulWorld}
 use Rattle.system_core.proofs.Entered.{step_enters}
 use Rattle.journal_core.specs.Keeping.{KeepsAll}
 use Rattle.journal_core.specs.Recorder.{with_keeper, StepsKept}
+use Rattle.journal_core.specs.declared.keeper.Keeper.{Ghosts}
 use Rattle.journal_core.specs.declared.recorder.Acted.{Acted}
 use Rattle.journal_core.specs.declared.recorder.Unkept.{Unkept}
 use Rattle.journal_core.proofs.Entering.{entered-told}
@@ -31,28 +32,28 @@ use Rattle.desk_core.proofs.Entering.{keeps_on}
 gained-is : (old new entries : List Entry) → new ≡ old ++ entries → gained old new ≡ entries
 gained-is old new entries e = ap (λ log. drop (length old) log) e ∙ drop_at old entries (length old) refl
 
-module _ {K : Type 0} (keeps fails : K → Entry → K → Type 0) (failed : K → Bool) where
+module _ {K : Type 0} (rules : Ghosts K) where
   -- a step between worlds that are called otherwise
   pub steps_at : (old old' new new' : World) (event event' : Event) (acted : Acted) (k k' : K) → old ≡ old' → event ≡ event' → new' ≡ new
-      → StepsKept keeps fails failed (with_keeper old k) event acted.reply acted.told (with_keeper new k')
-      → StepsKept keeps fails failed (with_keeper old' k) event' acted.reply acted.told (with_keeper new' k')
+      → StepsKept rules (with_keeper old k) event acted.reply acted.told (with_keeper new k')
+      → StepsKept rules (with_keeper old' k) event' acted.reply acted.told (with_keeper new' k')
   steps_at old old' new new' event event' acted k k' was is last steps =
-      subst (λ (t : World × Event × World). StepsKept keeps fails failed (with_keeper t.0 k) t.1 acted.reply acted.told (with_keeper t.2 k')) (λ i. (was i, is i, sym last i)) steps
+      subst (λ (t : World × Event × World). StepsKept rules (with_keeper t.0 k) t.1 acted.reply acted.told (with_keeper t.2 k')) (λ i. (was i, is i, sym last i)) steps
 
   -- what the core stands for stays in order
   pub act_stands : (old new : World) (event : Event) (acted : Acted) (origin : Origin K) (k k' : K)
-      → (old.chunk ≡ origin.chunk) × IsFull old.limits × (origin.front ≤ length old.journal) × HasKept keeps failed origin old.journal k
-      → StepsKept keeps fails failed (with_keeper old k) event acted.reply acted.told (with_keeper new k')
-      → (new.chunk ≡ origin.chunk) × IsFull new.limits × (origin.front ≤ length new.journal) × HasKept keeps failed origin new.journal k'
+      → (old.chunk ≡ origin.chunk) × IsFull old.limits × (origin.front ≤ length old.journal) × HasKept rules origin old.journal k
+      → StepsKept rules (with_keeper old k) event acted.reply acted.told (with_keeper new k')
+      → (new.chunk ≡ origin.chunk) × IsFull new.limits × (origin.front ≤ length new.journal) × HasKept rules origin new.journal k'
   act_stands old new event acted origin k k' (is, full, low, had) steps = let m = step_enters old new event acted.reply steps.step in (
     m.chunk ∙ is,
     subst (λ (l : Limits). IsFull l) (sym m.limits) full,
     (let long = ap length m.journal ∙ length-append old.journal (entered event acted.reply) in omega arith),
-    keeps_on keeps fails failed origin old.journal (entered event acted.reply) new.journal k k' acted.told low m.journal had steps.keeping,
+    keeps_on rules origin old.journal (entered event acted.reply) new.journal k k' acted.told low m.journal had steps.keeping,
   )
 
   module _ (desk : DeskLock K) (ask : Ask) (answer : Acted) (old new : DeskPass K)
-      (t : Turned {O = CoreState K} (λ c. c.world.journal) asked_by (λ c. c.world.begun) basis (Acts keeps fails failed) desk ask answer old new) where
+      (t : Turned {O = CoreState K} (λ c. c.world.journal) asked_by (λ c. c.world.begun) basis (Acts rules) desk ask answer old new) where
     pub turn_taken : (old.drawn < new.drawn) × (new.drawn ≤ 2 ^ 62) → new.turns ≡ old.turns + 1 → Took desk ask answer.reply old new
     turn_taken drawn counted =
         let m = step_enters t.before.world t.after.world (event_of old.number ask) answer.reply t.acted.steps.step in
@@ -73,15 +74,15 @@ module _ {K : Type 0} (keeps fails : K → Entry → K → Type 0) (failed : K �
         }
 
     -- what may be told is kept
-    pub turn_kept : answer.told ≡ true → IsKept keeps failed (origin_of desk) new.seen
+    pub turn_kept : answer.told ≡ true → IsKept rules (origin_of desk) new.seen
     turn_kept told =
-        let works = (entered-told keeps fails failed t.before.keeper t.after.keeper (entered (event_of old.number ask) answer.reply) answer.told t.acted.steps.keeping told).0 in
+        let works = (entered-told rules t.before.keeper t.after.keeper (entered (event_of old.number ask) answer.reply) answer.told t.acted.steps.keeping told).0 in
         let keeper = ap (λ (o : Origin K). o.keeper) t.acted.origin ∙ ap (λ (s : Snapshot (Origin K)). s.value.keeper) t.fixed_is in
         let front = ap (λ (o : Origin K). o.front) t.acted.origin ∙ ap (λ (s : Snapshot (Origin K)). s.value.front) t.fixed_is in
         record {
           keeper = t.after.keeper;
           works = works;
-          kept = subst (λ (z : K × ℕ × List Entry). KeepsAll keeps z.0 (drop z.1 z.2) t.after.keeper) (λ i. (keeper i, front i, sym t.seen_after i)) (t.acted.has_kept works);
+          kept = subst (λ (z : K × ℕ × List Entry). KeepsAll rules.keeps z.0 (drop z.1 z.2) t.after.keeper) (λ i. (keeper i, front i, sym t.seen_after i)) (t.acted.has_kept works);
         }
 
   -- the core that comes out of the turn lock

@@ -12,6 +12,7 @@ use Rattle.system_core.specs.declared.machine.event.Event.TheVariants as events
 use Rattle.system_core.specs.World.{IsLawfulWorld}
 use Rattle.system_core.proofs.Entered.{step_enters, one_at_most}
 use Rattle.journal_core.specs.Recorder.{with_keeper, StepsKept}
+use Rattle.journal_core.specs.declared.keeper.Keeper.{Ghosts}
 use Rattle.journal_core.specs.declared.recorder.Acted.{Acted}
 use Rattle.desk_core.specs.Guarded.{Origin, snapshot, CoreState}
 use Rattle.desk_core.specs.Kept.{HasKept}
@@ -26,7 +27,7 @@ event_of pass asks.Abandon = events.Abandon
 abbrev pub basis : {K : Type 0} → CoreState K → Snapshot (Origin K)
 basis c = snapshot (record c.origin { chunk = c.world.chunk })
 
-module _ {K : Type 0} (keeps fails : K → Entry → K → Type 0) (failed : K → Bool) where
+module _ {K : Type 0} (rules : Ghosts K) where
   -- A step of the machine from a lawful world with full limits, asked through a pass. What it entered
   -- is kept before the reply may be told.
   pub record Acts
@@ -34,10 +35,10 @@ module _ {K : Type 0} (keeps fails : K → Entry → K → Type 0) (failed : K �
       : Type 0 where
     pub lawful : IsLawfulWorld old.world
     pub full : IsFull old.world.limits
-    pub steps : StepsKept keeps fails failed (with_keeper old.world old.keeper)
+    pub steps : StepsKept rules (with_keeper old.world old.keeper)
         (event_of pass ask) answer.reply answer.told (with_keeper new.world new.keeper)
     pub origin : new.origin ≡ old.origin
-    pub has_kept : HasKept keeps failed new.origin new.world.journal new.keeper
+    pub has_kept : HasKept rules new.origin new.world.journal new.keeper
 
   -- it enters one entry of the pass at most, no checkpoint is unbegun, and the basis stays
   pub acts_grow :

@@ -101,7 +101,7 @@ impl<K: Keeper + Drop> Desk<K> {
         ensures same { IsSamePass pass.old pass.new }
         ensures answered { IfOk result (λ reply. Answered self.now ask reply pass.old pass.new) }
         ensures kept { OnOk result (pass.old.turns < pass.new.turns
-            → IsKept K.keeps K.failed (origin_of self.now) pass.new.seen) }
+            → IsKept K.Keeper (origin_of self.now) pass.new.seen) }
         ensures withheld { OnErr result ((reply : Reply)
             × Took self.now ask reply pass.old pass.new) }
     {
@@ -131,7 +131,7 @@ impl<K: Keeper + Drop> Desk<K> {
         ensures answered { IfOk result (λ reply. Answered self.now
             (asks.Say (record { user = user; statement = statement })) reply pass.old pass.new) }
         ensures kept { OnOk result (pass.old.turns < pass.new.turns
-            → IsKept K.keeps K.failed (origin_of self.now) pass.new.seen) }
+            → IsKept K.Keeper (origin_of self.now) pass.new.seen) }
         ensures withheld { OnErr result ((reply : Reply)
             × Took self.now
             (asks.Say (record { user = user; statement = statement })) reply pass.old pass.new) }
@@ -145,7 +145,7 @@ impl<K: Keeper + Drop> Desk<K> {
         ensures same { IsSamePass pass.old pass.new }
         ensures answered { IfOk result (λ reply. Answered self.now asks.Step reply pass.old pass.new) }
         ensures kept { OnOk result (pass.old.turns < pass.new.turns
-            → IsKept K.keeps K.failed (origin_of self.now) pass.new.seen) }
+            → IsKept K.Keeper (origin_of self.now) pass.new.seen) }
         ensures withheld { OnErr result ((reply : Reply)
             × Took self.now asks.Step reply pass.old pass.new) }
     {
@@ -159,7 +159,7 @@ impl<K: Keeper + Drop> Desk<K> {
         ensures answered { IfOk result
             (λ reply. Answered self.now asks.Abandon reply pass.old pass.new) }
         ensures kept { OnOk result (pass.old.turns < pass.new.turns
-            → IsKept K.keeps K.failed (origin_of self.now) pass.new.seen) }
+            → IsKept K.Keeper (origin_of self.now) pass.new.seen) }
         ensures withheld { OnErr result ((reply : Reply)
             × Took self.now asks.Abandon reply pass.old pass.new) }
     {
@@ -198,7 +198,7 @@ impl<K: Keeper + Drop> Desk<K> {
         ensures all { OnOk result (AreAll self passes.items) }
         ensures ok { IfOk result (λ b. Ended self passes.items b.0) }
         ensures kept { IfOk result
-            (λ b. HasKept K.keeps K.failed (origin_of self) b.0.journal b.1) }
+            (λ b. HasKept K.Keeper (origin_of self) b.0.journal b.1) }
         ensures missing { OnErr result (¬ AreAll self passes.items) }
         ensures err { IfErr result (λ e. (e.0 ≡ self) × (e.1 ≡ passes)) }
     {

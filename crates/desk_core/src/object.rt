@@ -146,7 +146,7 @@ impl<K: Keeper> Model for Core<K> {
     ghost invariant = { λ c. (c.system.value.chunk ≡ c.basis.chunk)
         × IsFull c.system.value.limits
         × (c.basis.front ≤ length c.system.value.journal)
-        × HasKept K.keeps K.failed c.basis c.system.value.journal c.keeper };
+        × HasKept K.Keeper c.basis c.system.value.journal c.keeper };
 }
 
 impl<K: Keeper + Drop> Core<K> {
@@ -194,7 +194,7 @@ impl<K: Keeper + Drop> Object for Core<K> {
 
     ghost fixed = { basis };
 
-    ghost acts = { Acts K.keeps K.fails K.failed };
+    ghost acts = { Acts K.Keeper };
 
     fn act(&mut self, pass: u64, ask: Ask) -> Answer {
         // The journal says that the world is lawful.
@@ -208,5 +208,5 @@ impl<K: Keeper + Drop> Object for Core<K> {
         Snapshot::of(&self.basis)
     }
 
-    ghost grows = { acts_grow K.keeps K.fails K.failed };
+    ghost grows = { acts_grow K.Keeper };
 }

@@ -18,6 +18,7 @@ use Rattle.system_core.specs.Replies.{is_done}
 use Rattle.system_core.specs.Step.{Step, Advances, GivesUp, CarriesOut, change_reply}
 use Rattle.system_core.specs.World.{World, ActiveCheckpoint, entry}
 use Rattle.system_core.proofs.Entered.{step_enters}
+use Rattle.journal_core.specs.declared.keeper.Keeper.{Ghosts}
 use Rattle.journal_core.specs.Keeping.{KeepsAll}
 use Rattle.journal_core.specs.Recorder.{IsSpelledEvent, KeepsEntered, kept, lost, past}
 
@@ -72,22 +73,22 @@ module _ {K : Type 0} (keeps : K → Entry → K → Type 0) where
   KeepsAll-append old mid new [] ys p q = subst (λ k. KeepsAll keeps k ys new) p q
   KeepsAll-append old mid new (x ∷ xs) ys (next, h, t) q = (next, h, KeepsAll-append next mid new xs ys t q)
 
-module _ {K : Type 0} (keeps fails : K → Entry → K → Type 0) (failed : K → Bool) where
+module _ {K : Type 0} (rules : Ghosts K) where
   -- one entry, as it was kept or not
-  pub one_kept : (old new : K) (e : Entry) (r : Result (Unit {0}) Broken) (told : Bool) → told ≡ is_ok r → failed old ≡ false → MatchResult r (λ _. failed new ≡ false) (λ _. failed new ≡ true)
-      → OnOk r (keeps old e new) → OnErr r (fails old e new) → KeepsEntered keeps fails failed old (e ∷ []) told new
-  one_kept old new e (Ok u) told is works n h x = subst (λ t. KeepsEntered keeps fails failed old (e ∷ []) t new) (sym is) (kept works n (new, h, refl))
-  one_kept old new e (Err b) told is works n x h = subst (λ t. KeepsEntered keeps fails failed old (e ∷ []) t new) (sym is) (lost works n e refl h)
+  pub one_kept : (old new : K) (e : Entry) (r : Result (Unit {0}) Broken) (told : Bool) → told ≡ is_ok r → rules.failed old ≡ false → MatchResult r (λ _. rules.failed new ≡ false) (λ _. rules.failed new ≡ true)
+      → OnOk r (rules.keeps old e new) → OnErr r (rules.fails old e new) → KeepsEntered rules old (e ∷ []) told new
+  one_kept old new e (Ok u) told is works n h x = subst (λ t. KeepsEntered rules old (e ∷ []) t new) (sym is) (kept works n (new, h, refl))
+  one_kept old new e (Err b) told is works n x h = subst (λ t. KeepsEntered rules old (e ∷ []) t new) (sym is) (lost works n e refl h)
 
   -- where the reply may be told, the keeper has not failed, and has kept all
-  pub entered-told : (old new : K) (entries : List Entry) (told : Bool) → KeepsEntered keeps fails failed old entries told new → told ≡ true → (failed new ≡ false) × KeepsAll keeps old entries new
+  pub entered-told : (old new : K) (entries : List Entry) (told : Bool) → KeepsEntered rules old entries told new → told ≡ true → (rules.failed new ≡ false) × KeepsAll rules.keeps old entries new
   entered-told old new entries _ (kept works still all) t = (still, all)
   entered-told old new entries _ (lost works broken e one unkept) t = absurd (false≢true t)
   entered-told old _ entries _ (past broken) t = absurd (false≢true t)
 
   -- where it may not be told of a keeper that had not failed, there is one entry, which could not be kept
-  pub entered-lost : (old new : K) (entries : List Entry) (told : Bool) → KeepsEntered keeps fails failed old entries told new → told ≡ false → failed old ≡ false
-      → (e : Entry) × (entries ≡ e ∷ []) × (failed new ≡ true) × fails old e new
+  pub entered-lost : (old new : K) (entries : List Entry) (told : Bool) → KeepsEntered rules old entries told new → told ≡ false → rules.failed old ≡ false
+      → (e : Entry) × (entries ≡ e ∷ []) × (rules.failed new ≡ true) × rules.fails old e new
   entered-lost old new entries _ (kept works still all) t f = absurd (false≢true (sym t))
   entered-lost old new entries _ (lost works broken e one unkept) t f = (e, one, broken, unkept)
   entered-lost old _ entries _ (past broken) t f = absurd (false≢true (sym f ∙ broken))

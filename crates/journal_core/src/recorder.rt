@@ -48,7 +48,7 @@ fn keep_last<K: Keeper>(system: &System, keeper: &mut K) -> Result<(), Broken>
 /// reply may not be told; then the step is done, and nothing more is kept.
 pub fn act<K: Keeper>(system: &mut System, keeper: &mut K, event: Event) -> Acted
     requires spelled { IsSpelledEvent event }
-    ensures { StepsKept K.keeps K.fails K.failed (with_keeper system.old keeper.old) event
+    ensures { StepsKept K.Keeper (with_keeper system.old keeper.old) event
         result.reply result.told (with_keeper system.new keeper.new) }
 {
     let reply = system.step(event);
@@ -76,10 +76,10 @@ pub fn enter<K: Keeper>(
     requires allowed { let now = system.old in
         verdict_at now.limits now.journal entry.user entry.statement ≡ Ok tt }
     requires change { is_change entry.statement ≡ true }
-    ensures told { IfOk result (λ made. StepsKept K.keeps K.fails K.failed
+    ensures told { IfOk result (λ made. StepsKept K.Keeper
         (with_keeper system.old keeper.old) (event_of_entry entry)
         (change_reply (moment_of system.old) made) true (with_keeper system.new keeper.new)) }
-    ensures unkept { OnErr result (StepsKept K.keeps K.fails K.failed
+    ensures unkept { OnErr result (StepsKept K.Keeper
         (with_keeper system.old keeper.old) (event_of_entry entry)
         (change_reply (moment_of system.old) (Ok (next_moment system.old))) false
         (with_keeper system.new keeper.new)) }

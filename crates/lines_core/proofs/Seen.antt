@@ -3,7 +3,7 @@ use Rattle.std.proofs.Common.{◌≡◌, ℕ, Bool, List, [], ◌∷◌, Option,
 use Rattle.std.specs.Prelude.{Result, Ok, Err}
 use Rattle.std.specs.Str.Lines.{lines}
 use Rattle.lines_core.specs.Lines.{whole_lines}
-use Rattle.lines_core.specs.Serving.{AnswersAll, AnswersInput, BreaksInput, WasOpen, Ends}
+use Rattle.lines_core.specs.Serving.{AnswersAll, AnswersInput, BreaksInput, WasOpen, Ends, Traffic}
 use Rattle.lines_core.specs.declared.serving.SessionFault.{SessionFault}
 use Rattle.lines_core.specs.declared.serving.SessionFault.TheVariants as faults
 
@@ -16,15 +16,15 @@ module _ {X Y : Type 0} (R : X → List ℕ → List ℕ → X → Type 0) (S : 
       let rest = all-seen mid y ls more one.1 t in
       ((first, f mid, more, one.0, rest.0, e), rest.1)
 
-  pub input-seen : (lines_of : List ℕ → List (List ℕ)) (x y : X) (left left' taken taken' : Option (List ℕ)) (bytes : List ℕ)
-      → Inv x → AnswersInput R lines_of x y left left' taken taken' bytes → AnswersInput S lines_of (f x) (f y) left left' taken taken' bytes × Inv y
-  input-seen lines_of x y left left' taken taken' bytes i r =
+  pub input-seen : (lines_of : List ℕ → List (List ℕ)) (x y : X) (traffic : Traffic) (bytes : List ℕ)
+      → Inv x → AnswersInput R lines_of x y traffic bytes → AnswersInput S lines_of (f x) (f y) traffic bytes × Inv y
+  input-seen lines_of x y traffic bytes i r =
       let all = all-seen x y (lines_of bytes) r.text i r.answered in
       (record { text = r.text; bounded = r.bounded; answered = all.0; read = r.read; wrote = r.wrote }, all.1)
 
-  pub broken-seen : (x y : X) (left left' taken taken' : Option (List ℕ))
-      → Inv x → BreaksInput R x y left left' taken taken' → BreaksInput S (f x) (f y) left left' taken taken' × Inv y
-  broken-seen x y left left' taken taken' i r =
+  pub broken-seen : (x y : X) (traffic : Traffic)
+      → Inv x → BreaksInput R x y traffic → BreaksInput S (f x) (f y) traffic × Inv y
+  broken-seen x y traffic i r =
       let all = all-seen x y (lines r.done) r.text i r.answered in
       (record { done = r.done; undone = r.undone; text = r.text; line_end = r.line_end; answered = all.0; read = r.read; wrote = r.wrote }, all.1)
 
@@ -43,15 +43,15 @@ module _ {X Y : Type 0} (R : X → List ℕ → List ℕ → X → Type 0) (S : 
           answered_last = behind.0;
         }
 
-    pub ends-seen : (r : Result (Unit {0}) SessionFault) (x y : X) (left left' taken taken' : Option (List ℕ))
-        → Inv x → Ends R over r x y left left' taken taken' → Ends S over' r (f x) (f y) left left' taken taken' × Inv y
-    ends-seen (Ok u) x y left left' taken taken' i (bytes, inl h) =
-        let run = input-seen lines x y left left' taken taken' bytes i h.0 in ((bytes, inl (run.0, h.1, open-seen x y bytes i h.2)), run.1)
-    ends-seen (Ok u) x y left left' taken taken' i (bytes, inr h) =
-        let run = input-seen whole_lines x y left left' taken taken' bytes i h.0 in ((bytes, inr (run.0, overs y ∙ h.1)), run.1)
-    ends-seen (Err faults.Read) x y left left' taken taken' i (bytes, h) =
-        let run = input-seen whole_lines x y left left' taken taken' bytes i h in ((bytes, run.0), run.1)
-    ends-seen (Err faults.Bound) x y left left' taken taken' i (bytes, h, n) =
-        let run = input-seen whole_lines x y left left' taken taken' bytes i h in ((bytes, run.0, n), run.1)
-    ends-seen (Err faults.Write) x y left left' taken taken' i h = broken-seen x y left left' taken taken' i h
-    ends-seen (Err faults.NoMemory) x y left left' taken taken' i h = ((ap f h.0, h.1, h.2), subst Inv (sym h.0) i)
+    pub ends-seen : (r : Result (Unit {0}) SessionFault) (x y : X) (traffic : Traffic)
+        → Inv x → Ends R over r x y traffic → Ends S over' r (f x) (f y) traffic × Inv y
+    ends-seen (Ok u) x y traffic i (bytes, inl h) =
+        let run = input-seen lines x y traffic bytes i h.0 in ((bytes, inl (run.0, h.1, open-seen x y bytes i h.2)), run.1)
+    ends-seen (Ok u) x y traffic i (bytes, inr h) =
+        let run = input-seen whole_lines x y traffic bytes i h.0 in ((bytes, inr (run.0, overs y ∙ h.1)), run.1)
+    ends-seen (Err faults.Read) x y traffic i (bytes, h) =
+        let run = input-seen whole_lines x y traffic bytes i h in ((bytes, run.0), run.1)
+    ends-seen (Err faults.Bound) x y traffic i (bytes, h, n) =
+        let run = input-seen whole_lines x y traffic bytes i h in ((bytes, run.0, n), run.1)
+    ends-seen (Err faults.Write) x y traffic i h = broken-seen x y traffic i h
+    ends-seen (Err faults.NoMemory) x y traffic i h = ((ap f h.0, h.1, h.2), subst Inv (sym h.0) i)

@@ -6,7 +6,7 @@ use Rattle.std.proofs.lemmas.List.{map-append, length-append}
 use Rattle.std.proofs.KnownBytes.{Appends-trans, Appends-kept, Consumes-trans, Consumes-kept, Consumes-nil}
 use Rattle.lines_core.specs.declared.line.TheConstants.{KEPT_BYTES, LONGEST_LINE}
 use Rattle.lines_core.specs.Lines.{Cut, NoFeed, whole_lines}
-use Rattle.lines_core.specs.Serving.{AnswersAll, AnswersPiece, BreaksPiece, AnswersInput, BreaksInput, HasServed, WasOpen}
+use Rattle.lines_core.specs.Serving.{AnswersAll, AnswersPiece, BreaksPiece, AnswersInput, BreaksInput, HasServed, WasOpen, traffic_of}
 use Rattle.lines_core.proofs.LineLemmas.{Cut-append, lines-Cut, whole_lines-Cut, last_line}
 use Rattle.lines_core.proofs.AnswerLemmas.{AnswersAll-append, AnswersAll-one, R-kept}
 use Rattle.base_core.specs.Streams.{Writes, WritesFrontOf}
@@ -18,7 +18,7 @@ at_end left0 left1 left2 bytes p q = subst (λ b. Consumes left0 left2 b) (appen
 
 module _ {X : Type 0} (R : X → List ℕ → List ℕ → X → Type 0)
     (too_long : (old new : X) (line other text : List ℕ) → LONGEST_LINE < length line → LONGEST_LINE < length other → R old line text new → R old other text new) where
-  pub Serving-none : (start : X) (left taken : Option (List ℕ)) → HasServed R [] start start (2 ^ 32) left left taken taken
+  pub Serving-none : (start : X) (left taken : Option (List ℕ)) → HasServed R [] start start (2 ^ 32) (traffic_of left left taken taken)
   Serving-none start left taken = record { bytes = []; count = refl; read = Consumes-nil left; fed = Feeds-none R too_long [] [] start taken tt refl }
 
   -- the answers to the lines before, and then to those of the piece
@@ -30,9 +30,9 @@ module _ {X : Type 0} (R : X → List ℕ → List ℕ → X → Type 0)
 
   -- A piece was read and fed.
   pub Serving-more : (kept line : List ℕ) (start mid new : X) (piece : List ℕ) (unread : ℕ) (left0 left1 left2 taken0 taken1 taken2 : Option (List ℕ))
-      → HasServed R kept start mid unread left0 left1 taken0 taken1 → Consumes left1 left2 piece → length piece ≤ unread
+      → HasServed R kept start mid unread (traffic_of left0 left1 taken0 taken1) → Consumes left1 left2 piece → length piece ≤ unread
       → ((rest : List ℕ) → NoFeed rest → kept ≡ take KEPT_BYTES rest → AnswersPiece R rest piece line mid new taken1 taken2)
-      → HasServed R line start new (unread - length piece) left0 left2 taken0 taken2
+      → HasServed R line start new (unread - length piece) (traffic_of left0 left2 taken0 taken2)
   Serving-more kept line start mid new piece unread left0 left1 left2 taken0 taken1 taken2 s read fits feeds =
       let next = feeds s.fed.now s.fed.cut.open_rest s.fed.kept_is in record {
         bytes = s.bytes ++ piece;
@@ -51,13 +51,13 @@ module _ {X : Type 0} (R : X → List ℕ → List ℕ → X → Type 0)
 
   -- The end of the input, at which no byte was read.
   pub Serving-end : (kept : List ℕ) (start world : X) (unread : ℕ) (left0 left1 left2 taken0 taken1 : Option (List ℕ))
-      → HasServed R kept start world unread left0 left1 taken0 taken1 → Consumes left1 left2 [] → HasServed R kept start world unread left0 left2 taken0 taken1
+      → HasServed R kept start world unread (traffic_of left0 left1 taken0 taken1) → Consumes left1 left2 [] → HasServed R kept start world unread (traffic_of left0 left2 taken0 taken1)
   Serving-end kept start world unread left0 left1 left2 taken0 taken1 s read =
       record { bytes = s.bytes; count = s.count; read = at_end left0 left1 left2 s.bytes s.read read; fed = s.fed }
 
   -- The whole lines are answered, wherever the reading ends.
   pub Run-whole : (kept : List ℕ) (start world : X) (unread : ℕ) (left0 left1 left2 taken0 taken1 : Option (List ℕ))
-      → (s : HasServed R kept start world unread left0 left1 taken0 taken1) → Keeps left1 left2 → AnswersInput R whole_lines start world left0 left2 taken0 taken1 s.bytes
+      → (s : HasServed R kept start world unread (traffic_of left0 left1 taken0 taken1)) → Keeps left1 left2 → AnswersInput R whole_lines start world (traffic_of left0 left2 taken0 taken1) s.bytes
   Run-whole kept start world unread left0 left1 left2 taken0 taken1 s keeps = record {
     text = s.fed.text;
     bounded = omega (arith, s.count);
@@ -78,8 +78,8 @@ module _ {X : Type 0} (R : X → List ℕ → List ℕ → X → Type 0)
 
   -- At the end of the input the last line, if it has a byte, is answered too.
   pub Run-last : (kept : List ℕ) (start mid new : X) (unread : ℕ) (left0 left1 left2 taken0 taken1 taken2 : Option (List ℕ))
-      → (s : HasServed R kept start mid unread left0 left1 taken0 taken1) → Consumes left1 left2 [] → 0 < length kept → Writes (λ text. R mid kept text new) taken1 taken2
-      → AnswersInput R lines start new left0 left2 taken0 taken2 s.bytes
+      → (s : HasServed R kept start mid unread (traffic_of left0 left1 taken0 taken1)) → Consumes left1 left2 [] → 0 < length kept → Writes (λ text. R mid kept text new) taken1 taken2
+      → AnswersInput R lines start new (traffic_of left0 left2 taken0 taken2) s.bytes
   Run-last kept start mid new unread left0 left1 left2 taken0 taken1 taken2 s read some last = record {
     text = s.fed.text ++ last.text;
     bounded = omega (arith, s.count);
@@ -89,8 +89,8 @@ module _ {X : Type 0} (R : X → List ℕ → List ℕ → X → Type 0)
   }
 
   pub Run-nothing : (kept : List ℕ) (start mid new : X) (unread : ℕ) (left0 left1 left2 taken0 taken1 taken2 : Option (List ℕ))
-      → (s : HasServed R kept start mid unread left0 left1 taken0 taken1) → Consumes left1 left2 [] → length kept ≡ 0 → new ≡ mid → Keeps taken1 taken2
-      → AnswersInput R lines start new left0 left2 taken0 taken2 s.bytes
+      → (s : HasServed R kept start mid unread (traffic_of left0 left1 taken0 taken1)) → Consumes left1 left2 [] → length kept ≡ 0 → new ≡ mid → Keeps taken1 taken2
+      → AnswersInput R lines start new (traffic_of left0 left2 taken0 taken2) s.bytes
   Run-nothing kept start mid new unread left0 left1 left2 taken0 taken1 taken2 s read none same keeps = record {
     text = s.fed.text;
     bounded = omega (arith, s.count);
@@ -110,7 +110,7 @@ module _ {X : Type 0} (R : X → List ℕ → List ℕ → X → Type 0)
 
   -- the server was not over behind the whole lines
   was_open : (over : X → Bool) (kept : List ℕ) (start mid new : X) (more : List ℕ) (unread : ℕ) (left0 left1 taken0 taken1 : Option (List ℕ))
-      → (s : HasServed R kept start mid unread left0 left1 taken0 taken1) → (over start ≡ false → over mid ≡ false) → AnswersAll R mid (last_line s.fed.now) more new
+      → (s : HasServed R kept start mid unread (traffic_of left0 left1 taken0 taken1)) → (over start ≡ false → over mid ≡ false) → AnswersAll R mid (last_line s.fed.now) more new
       → WasOpen R over start new s.bytes
   was_open over kept start mid new more unread left0 left1 taken0 taken1 s h q =
       let whole = whole_lines-Cut s.bytes s.fed.parts s.fed.now s.fed.cut in record {
@@ -125,13 +125,13 @@ module _ {X : Type 0} (R : X → List ℕ → List ℕ → X → Type 0)
       }
 
   pub Open-last : (over : X → Bool) (kept : List ℕ) (start mid new : X) (unread : ℕ) (left0 left1 taken0 taken1 taken2 : Option (List ℕ))
-      → (s : HasServed R kept start mid unread left0 left1 taken0 taken1) → (over start ≡ false → over mid ≡ false) → 0 < length kept → Writes (λ text. R mid kept text new) taken1 taken2
+      → (s : HasServed R kept start mid unread (traffic_of left0 left1 taken0 taken1)) → (over start ≡ false → over mid ≡ false) → 0 < length kept → Writes (λ text. R mid kept text new) taken1 taken2
       → WasOpen R over start new s.bytes
   Open-last over kept start mid new unread left0 left1 taken0 taken1 taken2 s h some last =
       was_open over kept start mid new last.text unread left0 left1 taken0 taken1 s h (last_answers mid new last.text s.fed.now kept s.fed.kept_is some last.is)
 
   pub Open-nothing : (over : X → Bool) (kept : List ℕ) (start mid new : X) (unread : ℕ) (left0 left1 taken0 taken1 : Option (List ℕ))
-      → (s : HasServed R kept start mid unread left0 left1 taken0 taken1) → (over start ≡ false → over mid ≡ false) → length kept ≡ 0 → new ≡ mid
+      → (s : HasServed R kept start mid unread (traffic_of left0 left1 taken0 taken1)) → (over start ≡ false → over mid ≡ false) → length kept ≡ 0 → new ≡ mid
       → WasOpen R over start new s.bytes
   Open-nothing over kept start mid new unread left0 left1 taken0 taken1 s h none same =
       was_open over kept start mid new [] unread left0 left1 taken0 taken1 s h
@@ -139,8 +139,8 @@ module _ {X : Type 0} (R : X → List ℕ → List ℕ → X → Type 0)
 
   -- The writer failed at the last line.
   pub BrokenRun-last : (kept : List ℕ) (start mid new : X) (unread : ℕ) (left0 left1 left2 taken0 taken1 taken2 : Option (List ℕ))
-      → (s : HasServed R kept start mid unread left0 left1 taken0 taken1) → Consumes left1 left2 [] → IsAtEnd left2 → 0 < length kept → WritesFrontOf (λ text. R mid kept text new) taken1 taken2
-      → BreaksInput R start new left0 left2 taken0 taken2
+      → (s : HasServed R kept start mid unread (traffic_of left0 left1 taken0 taken1)) → Consumes left1 left2 [] → IsAtEnd left2 → 0 < length kept → WritesFrontOf (λ text. R mid kept text new) taken1 taken2
+      → BreaksInput R start new (traffic_of left0 left2 taken0 taken2)
   BrokenRun-last kept start mid new unread left0 left1 left2 taken0 taken1 taken2 s read end some last = record {
     done = s.bytes;
     undone = [];
@@ -153,9 +153,9 @@ module _ {X : Type 0} (R : X → List ℕ → List ℕ → X → Type 0)
 
   -- The writer failed at a line of the piece.
   pub BrokenRun-piece : (kept : List ℕ) (start mid new : X) (piece : List ℕ) (unread : ℕ) (left0 left1 left2 taken0 taken1 taken2 : Option (List ℕ))
-      → (s : HasServed R kept start mid unread left0 left1 taken0 taken1) → Consumes left1 left2 piece
+      → (s : HasServed R kept start mid unread (traffic_of left0 left1 taken0 taken1)) → Consumes left1 left2 piece
       → ((rest : List ℕ) → NoFeed rest → kept ≡ take KEPT_BYTES rest → BreaksPiece R rest piece mid new taken1 taken2)
-      → BreaksInput R start new left0 left2 taken0 taken2
+      → BreaksInput R start new (traffic_of left0 left2 taken0 taken2)
   BrokenRun-piece kept start mid new piece unread left0 left1 left2 taken0 taken1 taken2 s read breaks =
       let broken = breaks s.fed.now s.fed.cut.open_rest s.fed.kept_is in
       let cut = Cut-append s.bytes broken.done s.fed.parts broken.parts s.fed.now [] s.fed.cut broken.cut in

@@ -7,7 +7,7 @@ use Rattle.std.proofs.KnownBytes.{Keeps-refl}
 use Rattle.std.proofs.lemmas.List.{length-append}
 use Rattle.lines_core.specs.declared.line.TheConstants.{KEPT_BYTES, LONGEST_LINE}
 use Rattle.lines_core.specs.Lines.{Cut, NoFeed, whole_lines, IsWhole, IsCutOff}
-use Rattle.lines_core.specs.Serving.{AnswersInput, WasOpen, HasServed, Ends, EndsTold, EndsWhole, ending_at, IsEndingAt}
+use Rattle.lines_core.specs.Serving.{AnswersInput, WasOpen, HasServed, Ends, EndsTold, EndsWhole, ending_at, IsEndingAt, traffic_of, Traffic}
 use Rattle.lines_core.specs.declared.serving.Ending.{Ending}
 use Rattle.lines_core.specs.declared.serving.Ending.TheVariants as endings
 use Rattle.lines_core.specs.declared.serving.WholeEnding.{WholeEnding}
@@ -58,9 +58,9 @@ is_cut_off bytes parts b bs cut = record {
 
 -- ---- by what is kept of the last line
 pub told_at : {X : Type 0} (R : X → List ℕ → List ℕ → X → Type 0) (over : X → Bool) (kept : List ℕ) (start mid new : X) (unread : ℕ) (left0 left1 left2 taken0 taken1 taken2 : Option (List ℕ))
-    → (s : HasServed R kept start mid unread left0 left1 taken0 taken1)
-    → AnswersInput R lines start new left0 left2 taken0 taken2 s.bytes → IsAtEnd left2 → WasOpen R over start new s.bytes
-    → EndsTold R over (Ok (ending_at kept)) start new left0 left2 taken0 taken2
+    → (s : HasServed R kept start mid unread (traffic_of left0 left1 taken0 taken1))
+    → AnswersInput R lines start new (traffic_of left0 left2 taken0 taken2) s.bytes → IsAtEnd left2 → WasOpen R over start new s.bytes
+    → EndsTold R over (Ok (ending_at kept)) start new (traffic_of left0 left2 taken0 taken2)
 told_at R over [] start mid new unread left0 left1 left2 taken0 taken1 taken2 s run end open_then =
     let cut : Cut s.bytes s.fed.parts [] = subst (λ now. Cut s.bytes s.fed.parts now) (no_rest s.fed.now [] s.fed.kept_is refl) s.fed.cut in
     (s.bytes, run, end, open_then, is_whole s.bytes s.fed.parts cut, all_whole s.bytes s.fed.parts cut)
@@ -75,8 +75,8 @@ told_at R over (k ∷ ks) start mid new unread left0 left1 left2 taken0 taken1 t
 pub whole_at : {X : Type 0} (R : X → List ℕ → List ℕ → X → Type 0)
     (too_long : (old new : X) (line other text : List ℕ) → LONGEST_LINE < length line → LONGEST_LINE < length other → R old line text new → R old other text new)
     (over : X → Bool) (ending : WholeEnding) (kept : List ℕ) (start new : X) (unread : ℕ) (left0 left1 taken0 taken1 : Option (List ℕ))
-    → HasServed R kept start new unread left0 left1 taken0 taken1 → IsAtEnd left1 → (over start ≡ false → over new ≡ false) → IsEndingAt ending kept
-    → EndsWhole R over (Ok ending) start new left0 left1 taken0 taken1
+    → HasServed R kept start new unread (traffic_of left0 left1 taken0 taken1) → IsAtEnd left1 → (over start ≡ false → over new ≡ false) → IsEndingAt ending kept
+    → EndsWhole R over (Ok ending) start new (traffic_of left0 left1 taken0 taken1)
 whole_at R too_long over whole_endings.Whole kept start new unread left0 left1 taken0 taken1 s end open_then none =
     let nothing : s.fed.now ≡ [] = no_rest s.fed.now kept s.fed.kept_is (ap length none) in
     let cut : Cut s.bytes s.fed.parts [] = subst (λ now. Cut s.bytes s.fed.parts now) nothing s.fed.cut in
@@ -92,8 +92,8 @@ whole_at R too_long over whole_endings.Over kept start new unread left0 left1 ta
 
 -- ---- what is told may be left
 
-pub told_ends : {X : Type 0} (R : X → List ℕ → List ℕ → X → Type 0) (over : X → Bool) (ending : Ending) (old new : X) (left left' taken taken' : Option (List ℕ))
-    → EndsTold R over (Ok ending) old new left left' taken taken' → Ends R over (Ok tt) old new left left' taken taken'
-told_ends R over endings.Whole old new left left' taken taken' (bytes, run, end, open_then, whole, same) = (bytes, inl (run, end, open_then))
-told_ends R over endings.CutOff old new left left' taken taken' (bytes, run, end, open_then, cut) = (bytes, inl (run, end, open_then))
-told_ends R over endings.Over old new left left' taken taken' (bytes, run, over_then) = (bytes, inr (run, over_then))
+pub told_ends : {X : Type 0} (R : X → List ℕ → List ℕ → X → Type 0) (over : X → Bool) (ending : Ending) (old new : X) (traffic : Traffic)
+    → EndsTold R over (Ok ending) old new traffic → Ends R over (Ok tt) old new traffic
+told_ends R over endings.Whole old new traffic (bytes, run, end, open_then, whole, same) = (bytes, inl (run, end, open_then))
+told_ends R over endings.CutOff old new traffic (bytes, run, end, open_then, cut) = (bytes, inl (run, end, open_then))
+told_ends R over endings.Over old new traffic (bytes, run, over_then) = (bytes, inr (run, over_then))

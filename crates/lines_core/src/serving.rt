@@ -5,7 +5,7 @@ ghost use Rattle.std.specs.Str.Lines.{strip_carriage_return};
 ghost use Rattle.base_core.specs.Streams.{Writes, WritesFrontOf, MayWrite};
 ghost use Rattle.lines_core.specs.declared.line.TheConstants.{KEPT_BYTES, LONGEST_LINE};
 ghost use Rattle.lines_core.specs.Lines.{NoFeed};
-ghost use Rattle.lines_core.specs.Serving.{AnswersPiece, BreaksPiece, EndsReading, Ends, EndsTold, EndsWhole, ending_at, IsEndingAt};
+ghost use Rattle.lines_core.specs.Serving.{AnswersPiece, BreaksPiece, EndsReading, Ends, EndsTold, EndsWhole, ending_at, IsEndingAt, traffic_of};
 
 use crate::line::{Line, without_carriage_return};
 use base_core::{Broken, Sink, Source};
@@ -226,7 +226,8 @@ fn answer_whole_lines<D: LineServer, S: Source, W: Sink>(
     ensures flushed { W.flushed writer.old ≡ true → W.failed writer.new ≡ false
         → W.flushed writer.new ≡ true }
     ensures ends { EndsReading D.answers D.over result line.new server.old server.new
-        (S.left reader.old) (S.left reader.new) (W.taken writer.old) (W.taken writer.new) }
+        (traffic_of (S.left reader.old) (S.left reader.new)
+        (W.taken writer.old) (W.taken writer.new)) }
 {
     let mut unread = MOST_BYTES;
     while unread > 0 {
@@ -267,7 +268,8 @@ fn serve_lines<D: LineServer, S: Source, W: Sink>(
     ensures flushed { W.flushed writer.old ≡ true → W.failed writer.new ≡ false
         → W.flushed writer.new ≡ true }
     ensures ends { EndsTold D.answers D.over result server.old server.new
-        (S.left reader.old) (S.left reader.new) (W.taken writer.old) (W.taken writer.new) }
+        (traffic_of (S.left reader.old) (S.left reader.new)
+        (W.taken writer.old) (W.taken writer.new)) }
 {
     match answer_whole_lines(server, line, buffer, reader, writer) {
         Ok(Stop::Over) => Ok(Ending::Over),
@@ -321,7 +323,8 @@ pub fn serve<D: LineServer, S: Source, W: Sink>(
     ensures not_over { W.failed writer.new ≡ false
         → OnErr result (D.over server.old ≡ false → D.over server.new ≡ false) }
     ensures ends { Ends D.answers D.over result server.old server.new
-        (S.left reader.old) (S.left reader.new) (W.taken writer.old) (W.taken writer.new) }
+        (traffic_of (S.left reader.old) (S.left reader.new)
+        (W.taken writer.old) (W.taken writer.new)) }
 {
     match serve_told(alloc, server, reader, writer) {
         Ok(_) => Ok(()),
@@ -345,7 +348,8 @@ pub fn serve_told<D: LineServer, S: Source, W: Sink>(
     ensures not_over { W.failed writer.new ≡ false
         → OnErr result (D.over server.old ≡ false → D.over server.new ≡ false) }
     ensures ends { EndsTold D.answers D.over result server.old server.new
-        (S.left reader.old) (S.left reader.new) (W.taken writer.old) (W.taken writer.new) }
+        (traffic_of (S.left reader.old) (S.left reader.new)
+        (W.taken writer.old) (W.taken writer.new)) }
 {
     let Ok(mut buffer) = new_buffer(alloc) else {
         return Err(SessionFault::NoMemory);
@@ -377,7 +381,8 @@ pub fn serve_whole<D: LineServer, S: Source, W: Sink>(
     ensures not_over { W.failed writer.new ≡ false
         → OnErr result (D.over server.old ≡ false → D.over server.new ≡ false) }
     ensures ends { EndsWhole D.answers D.over result server.old server.new
-        (S.left reader.old) (S.left reader.new) (W.taken writer.old) (W.taken writer.new) }
+        (traffic_of (S.left reader.old) (S.left reader.new)
+        (W.taken writer.old) (W.taken writer.new)) }
 {
     let Ok(mut buffer) = new_buffer(alloc) else {
         return Err(SessionFault::NoMemory);

@@ -6,12 +6,13 @@ use Rattle.std.proofs.lemmas.List.Elements.{All-from_recursion}
 use Rattle.base_core.specs.declared.limits.Limits.{Limits}
 use Rattle.printer_core.specs.Printing.{journal_line}
 use Rattle.grants_core.proofs.OwnersLemmas.{AllByRecursion-append}
+use Rattle.lines_core.specs.Serving.{Traffic}
 use Rattle.lines_core.specs.Lines.{IsWhole}
 use Rattle.lines_core.specs.declared.line.TheConstants.{LONGEST_LINE}
 use Rattle.system_core.specs.World.{World, opening, AreSound}
 use Rattle.system_core.specs.declared.machine.event.Entry.{Entry}
 use Rattle.journal_core.specs.Text.{journal_lines, journal_text, WasRead}
-use Rattle.journal_core.specs.Keeping.{KeepsLine, FailsLine}
+use Rattle.journal_core.specs.Keeping.{line_rules}
 use Rattle.journal_core.proofs.Kept.{kept-text}
 use Rattle.journal_core.specs.Recorder.{with_keeper}
 use Rattle.script_core.specs.Keeping.{EndsKept}
@@ -38,18 +39,18 @@ opening_said chunk limits =
     (record { journal = tt; checkpoints = sound }, tt, refl)
 
 module _ {W : Type 0} (taken handed_on : W → Option (List ℕ)) (failed : W → Bool) where
-  pub kept_again : (chunk : ℕ) (new : World) (sink sink' : W) (left left' out out' : Option (List ℕ)) → failed sink ≡ false
-      → EndsKept (KeepsLine taken handed_on) (FailsLine taken) failed chunk (Ok new) sink sink' left left' out out'
+  pub kept_again : (chunk : ℕ) (new : World) (sink sink' : W) (traffic : Traffic) → failed sink ≡ false
+      → EndsKept (line_rules taken handed_on failed) chunk (Ok new) sink sink' traffic
       → CanBeLoaded new.limits (taken sink) (taken sink') new.journal
-  kept_again chunk new sink sink' left left' out out' works ends =
+  kept_again chunk new sink sink' traffic works ends =
       let start = opening chunk ends.0 in
-      let said : Said ends.0 new = ends-said (KeepsLine taken handed_on) (FailsLine taken) failed ends.0 (Ok tt) (with_keeper start sink) (with_keeper new sink') left left' out out' (opening_said chunk ends.0) ends.2.1 in
+      let said : Said ends.0 new = ends-said (line_rules taken handed_on failed) ends.0 (Ok tt) (with_keeper start sink) (with_keeper new sink') traffic (opening_said chunk ends.0) ends.2.1 in
       let read = were_read new.journal said.1 in
       let as_lines : lines_unmarked (lines (journal_text new.journal)) ≡ journal_lines new.journal = ap lines_unmarked (lines_are new.journal read) ∙ lines_unmarked_is new.journal read in
       let loaded : Loads new.limits [] (journal_lines new.journal) (map without_pass new.journal) = loads new.limits [] new.journal said.0.journal read in
       record {
         text = journal_text new.journal;
-        wrote = kept-text taken handed_on sink sink' new.journal (journal-kept (KeepsLine taken handed_on) (FailsLine taken) failed chunk new sink sink' left left' out out' works ends);
+        wrote = kept-text taken handed_on sink sink' new.journal (journal-kept (line_rules taken handed_on failed) chunk new sink sink' traffic works ends);
         whole = whole_text new.journal;
         loads = subst (λ (ls : List (List ℕ)). Loads new.limits [] ls new.journal) (sym as_lines) (subst (λ (j : List Entry). Loads new.limits [] (journal_lines new.journal) j) (no_pass new.journal said.1) loaded);
       }

@@ -5,7 +5,7 @@ use Rattle.std.specs.Str.Lines.{lines}
 use Rattle.base_core.specs.Full.{IsFull}
 use Rattle.base_core.specs.declared.limits.Limits.{Limits}
 use Rattle.lines_core.specs.Lines.{whole_lines}
-use Rattle.lines_core.specs.Serving.{AnswersAll, EndsTold}
+use Rattle.lines_core.specs.Serving.{AnswersAll, EndsTold, traffic_of}
 use Rattle.lines_core.specs.declared.line.TheConstants.{LONGEST_LINE}
 use Rattle.lines_core.specs.declared.serving.Ending.{Ending}
 use Rattle.lines_core.specs.declared.serving.Ending.TheVariants as endings
@@ -36,7 +36,7 @@ module _ (chunk : ℕ) (limits : Limits) (full : IsFull limits) (left left' : Op
   }
 
   -- by the lines of an input, of which each has its line feed
-  ends_whole : (stop : Option Undone) (w : World) → EndsTold GoesOn has_stopped (Ok endings.Whole) start (record { world = w; stop = stop }) left left' taken taken' → EndsLoad chunk (outcome_of w stop) left left'
+  ends_whole : (stop : Option Undone) (w : World) → EndsTold GoesOn has_stopped (Ok endings.Whole) start (record { world = w; stop = stop }) (traffic_of left left' taken taken') → EndsLoad chunk (outcome_of w stop) left left'
   ends_whole None w (bytes, run, end, open_then, whole, same) =
       let c = comes (lines bytes) (opening chunk limits) run.text (record { world = w; stop = None }) run.answered in
       (limits, bytes, full, run.read, end, whole, c.0, c.1)
@@ -45,7 +45,7 @@ module _ (chunk : ℕ) (limits : Limits) (full : IsFull limits) (left left' : Op
       (limits, bytes, full, run.read, stops_at (lines_unmarked (whole_lines bytes)) why w (subst (λ (ls : List (List ℕ)). Stops (opening chunk limits) (lines_unmarked ls) why w) same c))
 
   -- before its end, where a line stopped it
-  ends_over : (stop : Option Undone) (w : World) → EndsTold GoesOn has_stopped (Ok endings.Over) start (record { world = w; stop = stop }) left left' taken taken' → EndsLoad chunk (outcome_of w stop) left left'
+  ends_over : (stop : Option Undone) (w : World) → EndsTold GoesOn has_stopped (Ok endings.Over) start (record { world = w; stop = stop }) (traffic_of left left' taken taken') → EndsLoad chunk (outcome_of w stop) left left'
   ends_over None w (bytes, run, over) = let never : false ≡ true = over in cc
   ends_over (Some why) w (bytes, run, over) =
       (limits, bytes, full, run.read, stops_at (lines_unmarked (whole_lines bytes)) why w (comes (whole_lines bytes) (opening chunk limits) run.text (record { world = w; stop = Some why }) run.answered))
@@ -65,7 +65,7 @@ module _ (chunk : ℕ) (limits : Limits) (full : IsFull limits) (left left' : Op
       subst (λ (q : LoaderState). number_of q.world q.stop ≡ length w.journal + 1) (sym behind.1) (number_by w (line_at w.journal line) mid.stop mid.world answered.1)
   next_number (Some why) w line text new open_then a = cc
 
-  ends_cut : (new : LoaderState) → EndsTold GoesOn has_stopped (Ok endings.CutOff) start new left left' taken taken' → EndsLoad chunk (Err (faults.CutOff (number_of new.world new.stop))) left left'
+  ends_cut : (new : LoaderState) → EndsTold GoesOn has_stopped (Ok endings.CutOff) start new (traffic_of left left' taken taken') → EndsLoad chunk (Err (faults.CutOff (number_of new.world new.stop))) left left'
   ends_cut new (bytes, run, end, was, cut) =
       let between = was.between in
       let last : was.last ≡ cut.last ∷ [] = same_behind (whole_lines bytes) was.last (cut.last ∷ []) (sym was.lines_are ∙ cut.lines_are) in
@@ -94,25 +94,25 @@ module _ (chunk : ℕ) (limits : Limits) (full : IsFull limits) (left left' : Op
   few_of : (ls : List (List ℕ)) (text : List ℕ) (new : LoaderState) → AnswersAll GoesOn start ls text new → length new.world.journal ≤ limits.changes
   few_of ls text new a = few_by (lines_unmarked ls) new.stop new.world (comes ls (opening chunk limits) text new a)
 
-  few : (ending : Ending) (new : LoaderState) → EndsTold GoesOn has_stopped (Ok ending) start new left left' taken taken' → length new.world.journal ≤ limits.changes
+  few : (ending : Ending) (new : LoaderState) → EndsTold GoesOn has_stopped (Ok ending) start new (traffic_of left left' taken taken') → length new.world.journal ≤ limits.changes
   few endings.Whole new (bytes, run, end, was, whole, same) = few_of (lines bytes) run.text new run.answered
   few endings.CutOff new (bytes, run, end, was, cut) = few_of (lines bytes) run.text new run.answered
   few endings.Over new (bytes, run, over) = few_of (whole_lines bytes) run.text new run.answered
 
   -- ---- the same from a loader that is at the opening world
-  module _ (ending : Ending) (old new : LoaderState) (here : old.world ≡ opening chunk limits) (none : old.stop ≡ None) (ends : EndsTold GoesOn has_stopped (Ok ending) old new left left' taken taken') where
-    from_opening : EndsTold GoesOn has_stopped (Ok ending) start new left left' taken taken'
+  module _ (ending : Ending) (old new : LoaderState) (here : old.world ≡ opening chunk limits) (none : old.stop ≡ None) (ends : EndsTold GoesOn has_stopped (Ok ending) old new (traffic_of left left' taken taken')) where
+    from_opening : EndsTold GoesOn has_stopped (Ok ending) start new (traffic_of left left' taken taken')
     from_opening =
-        let From : World → Option Undone → Type 0 = λ (w : World) (stop : Option Undone). EndsTold GoesOn has_stopped (Ok ending) (record { world = w; stop = stop }) new left left' taken taken' in
+        let From : World → Option Undone → Type 0 = λ (w : World) (stop : Option Undone). EndsTold GoesOn has_stopped (Ok ending) (record { world = w; stop = stop }) new (traffic_of left left' taken taken') in
         subst (λ (stop : Option Undone). From (opening chunk limits) stop) none (subst (λ (w : World). From w old.stop) here ends)
 
     pub number_is_small : length new.world.journal + 1 < 2 ^ 64
     number_is_small = omega (arith, full.changes, few ending new from_opening)
 
-  by_ending : (ending : Ending) (new : LoaderState) → EndsTold GoesOn has_stopped (Ok ending) start new left left' taken taken' → EndsLoad chunk (outcome_at ending new.world new.stop) left left'
+  by_ending : (ending : Ending) (new : LoaderState) → EndsTold GoesOn has_stopped (Ok ending) start new (traffic_of left left' taken taken') → EndsLoad chunk (outcome_at ending new.world new.stop) left left'
   by_ending endings.Whole new ends = ends_whole new.stop new.world ends
   by_ending endings.CutOff new ends = ends_cut new ends
   by_ending endings.Over new ends = ends_over new.stop new.world ends
 
-  pub ends_so : (ending : Ending) (old new : LoaderState) → old.world ≡ opening chunk limits → old.stop ≡ None → EndsTold GoesOn has_stopped (Ok ending) old new left left' taken taken' → EndsLoad chunk (outcome_at ending new.world new.stop) left left'
+  pub ends_so : (ending : Ending) (old new : LoaderState) → old.world ≡ opening chunk limits → old.stop ≡ None → EndsTold GoesOn has_stopped (Ok ending) old new (traffic_of left left' taken taken') → EndsLoad chunk (outcome_at ending new.world new.stop) left left'
   ends_so ending old new here none ends = by_ending ending new (from_opening ending old new here none ends)

@@ -5,13 +5,14 @@ use Rattle.std.specs.List.{AllByRecursion}
 use Rattle.std.specs.Str.Lines.{lines, strip_carriage_return}
 use Rattle.std.proofs.lemmas.List.{map-append}
 use Rattle.base_core.specs.declared.limits.Limits.{Limits}
+use Rattle.lines_core.specs.Serving.{Traffic}
 use Rattle.lines_core.specs.Lines.{Cut, NoFeed, IsWhole}
 use Rattle.lines_core.proofs.LineLemmas.{Cut-nil, Cut-append, Cut-open, Cut-feed, lines-Cut, last_line}
 use Rattle.system_core.specs.Journal.{IsLawfulFrom, IsLawful}
 use Rattle.system_core.specs.World.{World, IsLawfulWorld}
 use Rattle.system_core.specs.declared.machine.event.Entry.{Entry}
 use Rattle.journal_core.specs.Text.{journal_lines, journal_text, WasRead}
-use Rattle.journal_core.specs.Keeping.{KeepsAll, KeepsLine, FailsLine}
+use Rattle.journal_core.specs.Keeping.{KeepsAll, KeepsLine, line_rules}
 use Rattle.journal_core.proofs.Kept.{kept-text}
 use Rattle.journal_core.specs.Recorder.{with_keeper}
 use Rattle.script_core.specs.Keeping.{EndsKeptFrom}
@@ -134,13 +135,13 @@ module _ {W : Type 0} (taken handed_on : W → Option (List ℕ)) where
   said_behind (e ∷ front) rest said = said_behind front rest said.1
 
   module _ (failed : W → Bool) where
-    pub script_on : (start new : World) (old : List ℕ) (sink sink' : W) (left left' out out' : Option (List ℕ)) → failed sink ≡ false → IsLawfulWorld start → IsWhole old → Loads start.limits [] (lines_unmarked (lines old)) start.journal
-        → EndsKeptFrom (KeepsLine taken handed_on) (FailsLine taken) failed start (Ok new) sink sink' left left' out out'
+    pub script_on : (start new : World) (old : List ℕ) (sink sink' : W) (traffic : Traffic) → failed sink ≡ false → IsLawfulWorld start → IsWhole old → Loads start.limits [] (lines_unmarked (lines old)) start.journal
+        → EndsKeptFrom (line_rules taken handed_on failed) start (Ok new) sink sink' traffic
         → CanBeLoadedBehind start.limits old (taken sink) (taken sink') new.journal
-    script_on start new old sink sink' left left' out out' works lawful whole first ends =
+    script_on start new old sink sink' traffic works lawful whole first ends =
         let began : Said start.limits start = (lawful, loaded_said start.limits [] start.journal (lines_unmarked (lines old)) first tt, refl) in
-        let said : Said start.limits new = ends-said (KeepsLine taken handed_on) (FailsLine taken) failed start.limits (Ok tt) (with_keeper start sink) (with_keeper new sink') left left' out out' began ends.1 in
-        let k = grown-kept (KeepsLine taken handed_on) (FailsLine taken) failed start new sink sink' left left' out out' works ends in
+        let said : Said start.limits new = ends-said (line_rules taken handed_on failed) start.limits (Ok tt) (with_keeper start sink) (with_keeper new sink') traffic began ends.1 in
+        let k = grown-kept (line_rules taken handed_on failed) start new sink sink' traffic works ends in
         let rest = k.entries in
         let all : AllByRecursion WasSaid (start.journal ++ rest) = subst (AllByRecursion WasSaid) k.journal said.1 in
         let lawful_then : IsLawful start.limits (start.journal ++ rest) = subst (λ (l : Limits). IsLawful l (start.journal ++ rest)) said.2 (subst (IsLawful new.limits) k.journal said.0.journal) in

@@ -7,7 +7,7 @@ use Rattle.std.specs.Str.Lines.{lines, lines_of_parts, strip_carriage_return}
 use Rattle.std.specs.Io.KnownBytes.{Consumes, IsAtEnd}
 use Rattle.grants_core.proofs.OwnersLemmas.{AllByRecursion-append}
 use Rattle.lines_core.specs.Lines.{whole_lines, whole_of_parts, IsCutOff}
-use Rattle.lines_core.specs.Serving.{AnswersInput, Ends}
+use Rattle.lines_core.specs.Serving.{AnswersInput, Ends, traffic_of}
 use Rattle.lines_core.specs.declared.line.TheConstants.{KEPT_BYTES}
 use Rattle.lines_core.specs.declared.serving.SessionFault.{SessionFault}
 use Rattle.lines_core.specs.declared.serving.SessionFault.TheVariants as sessions
@@ -137,10 +137,10 @@ module _ (manner : Manner) (begins : World) (p : ReplayerState) (left left' : Op
       let f = whole-front (slice_split (λ b. b == 10) bytes) in
       omega (arith, few, split-count bytes, whole-count (slice_split (λ b. b == 10) bytes), ap length f.1, length-append (whole_lines bytes) f.0, f.2)
 
-  whole_come : (bytes : List ℕ) (taken taken' : Option (List ℕ)) → AnswersInput ReplaysLine whole_lines start p left left' taken taken' bytes → ComesTo p.stop start (lines_unmarked (whole_lines bytes)) p
+  whole_come : (bytes : List ℕ) (taken taken' : Option (List ℕ)) → AnswersInput ReplaysLine whole_lines start p (traffic_of left left' taken taken') bytes → ComesTo p.stop start (lines_unmarked (whole_lines bytes)) p
   whole_come bytes taken taken' run = come (whole_lines bytes) start p run.text run.answered refl (omega (arith, few_whole bytes run.bounded))
 
-  all_come : (bytes : List ℕ) (taken taken' : Option (List ℕ)) → AnswersInput ReplaysLine lines start p left left' taken taken' bytes → ComesTo p.stop start (lines_unmarked (lines bytes)) p
+  all_come : (bytes : List ℕ) (taken taken' : Option (List ℕ)) → AnswersInput ReplaysLine lines start p (traffic_of left left' taken taken') bytes → ComesTo p.stop start (lines_unmarked (lines bytes)) p
   all_come bytes taken taken' run = come (lines bytes) start p run.text run.answered refl (omega (arith, few_lines bytes run.bounded))
 
   journal_read : manner.form ≡ forms.Journal → (bytes : List ℕ) → lines_read manner.form bytes ≡ whole_lines bytes
@@ -163,7 +163,7 @@ module _ (manner : Manner) (begins : World) (p : ReplayerState) (left left' : Op
       over_at p.stop None bytes (whole_lines bytes) f.0 over run.read (script_read form bytes ∙ f.1) (whole_come bytes None None run)
   ends_ok forms.Script form (Some front) none = absurd none
 
-  from_fault : (fault : SessionFault) (r : ReplayFault) → Ends ReplaysLine has_ended (Err fault) start p left left' None None → IsReadingFault fault r → EndsAs (Err r)
+  from_fault : (fault : SessionFault) (r : ReplayFault) → Ends ReplaysLine has_ended (Err fault) start p (traffic_of left left' None None) → IsReadingFault fault r → EndsAs (Err r)
   from_fault sessions.Read r ends is = subst (λ (f : ReplayFault). EndsAs (Err f)) (sym is) (ends.0, ends.1.read)
   from_fault sessions.Bound r ends is = subst (λ (f : ReplayFault). EndsAs (Err f)) (sym is) (ends.0, ends.1.read, ends.2)
   from_fault sessions.NoMemory r ends is = subst (λ (f : ReplayFault). EndsAs (Err f)) (sym is) ends.1

@@ -13,7 +13,7 @@ use Rattle.lexer_core.specs.declared.lexer.TheConstants.{MAX_LINE}
 use Rattle.lexer_core.specs.declared.fault.Code.TheVariants as codes
 use Rattle.reader_core.specs.declared.statement.Statement.{Statement}
 use Rattle.grants_core.proofs.OwnersLemmas.{AllByRecursion-append}
-use Rattle.lines_core.specs.Serving.{Ends}
+use Rattle.lines_core.specs.Serving.{Ends, Traffic}
 use Rattle.lines_core.specs.declared.serving.SessionFault.{SessionFault}
 use Rattle.lines_core.proofs.Seen.{ends-seen}
 use Rattle.system_core.specs.Entering.{entered}
@@ -27,6 +27,7 @@ use Rattle.system_core.proofs.Lawful.{step-lawful}
 use Rattle.script_core.specs.Addressed.{colon, spoken_by, addressed_by, addressed_up_to, Asks}
 use Rattle.script_core.specs.Script.{AnswersLine, faulty, said, unread, Follows, stepped, gave_up}
 use Rattle.journal_core.specs.Recorder.{WithKeeper}
+use Rattle.journal_core.specs.declared.keeper.Keeper.{Ghosts}
 use Rattle.script_core.specs.Keeping.{AnswersKept, over, answered, withheld, has_failed}
 use Rattle.journal_core.specs.Text.{WasRead}
 use Rattle.load_core.specs.Loading.{without_pass}
@@ -105,18 +106,18 @@ follows-said limits old new text s (gave_up mid refusal reply step r abandon tel
       n.limits ∙ m.limits ∙ s.2,
     )
 
-module _ {K : Type 0} (keeps fails : K → Entry → K → Type 0) (failed : K → Bool) where
-  kept-said : (limits : Limits) (old new : WithKeeper K) (line text : List ℕ) → Said limits old.world → AnswersKept keeps fails failed old line text new → Said limits new.world
+module _ {K : Type 0} (rules : Ghosts K) where
+  kept-said : (limits : Limits) (old new : WithKeeper K) (line text : List ℕ) → Said limits old.world → AnswersKept rules old line text new → Said limits new.world
   kept-said limits old _ line _ s (over o) = s
   kept-said limits old new line text s (answered o n a kept) = follows-said limits a.mid new.world a.second (line-said limits old.world a.mid line a.first s a.answered) a.followed
   kept-said limits old new line _ s (withheld {text} o n a lost) = line-said limits old.world new.world line text s a
 
   -- **what is entered by lines that are answered was read from them**
-  pub ends-said : (limits : Limits) (ending : Result (Unit {0}) SessionFault) (old new : WithKeeper K) (left left' taken taken' : Option (List ℕ))
-      → Said limits old.world → Ends (AnswersKept keeps fails failed) (has_failed failed) ending old new left left' taken taken' → Said limits new.world
-  ends-said limits ending old new left left' taken taken' s e =
-      (ends-seen (AnswersKept keeps fails failed) (AnswersKept keeps fails failed) (λ x. x) (λ (x : WithKeeper K). Said limits x.world)
-      (λ x y line text i r. (r, kept-said limits x y line text i r)) (has_failed failed) (has_failed failed) (λ x. refl) ending old new left left' taken taken' s e).1
+  pub ends-said : (limits : Limits) (ending : Result (Unit {0}) SessionFault) (old new : WithKeeper K) (traffic : Traffic)
+      → Said limits old.world → Ends (AnswersKept rules) (has_failed rules) ending old new traffic → Said limits new.world
+  ends-said limits ending old new traffic s e =
+      (ends-seen (AnswersKept rules) (AnswersKept rules) (λ x. x) (λ (x : WithKeeper K). Said limits x.world)
+      (λ x y line text i r. (r, kept-said limits x y line text i r)) (has_failed rules) (has_failed rules) (λ x. refl) ending old new traffic s e).1
 
 -- an entry through pass 0 is what a line says of it
 pub no_pass : (journal : List Entry) → AllByRecursion WasSaid journal → map without_pass journal ≡ journal

@@ -2,7 +2,7 @@
 use Rattle.std.specs.Prelude.{◌≡◌, ◌⊎◌, ℕ, ◌+◌, ◌<◌, ◌^◌, ◌==◌, Bool, true, false, if◌then◌else◌, List, [], ◌∷◌, ◌++◌, length, Option, Some, None, Result, Ok, Err, refl}
 use Rattle.std.specs.Option.{is_some}
 use Rattle.std.proofs.Common.{arith, sym, subst, Vec, Global}
-use Rattle.lines_core.specs.Serving.{Ends, EndsWhole}
+use Rattle.lines_core.specs.Serving.{Ends, EndsWhole, traffic_of}
 use Rattle.lines_core.specs.declared.line.TheConstants.{LONGEST_LINE}
 use Rattle.lines_core.specs.declared.serving.SessionFault.{SessionFault}
 use Rattle.lines_core.specs.declared.serving.SessionFault.TheVariants as sessions
@@ -121,17 +121,20 @@ abbrev pub ReadsLines : Form → Result (Option (Vec ℕ Global)) SessionFault
     → ReplayerState → ReplayerState
     → Option (List ℕ) → Option (List ℕ) → Type 0
 ReadsLines forms.Journal (Ok None) old new left left' =
-    EndsWhole ReplaysLine has_ended (Ok whole_endings.Whole) old new left left' None None
-    ⊎ EndsWhole ReplaysLine has_ended (Ok whole_endings.Over) old new left left' None None
+    EndsWhole ReplaysLine has_ended (Ok whole_endings.Whole) old new
+    (traffic_of left left' None None)
+    ⊎ EndsWhole ReplaysLine has_ended (Ok whole_endings.Over) old new
+    (traffic_of left left' None None)
 ReadsLines forms.Journal (Ok (Some front)) old new left left' =
-    EndsWhole ReplaysLine has_ended (Ok (whole_endings.CutOff front)) old new left left' None None
+    EndsWhole ReplaysLine has_ended (Ok (whole_endings.CutOff front)) old new
+    (traffic_of left left' None None)
 ReadsLines forms.Journal (Err fault) old new left left' =
-    EndsWhole ReplaysLine has_ended (Err fault) old new left left' None None
+    EndsWhole ReplaysLine has_ended (Err fault) old new (traffic_of left left' None None)
 ReadsLines forms.Script (Ok None) old new left left' =
-    Ends ReplaysLine has_ended (Ok tt) old new left left' None None
+    Ends ReplaysLine has_ended (Ok tt) old new (traffic_of left left' None None)
 ReadsLines forms.Script (Ok (Some front)) old new left left' = ⊥
 ReadsLines forms.Script (Err fault) old new left left' =
-    Ends ReplaysLine has_ended (Err fault) old new left left' None None
+    Ends ReplaysLine has_ended (Err fault) old new (traffic_of left left' None None)
 
 -- the fault of a reader; nothing is written that could fail
 abbrev pub IsReadingFault : SessionFault → ReplayFault → Type 0

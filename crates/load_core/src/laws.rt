@@ -3,12 +3,13 @@ ghost use Rattle.std.specs.Prelude.{◌≡◌, ◌++◌, ℕ, List, [], length, 
 ghost use Rattle.std.specs.List.{AllByRecursion};
 ghost use Rattle.std.specs.Str.Lines.{lines};
 ghost use Rattle.base_core.specs.declared.limits.Limits.{Limits};
+ghost use Rattle.lines_core.specs.Serving.{Traffic};
 ghost use Rattle.system_core.specs.Journal.{IsLawful, IsLawfulFrom};
 ghost use Rattle.system_core.specs.declared.machine.event.Entry.{Entry};
 ghost use Rattle.journal_core.specs.Text.{journal_lines, journal_text, WasRead};
 ghost use Rattle.system_core.specs.World.{World, IsLawfulWorld};
 ghost use Rattle.lines_core.specs.Lines.{IsWhole};
-ghost use Rattle.journal_core.specs.Keeping.{KeepsAll, KeepsLine, FailsLine};
+ghost use Rattle.journal_core.specs.Keeping.{KeepsAll, KeepsLine, line_rules};
 ghost use Rattle.script_core.specs.Keeping.{EndsKept, EndsKeptFrom};
 ghost use Rattle.load_core.specs.Kept.{CanBeLoaded, CanBeLoadedBehind};
 ghost use Rattle.load_core.specs.Loading.{Loads, SaysChange, IsUndone, lines_unmarked, without_pass};
@@ -33,10 +34,10 @@ pub fn journal_is_loaded()
 /// A script whose changes are kept as lines is as good as its file: what the sink took is a text of
 /// whole lines, which load the journal that the script left, whatever else its lines said.
 pub fn script_is_kept<W: Sink>()
-    ensures { (chunk : ℕ) (new : World) (sink sink' : W) (left left' taken taken' : Option (List ℕ))
+    ensures { (chunk : ℕ) (new : World) (sink sink' : W) (traffic : Traffic)
         → W.failed sink ≡ false
-        → EndsKept (KeepsLine W.taken W.handed_on) (FailsLine W.taken) W.failed chunk (Ok new)
-        sink sink' left left' taken taken'
+        → EndsKept (line_rules W.taken W.handed_on W.failed) chunk (Ok new)
+        sink sink' traffic
         → CanBeLoaded new.limits (W.taken sink) (W.taken sink') new.journal }
 {}
 
@@ -81,12 +82,12 @@ pub fn kept_goes_on<W: Sink>()
 /// behind the file.
 pub fn gone_on_script_is_kept<W: Sink>()
     ensures { (start new : World) (old : List ℕ) (sink sink' : W)
-        (left left' taken taken' : Option (List ℕ))
+        (traffic : Traffic)
         → W.failed sink ≡ false
         → IsLawfulWorld start
         → IsWhole old
         → Loads start.limits [] (lines_unmarked (lines old)) start.journal
-        → EndsKeptFrom (KeepsLine W.taken W.handed_on) (FailsLine W.taken) W.failed start (Ok new)
-        sink sink' left left' taken taken'
+        → EndsKeptFrom (line_rules W.taken W.handed_on W.failed) start (Ok new)
+        sink sink' traffic
         → CanBeLoadedBehind start.limits old (W.taken sink) (W.taken sink') new.journal }
 {}

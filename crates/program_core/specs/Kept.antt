@@ -1,9 +1,10 @@
 -- What lines or sessions leave, and where their changes are kept.
 use Rattle.std.specs.Prelude.{◌≡◌, ℕ, Bool, true, false, List, Option, None, Some, Ok, length}
 use Rattle.std.specs.Option.{is_some}
+use Rattle.lines_core.specs.Serving.{Traffic}
 use Rattle.system_core.specs.World.{World}
 use Rattle.system_core.specs.declared.machine.event.Entry.{Entry}
-use Rattle.journal_core.specs.Keeping.{KeepsLine, FailsLine}
+use Rattle.journal_core.specs.Keeping.{line_rules, no_rules}
 use Rattle.journal_core.specs.declared.keeper.NoKeeper.{NoKeeper}
 use Rattle.script_core.specs.Keeping.{EndsKeptFrom}
 use Rattle.desk_core.specs.Kept.{HasKept}
@@ -31,16 +32,16 @@ module _ {W : Type 0} (taken handed_on : W → Option (List ℕ)) (failed : W �
   -- From this start lines were answered, to their end. Where there is a journal, each change was kept
   -- in it before its reply was written. Of the lines, `left` is what is to come; of what is written,
   -- `written` is what was given to the writer.
-  abbrev pub IsAnswered : Start W → (left left' written written' : Option (List ℕ)) → Kept W → Type 0
-  IsAnswered start left left' written written' (places.Nowhere ended) =
+  abbrev pub IsAnswered : Start W → Traffic → Kept W → Type 0
+  IsAnswered start traffic (places.Nowhere ended) =
       (start.journal ≡ None)
-      × EndsKeptFrom (λ _ _ _. Unit {0}) (λ _ _ _. ⊥) (λ _. false)
-      start.system (Ok ended.system) nobody ended.keeper left left' written written'
-  IsAnswered start left left' written written' (places.Lines ended) =
+      × EndsKeptFrom no_rules
+      start.system (Ok ended.system) nobody ended.keeper traffic
+  IsAnswered start traffic (places.Lines ended) =
       (sink : W)
       × (start.journal ≡ Some sink)
-      × EndsKeptFrom (KeepsLine taken handed_on) (FailsLine taken) failed
-      start.system (Ok ended.system) sink ended.keeper left left' written written'
+      × EndsKeptFrom (line_rules taken handed_on failed)
+      start.system (Ok ended.system) sink ended.keeper traffic
 
   -- From this start so many workers served so many sessions. The journal, if there is one and it has
   -- not failed, kept each change since then, from the state on in which it was handed in.
@@ -52,7 +53,7 @@ module _ {W : Type 0} (taken handed_on : W → Option (List ℕ)) (failed : W �
       (sink : W)
       × (start.journal ≡ Some sink)
       × Leaves workers sessions sink start.system ended.system
-      × HasKept (KeepsLine taken handed_on) failed
+      × HasKept (line_rules taken handed_on failed)
       (record { chunk = start.system.chunk; front = length start.system.journal; keeper = sink })
       ended.system.journal ended.keeper
 

@@ -67,7 +67,7 @@ where
     requires works { K.failed keeper ≡ false }
     ensures leaves { IfOk result
         (λ left. Leaves asked.entry.workers asked.entry.sessions keeper system left.system) }
-    ensures kept { IfOk result (λ left. HasKept K.keeps K.failed
+    ensures kept { IfOk result (λ left. HasKept K.Keeper
         (record { chunk = asked.entry.chunk; front = length system.journal; keeper = keeper })
         left.system.journal left.keeper) }
 {

@@ -1,6 +1,7 @@
 //! Lines of standard input, answered.
 ghost use Rattle.std.specs.Prelude.{◌≡◌, ◌<◌, ◌≤◌, false, IfOk, IfSome};
 ghost use Rattle.std.specs.Option.{is_some};
+ghost use Rattle.lines_core.specs.Serving.{traffic_of};
 ghost use Rattle.program_core.specs.Kept.{is_in_lines, IsAnswered};
 
 use crate::files::JournalSink;
@@ -25,8 +26,9 @@ fn kept<S: Source, R: Sink, W: Sink + Drop>(
     requires source { S.failed reader.old ≡ false }
     requires sink { R.failed writer.old ≡ false }
     requires works { IfSome begun.journal (λ sink. W.failed sink ≡ false) }
-    ensures { IfOk result (IsAnswered W.taken W.handed_on W.failed begun (S.left reader.old)
-        (S.left reader.new) (R.taken writer.old) (R.taken writer.new)) }
+    ensures { IfOk result (IsAnswered W.taken W.handed_on W.failed begun
+        (traffic_of (S.left reader.old) (S.left reader.new)
+        (R.taken writer.old) (R.taken writer.new))) }
 {
     let Start { system, journal } = begun;
     let Some(sink) = journal else {

@@ -1,5 +1,6 @@
 //! Lines, answered from a core on.
 ghost use Rattle.std.specs.Prelude.{◌≡◌, false, Ok, IfOk};
+ghost use Rattle.lines_core.specs.Serving.{traffic_of};
 ghost use Rattle.script_core.specs.Keeping.{EndsKeptFrom};
 
 use crate::auditing::audit;
@@ -30,9 +31,9 @@ pub fn answered<S: Source, W: Sink, K: Keeper + Drop>(
     requires source { S.failed reader.old ≡ false }
     requires sink { W.failed writer.old ≡ false }
     requires works { K.failed keeper ≡ false }
-    ensures { IfOk result (λ left. EndsKeptFrom K.keeps K.fails K.failed begins (Ok left.system)
-        keeper left.keeper (S.left reader.old) (S.left reader.new)
-        (W.taken writer.old) (W.taken writer.new)) }
+    ensures { IfOk result (λ left. EndsKeptFrom K.Keeper begins (Ok left.system)
+        keeper left.keeper (traffic_of (S.left reader.old) (S.left reader.new)
+        (W.taken writer.old) (W.taken writer.new))) }
 {
     let mut keeper = keeper;
     match script_from(rt.alloc(), reader, writer, &mut keeper, begins) {

@@ -18,6 +18,7 @@ use Rattle.system_core.specs.declared.machine.event.Reply.TheVariants as replies
 use Rattle.system_core.proofs.Entered.{step_enters}
 use Rattle.journal_core.specs.Keeping.{KeepsAll}
 use Rattle.journal_core.specs.Recorder.{WithKeeper, with_keeper, event_of_entry, KeepsEntered, kept, StepsKept}
+use Rattle.journal_core.specs.declared.keeper.Keeper.{Ghosts}
 use Rattle.journal_core.proofs.Entering.{entered-told, entered-lost}
 use Rattle.lexer_core.specs.declared.lexer.TheConstants.{MAX_LINE}
 use Rattle.script_core.specs.Addressed.{Asks}
@@ -59,50 +60,50 @@ unchanged-entered old new e (replies.Done at) denied step =
     absurd (denied (first_passed (verdict_at old.limits old.journal e.user e.statement) (checkpoint_checks old e.user e.statement) done.0, done.1))
 unchanged-entered old new e _ denied step = refl
 
-module _ {K : Type 0} (keeps fails : K → Entry → K → Type 0) (failed : K → Bool) where
+module _ {K : Type 0} (rules : Ghosts K) where
   -- ---- what is told of what was asked
-  pub any-kept : (old new : World) (k : K) (e : Entry) → failed k ≡ false → ((verdict_at old.limits old.journal e.user e.statement ≡ Ok tt) × (is_change e.statement ≡ true) → ⊥)
-      → (text : List ℕ) → TellsAsked e old new text → TellsKept keeps fails failed e (with_keeper old k) (with_keeper new k) text
+  pub any-kept : (old new : World) (k : K) (e : Entry) → rules.failed k ≡ false → ((verdict_at old.limits old.journal e.user e.statement ≡ Ok tt) × (is_change e.statement ≡ true) → ⊥)
+      → (text : List ℕ) → TellsAsked e old new text → TellsKept rules e (with_keeper old k) (with_keeper new k) text
   any-kept old new k e f denied text (reply, mid, step, follow) = record {
     reply = reply;
     told = true;
     mid = with_keeper mid k;
     acted = record {
       step = step;
-      keeping = subst (λ (es : List Entry). KeepsEntered keeps fails failed k es true k) (sym (unchanged-entered old mid e reply denied step)) (kept f f refl);
+      keeping = subst (λ (es : List Entry). KeepsEntered rules k es true k) (sym (unchanged-entered old mid e reply denied step)) (kept f f refl);
     };
     tells = (follow, refl);
   }
 
   -- a change whose reply may be told
-  pub change-told : (old mid new : World) (k k' : K) (e : Entry) (reply : Reply) → StepsKept keeps fails failed (with_keeper old k) (event_of_entry e) reply true (with_keeper mid k')
-      → (text : List ℕ) → TellsThen (says.Answer reply) mid new text → TellsKept keeps fails failed e (with_keeper old k) (with_keeper new k') text
+  pub change-told : (old mid new : World) (k k' : K) (e : Entry) (reply : Reply) → StepsKept rules (with_keeper old k) (event_of_entry e) reply true (with_keeper mid k')
+      → (text : List ℕ) → TellsThen (says.Answer reply) mid new text → TellsKept rules e (with_keeper old k) (with_keeper new k') text
   change-told old mid new k k' e reply acted text follow = record { reply = reply; told = true; mid = with_keeper mid k'; acted = acted; tells = (follow, refl) }
 
   -- ---- what is written for a line
-  acted-answers : (old mid new : WithKeeper K) (line : List ℕ) (user : User) (asked : Statement) (reply : Reply) (told : Bool) → failed old.keeper ≡ false → Asks MAX_LINE line user asked
-      → StepsKept keeps fails failed old (events.Say 0 user asked) reply told mid → (text : List ℕ) → TellsActed told reply mid new text → AnswersKept keeps fails failed old line text new
+  acted-answers : (old mid new : WithKeeper K) (line : List ℕ) (user : User) (asked : Statement) (reply : Reply) (told : Bool) → rules.failed old.keeper ≡ false → Asks MAX_LINE line user asked
+      → StepsKept rules old (events.Say 0 user asked) reply told mid → (text : List ℕ) → TellsActed told reply mid new text → AnswersKept rules old line text new
   acted-answers old mid new line user asked reply true f asks acted text (follow, same) =
-      let k = entered-told keeps fails failed old.keeper mid.keeper _ true acted.keeping refl in
-      answered f (ap failed same ∙ k.0) (then-answers old.world mid.world new.world line (says.Answer reply) (user, asked, asks, acted.step) text follow) (record {
+      let k = entered-told rules old.keeper mid.keeper _ true acted.keeping refl in
+      answered f (ap rules.failed same ∙ k.0) (then-answers old.world mid.world new.world line (says.Answer reply) (user, asked, asks, acted.step) text follow) (record {
         entries = entered (events.Say 0 user asked) reply;
         journal = then-journal (says.Answer reply) mid.world new.world text follow ∙ (step_enters old.world mid.world (events.Say 0 user asked) reply acted.step).journal;
-        kept = subst (λ (x : K). KeepsAll keeps old.keeper (entered (events.Say 0 user asked) reply) x) (sym same) k.1;
+        kept = subst (λ (x : K). KeepsAll rules.keeps old.keeper (entered (events.Say 0 user asked) reply) x) (sym same) k.1;
       })
   acted-answers old mid new line user asked reply false f asks acted text (none, same) =
-      let lost = entered-lost keeps fails failed old.keeper mid.keeper _ false acted.keeping refl f in
+      let lost = entered-lost rules old.keeper mid.keeper _ false acted.keeping refl f in
       let some = tells-some reply in
       let journal = (step_enters old.world mid.world (events.Say 0 user asked) reply acted.step).journal in
-      subst (λ (p : List ℕ × WithKeeper K). AnswersKept keeps fails failed old line p.0 p.1) (λ i. (sym none i, sym same i))
+      subst (λ (p : List ℕ × WithKeeper K). AnswersKept rules old line p.0 p.1) (λ i. (sym none i, sym same i))
       (withheld {text = some.0} f lost.2 (said user asked reply asks acted.step some.1)
       (record { entry = lost.0; journal = journal ∙ ap (λ (es : List Entry). old.world.journal ++ es) lost.1; unkept = lost.3 }))
 
-  pub kept-answers : (old new : WithKeeper K) (line : List ℕ) (user : User) (asked : Statement) → failed old.keeper ≡ false → Asks MAX_LINE line user asked
-      → (text : List ℕ) → TellsKept keeps fails failed (entry 0 user asked) old new text → AnswersKept keeps fails failed old line text new
+  pub kept-answers : (old new : WithKeeper K) (line : List ℕ) (user : User) (asked : Statement) → rules.failed old.keeper ≡ false → Asks MAX_LINE line user asked
+      → (text : List ℕ) → TellsKept rules (entry 0 user asked) old new text → AnswersKept rules old line text new
   kept-answers old new line user asked f asks text t = acted-answers old t.mid new line user asked t.reply t.told f asks t.acted text t.tells
 
   -- what enters nothing
-  pub then-kept : (old new : World) (k : K) (line : List ℕ) (what : Said) → failed k ≡ false → ComesTo old line what old
-      → (text : List ℕ) → TellsThen what old new text → AnswersKept keeps fails failed (with_keeper old k) line text (with_keeper new k)
+  pub then-kept : (old new : World) (k : K) (line : List ℕ) (what : Said) → rules.failed k ≡ false → ComesTo old line what old
+      → (text : List ℕ) → TellsThen what old new text → AnswersKept rules (with_keeper old k) line text (with_keeper new k)
   then-kept old new k line what f comes text follow =
-      answered f f (then-answers old old new line what comes text follow) (KeepsNew-none keeps (with_keeper old k) (with_keeper new k) (then-journal what old new text follow) refl)
+      answered f f (then-answers old old new line what comes text follow) (KeepsNew-none rules (with_keeper old k) (with_keeper new k) (then-journal what old new text follow) refl)

@@ -1,135 +1,103 @@
 -- A script whose changes are kept, each before its reply is written.
--- Of a keeper, `keeps old e new`: from the state old the entry e may be kept, and new is the next;
--- `fails old e new`: from old it could not be kept whole, and new is the next; `failed k`: an entry
--- could not be kept. The other names are those of lines_core's Serving.
+-- A keeper's rules are as in journal_core's Recorder, the other names those of lines_core's Serving.
 use Rattle.std.specs.Prelude.{◌≡◌, ◌⊎◌, ℕ, Bool, true, false, List, [], ◌∷◌, ◌++◌, codes, Option, Result, Ok, Err}
 use Rattle.base_core.specs.Full.{IsFull}
 use Rattle.base_core.specs.declared.limits.Limits.{Limits}
 use Rattle.lines_core.specs.Endings.{session_fault_text}
-use Rattle.lines_core.specs.Serving.{AnswersAll, Ends}
+use Rattle.lines_core.specs.Serving.{AnswersAll, Ends, Traffic}
 use Rattle.lines_core.specs.declared.serving.SessionFault.{SessionFault}
 use Rattle.lines_core.specs.declared.serving.SessionFault.TheVariants as session_faults
 use Rattle.system_core.specs.World.{World, opening}
 use Rattle.system_core.specs.declared.machine.event.Entry.{Entry}
 use Rattle.journal_core.specs.Keeping.{KeepsAll}
+use Rattle.journal_core.specs.declared.keeper.Keeper.{Ghosts}
 use Rattle.journal_core.specs.Recorder.{WithKeeper, with_keeper}
 use Rattle.script_core.specs.Script.{AnswersLine, Answers}
 use Rattle.script_core.specs.declared.scripts.fault.ScriptFault.{ScriptFault}
 use Rattle.script_core.specs.declared.scripts.fault.ScriptFault.TheVariants as faults
 
 -- the entries by which the journal grew were kept
-pub record KeepsNew {K : Type 0} (keeps : K → Entry → K → Type 0) (old new : WithKeeper K)
-    : Type 0 where
+pub record KeepsNew {K : Type 0} (rules : Ghosts K) (old new : WithKeeper K) : Type 0 where
   pub entries : List Entry
   pub journal : new.world.journal ≡ old.world.journal ++ entries
-  pub kept : KeepsAll keeps old.keeper entries new.keeper
+  pub kept : KeepsAll rules.keeps old.keeper entries new.keeper
 
 -- the journal grew by one entry, and that could not be kept
-pub record FailsNew {K : Type 0} (fails : K → Entry → K → Type 0) (old new : WithKeeper K)
-    : Type 0 where
+pub record FailsNew {K : Type 0} (rules : Ghosts K) (old new : WithKeeper K) : Type 0 where
   pub entry : Entry
   pub journal : new.world.journal ≡ old.world.journal ++ entry ∷ []
-  pub unkept : fails old.keeper entry new.keeper
+  pub unkept : rules.fails old.keeper entry new.keeper
 
 -- From old, this text may be written for the line, and new is the next state: an answer, and its
 -- change, if it has one, was kept; or nothing, where the change could not be kept, so that the reply
 -- is withheld. Once that has happened it is over, and nothing is written for any line.
-pub data AnswersKept {K : Type 0} (keeps fails : K → Entry → K → Type 0) (failed : K → Bool)
-    (old : WithKeeper K) (line : List ℕ) : List ℕ → WithKeeper K → Type 0 where
-  over : failed old.keeper ≡ true → AnswersKept keeps fails failed old line [] old
+pub data AnswersKept {K : Type 0} (rules : Ghosts K) (old : WithKeeper K) (line : List ℕ)
+    : List ℕ → WithKeeper K → Type 0 where
+  over : rules.failed old.keeper ≡ true → AnswersKept rules old line [] old
   answered : {text : List ℕ} {new : WithKeeper K}
-      → failed old.keeper ≡ false
-      → failed new.keeper ≡ false
+      → rules.failed old.keeper ≡ false
+      → rules.failed new.keeper ≡ false
       → Answers old.world line text new.world
-      → KeepsNew keeps old new
-      → AnswersKept keeps fails failed old line text new
+      → KeepsNew rules old new
+      → AnswersKept rules old line text new
   withheld : {text : List ℕ} {new : WithKeeper K}
-      → failed old.keeper ≡ false
-      → failed new.keeper ≡ true
+      → rules.failed old.keeper ≡ false
+      → rules.failed new.keeper ≡ true
       → AnswersLine old.world line text new.world
-      → FailsNew fails old new
-      → AnswersKept keeps fails failed old line [] new
+      → FailsNew rules old new
+      → AnswersKept rules old line [] new
 
 -- Of the lines a front was answered, and its changes were kept. It is all lines; or the change of the
 -- next line could not be kept, and neither that line nor one behind it was answered.
-pub data AnswersFront {K : Type 0} (keeps fails : K → Entry → K → Type 0) (failed : K → Bool)
-    (old : WithKeeper K) (lines : List (List ℕ)) (text : List ℕ) (new : WithKeeper K)
-    : Type 0 where
-  all : failed new.keeper ≡ false
+pub data AnswersFront {K : Type 0} (rules : Ghosts K) (old : WithKeeper K)
+    (lines : List (List ℕ)) (text : List ℕ) (new : WithKeeper K) : Type 0 where
+  all : rules.failed new.keeper ≡ false
       → AnswersAll Answers old.world lines text new.world
-      → KeepsNew keeps old new
-      → AnswersFront keeps fails failed old lines text new
+      → KeepsNew rules old new
+      → AnswersFront rules old lines text new
   some : (front behind : List (List ℕ)) (line reply : List ℕ) (mid : WithKeeper K)
-      → failed new.keeper ≡ true
+      → rules.failed new.keeper ≡ true
       → lines ≡ front ++ line ∷ behind
       → AnswersAll Answers old.world front text mid.world
-      → KeepsNew keeps old mid
+      → KeepsNew rules old mid
       → AnswersLine mid.world line reply new.world
-      → FailsNew fails mid new
-      → AnswersFront keeps fails failed old lines text new
+      → FailsNew rules mid new
+      → AnswersFront rules old lines text new
 
-abbrev pub has_failed : {K : Type 0} → (K → Bool) → WithKeeper K → Bool
-has_failed failed s = failed s.keeper
+abbrev pub has_failed : {K : Type 0} → Ghosts K → WithKeeper K → Bool
+has_failed rules s = rules.failed s.keeper
 
 -- how the answering of lines ends, from a world
-abbrev pub EndsWithKeeper : {K : Type 0} → (keeps fails : K → Entry → K → Type 0) → (K → Bool)
-    → World
-    → Result (Unit {0}) SessionFault
-    → World
-    → K
-    → K
-    → Option (List ℕ)
-    → Option (List ℕ)
-    → Option (List ℕ)
-    → Option (List ℕ)
-    → Type 0
-EndsWithKeeper keeps fails failed start ending new keeper keeper' left left' taken taken' =
-    Ends (AnswersKept keeps fails failed) (has_failed failed) ending
-    (with_keeper start keeper) (with_keeper new keeper') left left' taken taken'
+abbrev pub EndsWithKeeper : {K : Type 0} → Ghosts K → World → Result (Unit {0}) SessionFault
+    → World → K → K → Traffic → Type 0
+EndsWithKeeper rules start ending new keeper keeper' traffic =
+    Ends (AnswersKept rules) (has_failed rules) ending
+    (with_keeper start keeper) (with_keeper new keeper') traffic
 
 -- How a script ends from a world, if its changes are kept. The keeper has failed exactly where that is
 -- the fault; then the script was over, or the writer failed besides.
-abbrev pub EndsKeptFrom : {K : Type 0} → (keeps fails : K → Entry → K → Type 0) → (K → Bool)
-    → World
-    → Result World ScriptFault
-    → K
-    → K
-    → Option (List ℕ)
-    → Option (List ℕ)
-    → Option (List ℕ)
-    → Option (List ℕ)
-    → Type 0
-EndsKeptFrom keeps fails failed start (Ok new) keeper keeper' left left' taken taken' =
-    (failed keeper' ≡ false)
-    × EndsWithKeeper keeps fails failed start (Ok tt) new keeper keeper' left left' taken taken'
-EndsKeptFrom keeps fails failed start (Err (faults.Session fault)) keeper keeper'
-    left left' taken taken' =
-    (failed keeper' ≡ false)
+abbrev pub EndsKeptFrom : {K : Type 0} → Ghosts K → World → Result World ScriptFault
+    → K → K → Traffic → Type 0
+EndsKeptFrom rules start (Ok new) keeper keeper' traffic =
+    (rules.failed keeper' ≡ false)
+    × EndsWithKeeper rules start (Ok tt) new keeper keeper' traffic
+EndsKeptFrom rules start (Err (faults.Session fault)) keeper keeper' traffic =
+    (rules.failed keeper' ≡ false)
     × (new : World)
-    × EndsWithKeeper keeps fails failed start (Err fault) new keeper keeper' left left' taken taken'
-EndsKeptFrom keeps fails failed start (Err faults.Journal) keeper keeper' left left' taken taken' =
-    (failed keeper' ≡ true)
+    × EndsWithKeeper rules start (Err fault) new keeper keeper' traffic
+EndsKeptFrom rules start (Err faults.Journal) keeper keeper' traffic =
+    (rules.failed keeper' ≡ true)
     × (new : World)
-    × (EndsWithKeeper keeps fails failed start (Ok tt) new keeper keeper' left left' taken taken'
-    ⊎ EndsWithKeeper keeps fails failed start (Err session_faults.Write) new keeper keeper'
-    left left' taken taken')
+    × (EndsWithKeeper rules start (Ok tt) new keeper keeper' traffic
+    ⊎ EndsWithKeeper rules start (Err session_faults.Write) new keeper keeper' traffic)
 
 -- how it ends from the opening world with full limits
-abbrev pub EndsKept : {K : Type 0} → (keeps fails : K → Entry → K → Type 0) → (K → Bool)
-    → ℕ
-    → Result World ScriptFault
-    → K
-    → K
-    → Option (List ℕ)
-    → Option (List ℕ)
-    → Option (List ℕ)
-    → Option (List ℕ)
-    → Type 0
-EndsKept keeps fails failed chunk result keeper keeper' left left' taken taken' =
+abbrev pub EndsKept : {K : Type 0} → Ghosts K → ℕ → Result World ScriptFault
+    → K → K → Traffic → Type 0
+EndsKept rules chunk result keeper keeper' traffic =
     (limits : Limits)
     × IsFull limits
-    × EndsKeptFrom keeps fails failed (opening chunk limits) result keeper keeper'
-    left left' taken taken'
+    × EndsKeptFrom rules (opening chunk limits) result keeper keeper' traffic
 
 -- what is told of a fault that ended a script
 abbrev pub script_fault_text : ScriptFault → List ℕ

@@ -11,6 +11,7 @@ use Rattle.lexer_core.specs.declared.fault.ReadFault.TheVariants as faults
 use Rattle.script_core.specs.Addressed.{Asks, IsUnreadFor}
 use Rattle.system_core.specs.Replies.{is_refused}
 use Rattle.journal_core.specs.Recorder.{WithKeeper, event_of_entry, StepsKept}
+use Rattle.journal_core.specs.declared.keeper.Keeper.{Ghosts}
 use Rattle.system_core.specs.declared.machine.event.Event.TheVariants as events
 use Rattle.system_core.specs.declared.machine.event.Entry.{Entry}
 use Rattle.system_core.specs.declared.machine.event.Reply.{Reply}
@@ -80,10 +81,10 @@ TellsActed true reply mid new text =
 TellsActed false reply mid new text = (text ≡ []) × (new ≡ mid)
 
 -- The same as TellsAsked with a keeper, by which the reply may be told.
-pub record TellsKept {K : Type 0} (keeps fails : K → Entry → K → Type 0) (failed : K → Bool)
+pub record TellsKept {K : Type 0} (rules : Ghosts K)
     (e : Entry) (old new : WithKeeper K) (text : List ℕ) : Type 0 where
   pub reply : Reply
   pub told : Bool
   pub mid : WithKeeper K
-  pub acted : StepsKept keeps fails failed old (event_of_entry e) reply told mid
+  pub acted : StepsKept rules old (event_of_entry e) reply told mid
   pub tells : TellsActed told reply mid new text

@@ -6,7 +6,7 @@ use Rattle.base_core.specs.declared.limits.Limits.{Limits}
 use Rattle.lexer_core.specs.declared.fault.Code.{Code}
 use Rattle.lexer_core.specs.declared.lexer.TheConstants.{MAX_LINE}
 use Rattle.reader_core.specs.declared.statement.Statement.{Statement}
-use Rattle.lines_core.specs.Serving.{Ends}
+use Rattle.lines_core.specs.Serving.{Ends, Traffic}
 use Rattle.reply_core.specs.Texts.{fault_text, unread_text}
 use Rattle.reply_core.specs.Telling.{TellsReply}
 use Rattle.system_core.specs.World.{World, opening}
@@ -57,19 +57,13 @@ abbrev pub never : World → Bool
 never w = false
 
 -- how a script ends, from the opening world with full limits
-abbrev pub EndsScript : ℕ
-    → Result World SessionFault
-    → Option (List ℕ)
-    → Option (List ℕ)
-    → Option (List ℕ)
-    → Option (List ℕ)
-    → Type 0
-EndsScript chunk (Ok new) left left' taken taken' =
+abbrev pub EndsScript : ℕ → Result World SessionFault → Traffic → Type 0
+EndsScript chunk (Ok new) traffic =
     (limits : Limits)
     × IsFull limits
-    × Ends Answers never (Ok tt) (opening chunk limits) new left left' taken taken'
-EndsScript chunk (Err fault) left left' taken taken' =
+    × Ends Answers never (Ok tt) (opening chunk limits) new traffic
+EndsScript chunk (Err fault) traffic =
     (limits : Limits)
     × (new : World)
     × IsFull limits
-    × Ends Answers never (Err fault) (opening chunk limits) new left left' taken taken'
+    × Ends Answers never (Err fault) (opening chunk limits) new traffic

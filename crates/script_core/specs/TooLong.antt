@@ -13,6 +13,7 @@ use Rattle.system_core.specs.declared.machine.event.Entry.{Entry}
 use Rattle.script_core.specs.Addressed.{addressed_up_to, IsAddressed, Asks, IsFaulty, address, statement}
 use Rattle.script_core.specs.Script.{AnswersLine, Answers, faulty, said, unread}
 use Rattle.journal_core.specs.Recorder.{WithKeeper}
+use Rattle.journal_core.specs.declared.keeper.Keeper.{Ghosts}
 use Rattle.script_core.specs.Keeping.{AnswersKept, over, answered, withheld}
 
 -- ---- a line that may have so many bytes
@@ -64,15 +65,15 @@ Answers-too_long old new line other text h k a = record {
   text_is = a.text_is;
 }
 
-pub AnswersKept-too_long : {K : Type 0} (keeps fails : K → Entry → K → Type 0) (failed : K → Bool)
+pub AnswersKept-too_long : {K : Type 0} (rules : Ghosts K)
     (old new : WithKeeper K) (line other text : List ℕ)
     → LONGEST_LINE < length line
     → LONGEST_LINE < length other
-    → AnswersKept keeps fails failed old line text new
-    → AnswersKept keeps fails failed old other text new
-AnswersKept-too_long keeps fails failed old _ line other _ h k (over o) = over o
-AnswersKept-too_long keeps fails failed old new line other text h k (answered o n a kept) =
+    → AnswersKept rules old line text new
+    → AnswersKept rules old other text new
+AnswersKept-too_long rules old _ line other _ h k (over o) = over o
+AnswersKept-too_long rules old new line other text h k (answered o n a kept) =
     answered o n (Answers-too_long old.world new.world line other text h k a) kept
-AnswersKept-too_long keeps fails failed old new line other _ h k (withheld {text} o n a lost) =
+AnswersKept-too_long rules old new line other _ h k (withheld {text} o n a lost) =
     withheld o n (AnswersLine-too_long old.world new.world line other text
     (omega (arith, h)) (omega (arith, k)) a) lost

@@ -1,6 +1,6 @@
 //! Laws of scripts, each the contract of a function that does nothing.
 ghost use Rattle.std.specs.Prelude.{◌≡◌, ◌⊎◌, ℕ, List, Option, false, Ok, Err};
-ghost use Rattle.lines_core.specs.Serving.{AnswersAll};
+ghost use Rattle.lines_core.specs.Serving.{AnswersAll, Traffic};
 ghost use Rattle.lines_core.specs.declared.serving.SessionFault.{SessionFault};
 ghost use Rattle.system_core.specs.World.{World};
 ghost use Rattle.journal_core.specs.Keeping.{KeepsAll};
@@ -36,18 +36,18 @@ pub fn one_output()
 pub fn what_was_told_is_kept<K: Keeper>()
     ensures front { (old new : WithKeeper K) (lines : List (List ℕ)) (text : List ℕ)
         → K.failed old.keeper ≡ false
-        → AnswersAll (AnswersKept K.keeps K.fails K.failed) old lines text new
-        → AnswersFront K.keeps K.fails K.failed old lines text new }
+        → AnswersAll (AnswersKept K.Keeper) old lines text new
+        → AnswersFront K.Keeper old lines text new }
     ensures grown { (start new : World) (keeper keeper' : K)
-        (left left' taken taken' : Option (List ℕ))
+        (traffic : Traffic)
         → K.failed keeper ≡ false
-        → EndsKeptFrom K.keeps K.fails K.failed start (Ok new) keeper keeper'
-        left left' taken taken'
-        → KeepsNew K.keeps (with_keeper start keeper) (with_keeper new keeper') }
+        → EndsKeptFrom K.Keeper start (Ok new) keeper keeper'
+        traffic
+        → KeepsNew K.Keeper (with_keeper start keeper) (with_keeper new keeper') }
     ensures journal { (chunk : ℕ) (new : World) (keeper keeper' : K)
-        (left left' taken taken' : Option (List ℕ))
+        (traffic : Traffic)
         → K.failed keeper ≡ false
-        → EndsKept K.keeps K.fails K.failed chunk (Ok new) keeper keeper' left left' taken taken'
+        → EndsKept K.Keeper chunk (Ok new) keeper keeper' traffic
         → KeepsAll K.keeps keeper new.journal keeper' }
 {}
 
@@ -55,20 +55,20 @@ pub fn what_was_told_is_kept<K: Keeper>()
 /// ends as a script without one, and never for want of it.
 pub fn keeping_changes_nothing<K: Keeper>()
     ensures ok { (chunk : ℕ) (new : World) (keeper keeper' : K)
-        (left left' taken taken' : Option (List ℕ))
+        (traffic : Traffic)
         → ((k : K) → K.failed k ≡ false)
-        → EndsKept K.keeps K.fails K.failed chunk (Ok new) keeper keeper' left left' taken taken'
-        → EndsScript chunk (Ok new) left left' taken taken' }
+        → EndsKept K.Keeper chunk (Ok new) keeper keeper' traffic
+        → EndsScript chunk (Ok new) traffic }
     ensures fault { (chunk : ℕ) (fault : SessionFault) (keeper keeper' : K)
-        (left left' taken taken' : Option (List ℕ))
+        (traffic : Traffic)
         → ((k : K) → K.failed k ≡ false)
-        → EndsKept K.keeps K.fails K.failed chunk (Err (ScriptFault.Session fault)) keeper keeper'
-        left left' taken taken'
-        → EndsScript chunk (Err fault) left left' taken taken' }
+        → EndsKept K.Keeper chunk (Err (ScriptFault.Session fault)) keeper keeper'
+        traffic
+        → EndsScript chunk (Err fault) traffic }
     ensures journal { (chunk : ℕ) (keeper keeper' : K)
-        (left left' taken taken' : Option (List ℕ))
+        (traffic : Traffic)
         → ((k : K) → K.failed k ≡ false)
-        → EndsKept K.keeps K.fails K.failed chunk (Err ScriptFault.Journal) keeper keeper'
-        left left' taken taken'
+        → EndsKept K.Keeper chunk (Err ScriptFault.Journal) keeper keeper'
+        traffic
         → ⊥ }
 {}

@@ -1,6 +1,7 @@
 -- Sessions keep the pass that they go through.
 use Rattle.std.proofs.Common.{ℕ, List, Option, refl, ◌∙◌, inl, inr}
 use Rattle.std.specs.Prelude.{Result, Ok, Err}
+use Rattle.lines_core.specs.Serving.{Traffic}
 use Rattle.session_core.specs.declared.session_end.SessionEnd.{SessionEnd}
 use Rattle.session_core.specs.declared.session_end.SessionEnd.TheVariants as session_ends
 use Rattle.session_core.specs.declared.summary.Summary.{Summary}
@@ -10,14 +11,14 @@ use Rattle.session_core.specs.Session.{SessionState, EndsBy}
 use Rattle.session_core.proofs.Sessions.{same_pass}
 use Rattle.server_core.specs.Sessions.{Attends, Working, Attended, nobody, another}
 
-ends_same : {K : Type 0} (desk : DeskLock K) (ending : Result (Unit {0}) SessionEnd) (last : SessionState K) (old new : DeskPass K) (left left' taken taken' : Option (List ℕ)) → EndsBy desk ending last old new left left' taken taken' → IsSamePass old new
-ends_same desk (Ok x) last old new _ _ _ _ (fine, at) = same_pass last.user old new at.gained
-ends_same desk (Err (session_ends.Session fault)) last old new _ _ _ _ (fine, at) = same_pass last.user old new at.gained
-ends_same desk (Err session_ends.Journal) last old new _ _ _ _ (unkept, inl at) = same_pass last.user old new at.gained
-ends_same desk (Err session_ends.Journal) last old new _ _ _ _ (unkept, inr at) = same_pass last.user old new at.gained
+ends_same : {K : Type 0} (desk : DeskLock K) (ending : Result (Unit {0}) SessionEnd) (last : SessionState K) (old new : DeskPass K) (traffic : Traffic) → EndsBy desk ending last old new traffic → IsSamePass old new
+ends_same desk (Ok x) last old new _ (fine, at) = same_pass last.user old new at.gained
+ends_same desk (Err (session_ends.Session fault)) last old new _ (fine, at) = same_pass last.user old new at.gained
+ends_same desk (Err session_ends.Journal) last old new _ (unkept, inl at) = same_pass last.user old new at.gained
+ends_same desk (Err session_ends.Journal) last old new _ (unkept, inr at) = same_pass last.user old new at.gained
 
 pub attends_same : {K : Type 0} (desk : DeskLock K) (summary : Summary) (old new : DeskPass K) → Attends desk summary old new → IsSamePass old new
-attends_same desk summary old new a = ends_same desk summary.ended a.ends.last old new a.left a.left_behind a.taken a.taken_then a.ends.ends
+attends_same desk summary old new a = ends_same desk summary.ended a.ends.last old new a.traffic a.ends.ends
 
 pub attended_same : {K : Type 0} (desk : DeskLock K) (old new : Working K) → Attended desk old new → IsSamePass old.pass new.pass
 attended_same desk old _ nobody = (refl, refl)

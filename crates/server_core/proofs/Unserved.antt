@@ -2,6 +2,7 @@
 use Rattle.std.proofs.Common.{None, refl}
 use Rattle.std.specs.Prelude.{Err}
 use Rattle.std.proofs.KnownBytes.{Keeps-refl}
+use Rattle.lines_core.specs.Serving.{traffic_of}
 use Rattle.lines_core.specs.declared.serving.SessionFault.TheVariants as session_faults
 use Rattle.desk_core.specs.Guarded.{DeskLock, DeskPass}
 use Rattle.session_core.specs.declared.session_end.SessionEnd.TheVariants as session_ends
@@ -12,10 +13,7 @@ use Rattle.server_core.specs.Sessions.{Attends}
 pub unserved_attends : {K : Type 0} (desk : DeskLock K) (pass : DeskPass K)
     → Attends desk (record { user = None; lines = 0; moment = None; ended = Err (session_ends.Session session_faults.NoMemory) }) pass pass
 unserved_attends desk pass = record {
-  left = None;
-  left_behind = None;
-  taken = None;
-  taken_then = None;
+  traffic = traffic_of None None None None;
   ends = record {
     last = opened pass;
     user_is = refl;

@@ -1,6 +1,7 @@
 -- What becomes of the passes of a server: a worker's goes through sessions, the checkpointer's
 -- through looks at the active checkpoint, and nothing else is done through them.
 use Rattle.std.specs.Prelude.{◌≡◌, ℕ, ◌+◌, List, [], ◌∷◌, ◌++◌, length, map, sum_by, All, Option, Some}
+use Rattle.lines_core.specs.Serving.{Traffic}
 use Rattle.turnstile.specs.Logs.{StartsWith}
 use Rattle.turnstile.specs.Closed.{AreAll}
 use Rattle.system_core.specs.declared.machine.event.Entry.{Entry}
@@ -18,11 +19,8 @@ IsOf desk pass = pass.lock ≡ Some desk
 -- one session, from what its pass knew to what it knows, over the bytes of some client
 pub record Attends {K : Type 0} (desk : DeskLock K) (summary : Summary) (old new : DeskPass K)
     : Type 0 where
-  pub left : Option (List ℕ)
-  pub left_behind : Option (List ℕ)
-  pub taken : Option (List ℕ)
-  pub taken_then : Option (List ℕ)
-  pub ends : EndsSession desk summary old new left left_behind taken taken_then
+  pub traffic : Traffic
+  pub ends : EndsSession desk summary old new traffic
 
 -- a worker: what his pass knows, and how many sessions he was admitted
 pub record Working (K : Type 0) : Type 0 where

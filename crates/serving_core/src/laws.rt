@@ -4,7 +4,7 @@ ghost use Rattle.std.specs.Str.Lines.{lines};
 ghost use Rattle.turnstile.specs.Logs.{gained};
 ghost use Rattle.system_core.specs.World.{World};
 ghost use Rattle.lines_core.specs.Lines.{IsWhole};
-ghost use Rattle.journal_core.specs.Keeping.{KeepsLine};
+ghost use Rattle.journal_core.specs.Keeping.{line_rules};
 ghost use Rattle.desk_core.specs.Kept.{HasKept};
 ghost use Rattle.server_core.specs.Sessions.{Leaves};
 ghost use Rattle.load_core.specs.Kept.{CanBeLoadedBehind};
@@ -18,7 +18,7 @@ use base_core::Sink;
 pub fn gone_on_server_is_kept<W: Sink>()
     ensures { (workers sessions chunk : ℕ) (start world : World) (old : List ℕ) (begun sink : W)
         → Leaves workers sessions begun start world
-        → HasKept (KeepsLine W.taken W.handed_on) W.failed
+        → HasKept (line_rules W.taken W.handed_on W.failed)
         (record { chunk = chunk; front = length start.journal; keeper = begun })
         world.journal sink
         → W.failed sink ≡ false

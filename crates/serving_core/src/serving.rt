@@ -101,7 +101,7 @@ fn close<K: Keeper + Drop>(
     ensures all { OnOk result (AreAll desk passes.items) }
     ensures count { IfOk result (λ served. served.sessions ≡ sessions) }
     ensures ended { IfOk result (λ served. Ended desk passes.items served.system) }
-    ensures kept { IfOk result (λ served. HasKept K.keeps K.failed (origin_of desk)
+    ensures kept { IfOk result (λ served. HasKept K.Keeper (origin_of desk)
         served.system.journal served.keeper) }
 {
     match desk.close(passes) {
@@ -143,7 +143,7 @@ where
     requires works { K.failed keeper ≡ false }
     ensures count { IfOk result (λ served. served.sessions ≡ sessions) }
     ensures leaves { IfOk result (λ served. Leaves workers sessions keeper system served.system) }
-    ensures kept { IfOk result (λ served. HasKept K.keeps K.failed
+    ensures kept { IfOk result (λ served. HasKept K.Keeper
         (record { chunk = chunk; front = length system.journal; keeper = keeper })
         served.system.journal served.keeper) }
 {
@@ -202,7 +202,7 @@ where
     requires works { K.failed keeper ≡ false }
     ensures count { IfOk result (λ served. served.sessions ≡ sessions) }
     ensures leaves { IfOk result (λ served. Leaves workers sessions keeper system served.system) }
-    ensures kept { IfOk result (λ served. HasKept K.keeps K.failed
+    ensures kept { IfOk result (λ served. HasKept K.Keeper
         (record { chunk = chunk; front = length system.journal; keeper = keeper })
         served.system.journal served.keeper) }
 {

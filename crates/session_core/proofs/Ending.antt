@@ -1,24 +1,12 @@
 -- How a session ends of which a reply was withheld.
 use Rattle.std.proofs.Common.{◌≡◌, ◌⊎◌, ℕ, Bool, true, false, List, Option, Ok, Err, inl, inr, refl, sym, ◌∙◌, subst, ⊎_elim}
 use Rattle.std.specs.Prelude.{◌↔◌, Result, IsErrOf}
-use Rattle.std.specs.Result.{OnErr}
-use Rattle.std.proofs.lemmas.Bool.{false≢true}
+use Rattle.lines_core.specs.Serving.{Traffic}
 use Rattle.lines_core.specs.declared.serving.SessionFault.{SessionFault}
 use Rattle.lines_core.specs.declared.serving.SessionFault.TheVariants as session_faults
 use Rattle.desk_core.specs.Guarded.{DeskLock, DeskPass}
 use Rattle.session_core.specs.declared.session_end.SessionEnd.TheVariants as session_ends
 use Rattle.session_core.specs.Session.{SessionState, EndsAt, EndsBy, end_of}
-
--- a test has one outcome
-pub never-both : {A : Type 0} (b : Bool) → b ≡ true → b ≡ false → A
-never-both b t f = absurd (false≢true (sym f ∙ t))
-
--- An answering that was open at its start and is over ended so, or by the writer.
-pub over-or-broken : (ending : Result (Unit {0}) SessionFault) (written start end : Bool) → (written ≡ true → ending ≡ Err session_faults.Write) → (written ≡ false → OnErr ending (start ≡ false → end ≡ false))
-    → start ≡ false → end ≡ true → (ending ≡ Ok tt) ⊎ (ending ≡ Err session_faults.Write)
-over-or-broken ending true start end writes opens s e = inr (writes refl)
-over-or-broken (Ok u) false start end writes opens s e = inl refl
-over-or-broken (Err f) false start end writes opens s e = never-both end e (opens refl s)
 
 pub either-end : (P : Result (Unit {0}) SessionFault → Type 0) (ending : Result (Unit {0}) SessionFault) → (ending ≡ Ok tt) ⊎ (ending ≡ Err session_faults.Write) → P ending → P (Ok tt) ⊎ P (Err session_faults.Write)
 either-end P ending how p = ⊎_elim (λ (e : ending ≡ Ok tt). inl (subst P e p)) (λ (e : ending ≡ Err session_faults.Write). inr (subst P e p)) how
@@ -28,10 +16,10 @@ pub not-read : (ending : Result (Unit {0}) SessionFault) → (ending ≡ Ok tt) 
 not-read ending (inl e) r = cc
 not-read ending (inr e) r = cc
 
-module _ {K : Type 0} (desk : DeskLock K) (last : SessionState K) (old new : DeskPass K) (left left' taken taken' : Option (List ℕ)) where
-  pub ends-by : (unkept : Bool) (served : Result (Unit {0}) SessionFault) → last.unkept ≡ unkept → EndsAt desk served last old new left left' taken taken'
-      → (unkept ≡ true → (served ≡ Ok tt) ⊎ (served ≡ Err session_faults.Write)) → EndsBy desk (end_of unkept served) last old new left left' taken taken'
-  ends-by true served is ends how = (is, either-end (λ r. EndsAt desk r last old new left left' taken taken') served (how refl) ends)
+module _ {K : Type 0} (desk : DeskLock K) (last : SessionState K) (old new : DeskPass K) (traffic : Traffic) where
+  pub ends-by : (unkept : Bool) (served : Result (Unit {0}) SessionFault) → last.unkept ≡ unkept → EndsAt desk served last old new traffic
+      → (unkept ≡ true → (served ≡ Ok tt) ⊎ (served ≡ Err session_faults.Write)) → EndsBy desk (end_of unkept served) last old new traffic
+  ends-by true served is ends how = (is, either-end (λ r. EndsAt desk r last old new traffic) served (how refl) ends)
   ends-by false (Ok x) is ends how = (is, ends)
   ends-by false (Err f) is ends how = (is, ends)
 

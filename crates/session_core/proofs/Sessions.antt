@@ -5,7 +5,7 @@ use Rattle.std.proofs.lemmas.Bool.{false≢true}
 use Rattle.desk_core.specs.Turns.{took}
 use Rattle.base_core.specs.declared.name.User.{User}
 use Rattle.base_core.specs.declared.value.Moment.{Moment}
-use Rattle.lines_core.specs.Serving.{Ends}
+use Rattle.lines_core.specs.Serving.{Ends, Traffic}
 use Rattle.lines_core.specs.declared.serving.SessionFault.{SessionFault}
 use Rattle.lines_core.proofs.Seen.{ends-seen}
 use Rattle.turnstile.specs.Passes.{IsSamePass}
@@ -67,11 +67,11 @@ module _ {K X N D : Type 0} (user : X → Option User) (over unkept : X → Bool
       let t : AnswersSession (lock (desk start)) (progress_of x) line text (progress_of y) = subst (λ d. AnswersSession (lock d) (progress_of x) line text (progress_of y)) k.1 s.0 in
       (t, (s.1 ∙ k.0, s.2 ∙ k.1, gained_step (lock (desk start)) (pass start) (progress_of x) (progress_of y) line text k.2 t, over_step (lock (desk start)) (progress_of x) (progress_of y) line text k.3 t))
 
-  pub session_ends : (r : Result (Unit {0}) SessionFault) (x y : X) (left left' taken taken' : Option (List ℕ))
+  pub session_ends : (r : Result (Unit {0}) SessionFault) (x y : X) (traffic : Traffic)
       → user x ≡ None → over x ≡ false → unkept x ≡ false → answered x ≡ 0 → moment x ≡ None
-      → Ends Served over r x y left left' taken taken'
-      → Ends (AnswersSession (lock (desk x))) is_over r (opened (pass x)) (progress_of y) left left' taken taken' × (name y ≡ name x) × GainsOf (user y) (pass x) (pass y) × (unkept y ≡ true → over y ≡ true)
-  session_ends r x y left left' taken taken' u o k n m e =
+      → Ends Served over r x y traffic
+      → Ends (AnswersSession (lock (desk x))) is_over r (opened (pass x)) (progress_of y) traffic × (name y ≡ name x) × GainsOf (user y) (pass x) (pass y) × (unkept y ≡ true → over y ≡ true)
+  session_ends r x y traffic u o k n m e =
       let start : progress_of x ≡ opened (pass x) = (λ i. progress (u i) (o i) (k i) (n i) (m i) (pass x)) in
-      let all = ends-seen Served (AnswersSession (lock (desk x))) progress_of (Kept x) (served_step x) over is_over (λ z. refl) r x y left left' taken taken' (refl, refl, subst (λ z. GainsOf z (pass x) (pass x)) (sym u) refl, λ broken. absurd (false≢true (sym k ∙ broken))) e in
-      (subst (λ z. Ends (AnswersSession (lock (desk x))) is_over r z (progress_of y) left left' taken taken') start all.0, all.1.0, all.1.2, all.1.3)
+      let all = ends-seen Served (AnswersSession (lock (desk x))) progress_of (Kept x) (served_step x) over is_over (λ z. refl) r x y traffic (refl, refl, subst (λ z. GainsOf z (pass x) (pass x)) (sym u) refl, λ broken. absurd (false≢true (sym k ∙ broken))) e in
+      (subst (λ z. Ends (AnswersSession (lock (desk x))) is_over r z (progress_of y) traffic) start all.0, all.1.0, all.1.2, all.1.3)

@@ -5,7 +5,7 @@ use Rattle.lexer_core.specs.declared.fault.Code.{Code}
 use Rattle.lexer_core.specs.declared.lexer.TheConstants.{MAX_LINE}
 use Rattle.reader_core.specs.Language.{Spells, IsReadFault}
 use Rattle.reader_core.specs.declared.statement.Statement.{Statement}
-use Rattle.lines_core.specs.Serving.{Ends}
+use Rattle.lines_core.specs.Serving.{Ends, Traffic}
 use Rattle.lines_core.specs.declared.serving.SessionFault.{SessionFault}
 use Rattle.system_core.specs.Replies.{told_moment}
 use Rattle.turnstile.specs.Passes.{IsSamePass}
@@ -133,9 +133,8 @@ GainsOf None old new = new ≡ old
 
 -- how a session ends: its lines were answered one after another up to here
 pub record EndsAt {K : Type 0} (desk : DeskLock K) (ending : Result (Unit {0}) SessionFault)
-    (last : SessionState K) (old new : DeskPass K) (left left' taken taken' : Option (List ℕ))
-    : Type 0 where
-  pub ends : Ends (AnswersSession desk) is_over ending (opened old) last left left' taken taken'
+    (last : SessionState K) (old new : DeskPass K) (traffic : Traffic) : Type 0 where
+  pub ends : Ends (AnswersSession desk) is_over ending (opened old) last traffic
   pub pass_is : last.pass ≡ new
   pub gained : GainsOf last.user old new
 
@@ -149,22 +148,22 @@ end_of false (Err fault) = Err (session_ends.Session fault)
 -- writer failed besides.
 abbrev pub EndsBy : {K : Type 0} → DeskLock K → Result (Unit {0}) SessionEnd → SessionState K
     → DeskPass K → DeskPass K
-    → Option (List ℕ) → Option (List ℕ) → Option (List ℕ) → Option (List ℕ) → Type 0
-EndsBy desk (Ok x) last old new left left' taken taken' =
-    (last.unkept ≡ false) × EndsAt desk (Ok tt) last old new left left' taken taken'
-EndsBy desk (Err (session_ends.Session fault)) last old new left left' taken taken' =
-    (last.unkept ≡ false) × EndsAt desk (Err fault) last old new left left' taken taken'
-EndsBy desk (Err session_ends.Journal) last old new left left' taken taken' =
+    → Traffic → Type 0
+EndsBy desk (Ok x) last old new traffic =
+    (last.unkept ≡ false) × EndsAt desk (Ok tt) last old new traffic
+EndsBy desk (Err (session_ends.Session fault)) last old new traffic =
+    (last.unkept ≡ false) × EndsAt desk (Err fault) last old new traffic
+EndsBy desk (Err session_ends.Journal) last old new traffic =
     (last.unkept ≡ true)
-    × (EndsAt desk (Ok tt) last old new left left' taken taken'
-    ⊎ EndsAt desk (Err session_faults.Write) last old new left left' taken taken')
+    × (EndsAt desk (Ok tt) last old new traffic
+    ⊎ EndsAt desk (Err session_faults.Write) last old new traffic)
 
 -- How a session ends, and what is told of it: its user, how many lines came after the first, and the
 -- moment of the last reply that bore one, as they are where its lines were answered up to.
 pub record EndsSession {K : Type 0} (desk : DeskLock K) (summary : Summary)
-    (old new : DeskPass K) (left left' taken taken' : Option (List ℕ)) : Type 0 where
+    (old new : DeskPass K) (traffic : Traffic) : Type 0 where
   pub last : SessionState K
   pub user_is : summary.user ≡ last.user
   pub lines_are : summary.lines ≡ last.answered
   pub moment_is : summary.moment ≡ last.moment
-  pub ends : EndsBy desk summary.ended last old new left left' taken taken'
+  pub ends : EndsBy desk summary.ended last old new traffic

@@ -1,6 +1,7 @@
 //! A session: a line that names a user, and then lines of his.
 ghost use Rattle.std.specs.Prelude.{◌≡◌, ◌↔◌, Some, None, true, false, OnOk, OnErr, MatchResult, IsErrOf};
 ghost use Rattle.base_core.specs.Streams.{MayWrite, MayWriteText};
+ghost use Rattle.lines_core.specs.Serving.{traffic_of};
 ghost use Rattle.turnstile.specs.Passes.{IsSamePass};
 ghost use Rattle.session_core.specs.Session.{AnswersSession, progress, welcome_text, end_of, EndsSession};
 
@@ -201,7 +202,8 @@ pub fn serve_session<K: Keeper + Drop, R: Wait, S: Source, W: Sink, G: Gate>(
         → W.flushed writer.new ≡ true }
     ensures same { IsSamePass pass.old pass.new }
     ensures ends { EndsSession desk.now result pass.old pass.new
-        (S.left reader.old) (S.left reader.new) (W.taken writer.old) (W.taken writer.new) }
+        (traffic_of (S.left reader.old) (S.left reader.new)
+        (W.taken writer.old) (W.taken writer.new)) }
 {
     let Ok(mut buffer) = ReplyBuffer::new(alloc) else {
         return Summary {

@@ -137,7 +137,7 @@ fn ask_change<W: Sink, K: Keeper>(
         verdict_at now.limits now.journal entry.user entry.statement ≡ Ok tt }
     requires change { is_change entry.statement ≡ true }
     ensures { MayWrite W.failed W.taken
-        (TellsKept K.keeps K.fails K.failed entry
+        (TellsKept K.Keeper entry
         (with_keeper system.old keeper.old) (with_keeper system.new keeper.new))
         result writer.old writer.new }
 {
@@ -207,7 +207,7 @@ fn ask<W: Sink, K: Keeper>(
     requires works { K.failed keeper.old ≡ false }
     requires spelled { (line : List ℕ) × Spells line entry.statement }
     ensures { MayWrite W.failed W.taken
-        (TellsKept K.keeps K.fails K.failed entry
+        (TellsKept K.Keeper entry
         (with_keeper system.old keeper.old) (with_keeper system.new keeper.new))
         result writer.old writer.new }
 {
@@ -231,7 +231,7 @@ pub fn answer<W: Sink, K: Keeper>(
     requires writes { W.failed writer.old ≡ false }
     requires works { K.failed keeper.old ≡ false }
     ensures { MayWrite W.failed W.taken
-        (λ text. AnswersKept K.keeps K.fails K.failed
+        (λ text. AnswersKept K.Keeper
         (with_keeper system.old keeper.old) line.now text (with_keeper system.new keeper.new))
         result writer.old writer.new }
 {

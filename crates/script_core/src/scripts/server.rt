@@ -1,5 +1,6 @@
 //! A core that answers the lines of a script.
 ghost use Rattle.std.specs.Prelude.{◌≡◌, ◌<◌, ◌≤◌, ◌↔◌, false, true, IsErrOf, OnOk, OnErr, MatchResult};
+ghost use Rattle.lines_core.specs.Serving.{traffic_of};
 ghost use Rattle.script_core.specs.Keeping.{EndsKeptFrom, EndsKept};
 
 use crate::scripts::answer::answer;
@@ -30,7 +31,7 @@ impl<'a, K: Keeper> LineServer for ScriptServer<'a, K> {
     ghost use Rattle.script_core.specs.TooLong.{AnswersKept-too_long};
 
     ghost answers = { λ old line text new.
-        AnswersKept K.keeps K.fails K.failed (with_keeper old.system.now old.keeper.now) line text
+        AnswersKept K.Keeper (with_keeper old.system.now old.keeper.now) line text
         (with_keeper new.system.now new.keeper.now)
         × (new.system.ghost_name ≡ old.system.ghost_name)
         × (new.keeper.ghost_name ≡ old.keeper.ghost_name) };
@@ -57,7 +58,7 @@ impl<'a, K: Keeper> LineServer for ScriptServer<'a, K> {
     }
 
     ghost too_long = { λ old new line other text h k a.
-        (AnswersKept-too_long K.keeps K.fails K.failed _ _ line other text h k a.0, a.1, a.2) };
+        (AnswersKept-too_long K.Keeper _ _ line other text h k a.0, a.1, a.2) };
 }
 
 /// Answers the lines that the reader gives, one by one, until its end, from this core on, and gives
@@ -87,8 +88,9 @@ pub fn script_from<S: Source, W: Sink, K: Keeper>(
     ensures journal { IsErrOf result ScriptFault.Journal ↔ (K.failed keeper.new ≡ true) }
     ensures flushed { W.flushed writer.old ≡ true → W.failed writer.new ≡ false
         → W.flushed writer.new ≡ true }
-    ensures ends { EndsKeptFrom K.keeps K.fails K.failed system result keeper.old keeper.new
-        (S.left reader.old) (S.left reader.new) (W.taken writer.old) (W.taken writer.new) }
+    ensures ends { EndsKeptFrom K.Keeper system result keeper.old keeper.new
+        (traffic_of (S.left reader.old) (S.left reader.new)
+        (W.taken writer.old) (W.taken writer.new)) }
 {
     let Ok(mut buffer) = ReplyBuffer::new(alloc) else {
         system.free();
@@ -146,8 +148,9 @@ pub fn script<S: Source, W: Sink, K: Keeper>(
     ensures journal { IsErrOf result ScriptFault.Journal ↔ (K.failed keeper.new ≡ true) }
     ensures flushed { W.flushed writer.old ≡ true → W.failed writer.new ≡ false
         → W.flushed writer.new ≡ true }
-    ensures ends { EndsKept K.keeps K.fails K.failed chunk result keeper.old keeper.new
-        (S.left reader.old) (S.left reader.new) (W.taken writer.old) (W.taken writer.new) }
+    ensures ends { EndsKept K.Keeper chunk result keeper.old keeper.new
+        (traffic_of (S.left reader.old) (S.left reader.new)
+        (W.taken writer.old) (W.taken writer.new)) }
 {
     let limits = Limits::full();
     let Ok(system) = System::with_limits(alloc, chunk, limits) else {

@@ -17,7 +17,7 @@ returns-then-not-is_done g c =
     let none = not_done c.args.event c.step-reply.result (sym c.is_done.ensures ∙ c.if-not-is_done.true) in
     record {
       step = c.step-reply.ensures;
-      keeping = subst (λ (es : List Entry). KeepsEntered K.keeps K.fails K.failed keeper es true keeper) (sym none) (kept works works refl);
+      keeping = subst (λ (es : List Entry). KeepsEntered K keeper es true keeper) (sym none) (kept works works refl);
     }
 
 pub keep_last-requires-clause-last : goal.keep_last-requires-clause-last
@@ -40,7 +40,7 @@ returns g c =
     record {
       step = c.step-reply.ensures;
       keeping =
-          subst (λ (es : List Entry). KeepsEntered K.keeps K.fails K.failed k es c.is_ok-told.result k') (sym e.1)
-          (one_kept K.keeps K.fails K.failed k k' e.0 r c.is_ok-told.result c.is_ok-told.ensures.value works c.keep_last.ensures.failed
+          subst (λ (es : List Entry). KeepsEntered K k es c.is_ok-told.result k') (sym e.1)
+          (one_kept K k k' e.0 r c.is_ok-told.result c.is_ok-told.ensures.value works c.keep_last.ensures.failed
           (on_ok_weaker r (λ h. h old.journal e.0 e.2) c.keep_last.ensures.ok) (on_err_weaker r (λ h. h old.journal e.0 e.2) c.keep_last.ensures.err));
     }

@@ -2,7 +2,7 @@ use Rattle.std.proofs.Common.{◌≡◌, ◌-◌, ◌^◌, List, ℕ, [], take, 
 use Rattle.std.specs.Io.KnownBytes.{Consumes}
 use Rattle.std.proofs.KnownBytes.{Keeps-refl}
 use Rattle.std.proofs.lemmas.List.{length-take-le}
-use Rattle.lines_core.specs.Serving.{HasServed}
+use Rattle.lines_core.specs.Serving.{HasServed, traffic_of}
 use Rattle.lines_core.proofs.ServeLemmas.{Serving-none, Serving-more, Serving-end, Run-whole, BrokenRun-piece}
 use Rattle.lines_core.proofs.serving.answer_whole_lines.Goals as goal
 
@@ -55,7 +55,7 @@ loop-unread-preserved g c =
       flushed = λ h. c.in-Ok-feed.ensures.flushed (c.loop-unread.invariant.flushed h);
       room = omega arith;
       not_over = λ _. sym c.is_over.ensures ∙ c.if-is_over.false;
-      serving = subst (λ k. HasServed g.D.LineServer.answers c.feed.new.line c.args.server.now c.feed.new.server (c.loop-unread.unread - k) left0 left2 taken0 taken2) size
+      serving = subst (λ k. HasServed g.D.LineServer.answers c.feed.new.line c.args.server.now c.feed.new.server (c.loop-unread.unread - k) (traffic_of left0 left2 taken0 taken2)) size
           (Serving-more g.D.LineServer.answers g.met.D.LineServer.too_long c.loop-unread.line c.feed.new.line c.args.server.now c.loop-unread.server c.feed.new.server piece c.loop-unread.unread
           left0 (g.S.Source.left c.loop-unread.reader) left2 taken0 (g.W.Sink.taken c.loop-unread.writer) taken2
           c.loop-unread.invariant.serving c.in-Ok.ensures.ok (omega (arith, c.in-Ok.ensures.count)) c.in-Ok-feed.ensures.ok);
@@ -73,7 +73,7 @@ loop-unread-init g c =
       flushed = λ h. h;
       room = c.requires.start.1;
       not_over = λ h. h;
-      serving = subst (λ k. HasServed R k start start (2 ^ 32) left left taken taken) (sym c.requires.start.0) (Serving-none R g.met.D.LineServer.too_long start left taken);
+      serving = subst (λ k. HasServed R k start start (2 ^ 32) (traffic_of left left taken taken)) (sym c.requires.start.0) (Serving-none R g.met.D.LineServer.too_long start left taken);
     }
 
 pub returns-then-is_over-clause-ends : goal.returns-then-is_over-clause-ends
@@ -84,7 +84,7 @@ returns-then-is_over-clause-ends g c =
     let taken0 = g.W.Sink.taken c.args.writer.now in
     let taken2 = g.W.Sink.taken c.feed.new.writer in
     let size : length piece ≡ c.in-Ok.n = length-take-le c.in-Ok.n c.read_up_to.new.buffer (omega (arith, c.in-Ok.ensures.count)) in
-    let s = subst (λ k. HasServed g.D.LineServer.answers c.feed.new.line c.args.server.now c.feed.new.server (c.loop-unread.unread - k) left0 left2 taken0 taken2) size
+    let s = subst (λ k. HasServed g.D.LineServer.answers c.feed.new.line c.args.server.now c.feed.new.server (c.loop-unread.unread - k) (traffic_of left0 left2 taken0 taken2)) size
     (Serving-more g.D.LineServer.answers g.met.D.LineServer.too_long c.loop-unread.line c.feed.new.line c.args.server.now c.loop-unread.server c.feed.new.server piece c.loop-unread.unread
     left0 (g.S.Source.left c.loop-unread.reader) left2 taken0 (g.W.Sink.taken c.loop-unread.writer) taken2
     c.loop-unread.invariant.serving c.in-Ok.ensures.ok (omega (arith, c.in-Ok.ensures.count)) c.in-Ok-feed.ensures.ok) in

@@ -1,5 +1,5 @@
 use Rattle.std.proofs.Common.{◌≡◌, ◌<◌, true, false, length}
-use Rattle.lines_core.specs.Serving.{HasServed}
+use Rattle.lines_core.specs.Serving.{HasServed, traffic_of}
 use Rattle.lines_core.proofs.serving.answer_whole_lines.Given as goal
 
 abbrev pub invariant-loop-unread : goal.invariant-loop-unread
@@ -9,7 +9,7 @@ invariant-loop-unread g l = record {
   flushed : g.W.Sink.flushed l.initial.writer ≡ true → g.W.Sink.flushed l.writer ≡ true;
   room : 0 < length l.buffer;
   not_over : g.D.LineServer.over l.initial.server ≡ false → g.D.LineServer.over l.server ≡ false;
-  serving : HasServed g.D.LineServer.answers l.line l.initial.server l.server l.unread (g.S.Source.left l.initial.reader) (g.S.Source.left l.reader) (g.W.Sink.taken l.initial.writer) (g.W.Sink.taken l.writer);
+  serving : HasServed g.D.LineServer.answers l.line l.initial.server l.server l.unread (traffic_of (g.S.Source.left l.initial.reader) (g.S.Source.left l.reader) (g.W.Sink.taken l.initial.writer) (g.W.Sink.taken l.writer));
 }
 
 abbrev pub decreases-loop-unread : goal.decreases-loop-unread

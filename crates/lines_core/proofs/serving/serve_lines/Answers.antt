@@ -2,7 +2,7 @@ use Rattle.std.proofs.Common.{◌≡◌, length, arith, subst, sym, ⊎_elim, Ok
 use Rattle.std.specs.Str.Lines.{lines}
 use Rattle.std.proofs.KnownBytes.{Consumes-nil}
 use Rattle.std.proofs.lemmas.Bool.{cases_lt}
-use Rattle.lines_core.specs.Serving.{AnswersInput, WasOpen, EndsReading, EndsTold}
+use Rattle.lines_core.specs.Serving.{AnswersInput, WasOpen, EndsReading, EndsTold, traffic_of}
 use Rattle.lines_core.proofs.ServeLemmas.{Run-last, Run-nothing, Open-last, Open-nothing, BrokenRun-last}
 use Rattle.lines_core.proofs.Told.{told_at}
 use Rattle.lines_core.proofs.serving.serve_lines.Goals as goal
@@ -21,7 +21,7 @@ returns-in-Ok-clause-ends g c =
     let start = c.args.server.now in
     let old = c.answer_whole_lines.new.server in
     let new = c.finish.new.server in
-    let ends = subst (λ stop. EndsReading R over (Ok stop) line start old left0 left1 taken0 taken1) c.in-Ok-AtEnd.field-0-is c.in-Ok-AtEnd.ensures.ends in
+    let ends = subst (λ stop. EndsReading R over (Ok stop) line start old (traffic_of left0 left1 taken0 taken1)) c.in-Ok-AtEnd.field-0-is c.in-Ok-AtEnd.ensures.ends in
     let unread = ends.0 in
     let s = ends.1 in
     let h = ends.3 in
@@ -31,14 +31,14 @@ returns-in-Ok-clause-ends g c =
     (λ few. let none : length line ≡ 0 = omega arith in
     Open-nothing R law over line start old new unread left0 left1 taken0 taken1 s h none (c.in-Ok.ensures.empty none).0.0)
     (cases_lt 0 (length line)) in
-    let run : AnswersInput R lines start new left0 left1 taken0 taken2 s.bytes =
+    let run : AnswersInput R lines start new (traffic_of left0 left1 taken0 taken2) s.bytes =
     ⊎_elim
     (λ some. Run-last R law line start old new unread left0 left1 left1 taken0 taken1 taken2 s (Consumes-nil left1) some (c.in-Ok.ensures.ok some))
     (λ few. let none : length line ≡ 0 = omega arith in
     let kept = c.in-Ok.ensures.empty none in
     Run-nothing R law line start old new unread left0 left1 left1 taken0 taken1 taken2 s (Consumes-nil left1) none kept.0.0 kept.0.1)
     (cases_lt 0 (length line)) in
-    subst (λ ending. EndsTold R over (Ok ending) start new left0 left1 taken0 taken2) (sym c.ending_at.ensures)
+    subst (λ ending. EndsTold R over (Ok ending) start new (traffic_of left0 left1 taken0 taken2)) (sym c.ending_at.ensures)
     (told_at R over line start old new unread left0 left1 left1 taken0 taken1 taken2 s run ends.2 was_open)
 
 pub returns-in-Err-finish-clause-ends : goal.returns-in-Err-finish-clause-ends
@@ -51,7 +51,7 @@ returns-in-Err-finish-clause-ends g c =
     let line = c.answer_whole_lines.new.line in
     let start = c.args.server.now in
     let old = c.answer_whole_lines.new.server in
-    let ends = subst (λ stop. EndsReading R g.D.LineServer.over (Ok stop) line start old left0 left1 taken0 taken1) c.in-Ok-AtEnd.field-0-is c.in-Ok-AtEnd.ensures.ends in
+    let ends = subst (λ stop. EndsReading R g.D.LineServer.over (Ok stop) line start old (traffic_of left0 left1 taken0 taken1)) c.in-Ok-AtEnd.field-0-is c.in-Ok-AtEnd.ensures.ends in
     BrokenRun-last R g.met.D.LineServer.too_long line start old c.finish.new.server ends.0
     left0 left1 left1 taken0 taken1 (g.W.Sink.taken c.finish.new.writer)
     ends.1 (Consumes-nil left1) ends.2 c.in-Err-finish.ensures.err.0 c.in-Err-finish.ensures.err.1

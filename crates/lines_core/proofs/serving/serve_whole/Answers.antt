@@ -1,5 +1,5 @@
 use Rattle.std.proofs.Common.{Ok, subst}
-use Rattle.lines_core.specs.Serving.{EndsReading}
+use Rattle.lines_core.specs.Serving.{EndsReading, traffic_of}
 use Rattle.lines_core.proofs.Told.{whole_at}
 use Rattle.lines_core.proofs.serving.serve_whole.Goals as goal
 
@@ -14,6 +14,6 @@ returns-in-Ok-AtEnd-clause-ends g c =
     let line = c.answer_whole_lines.new.line in
     let start = c.args.server.now in
     let new = c.answer_whole_lines.new.server in
-    let ends = subst (λ stop. EndsReading R over (Ok stop) line start new left0 left1 taken0 taken1) c.in-Ok-AtEnd.field-0-is c.in-Ok-AtEnd.ensures.ends in
+    let ends = subst (λ stop. EndsReading R over (Ok stop) line start new (traffic_of left0 left1 taken0 taken1)) c.in-Ok-AtEnd.field-0-is c.in-Ok-AtEnd.ensures.ends in
     whole_at R g.met.D.LineServer.too_long over c.whole_ending.result line start new ends.0 left0 left1 taken0 taken1
     ends.1 ends.2 ends.3 c.whole_ending.ensures

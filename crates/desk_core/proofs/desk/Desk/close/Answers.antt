@@ -9,7 +9,7 @@ pub returns-in-Ok-clause-ok : goal.returns-in-Ok-clause-ok
 returns-in-Ok-clause-ok g c =
     let K = g.K.Keeper in
     let out = sym c.into_inner.ensures in
-    closed_ended K.keeps K.fails K.failed c.args.self c.args.passes.items c.in-Ok.core c.into_inner.result
+    closed_ended K c.args.self c.args.passes.items c.in-Ok.core c.into_inner.result
     (sym (ap (λ (x : CoreState g.row.K.Denot). x.world) c.core.view_is) ∙ out)
     (subst (λ (w : World). IsLawfulWorld w) (c.deref.ensures ∙ out) c.journal.ensures.lawful)
     (subst (λ (w : World). IsFull w.limits) out c.core.invariant.1)

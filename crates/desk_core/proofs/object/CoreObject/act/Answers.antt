@@ -13,8 +13,8 @@ invariant_of-self g c =
     let k = c.self.inside.keeper in
     let k' = c.act-acted.new.keeper in
     let last = c.take_parting-parting.ensures ∙ c.deref_mut-2.ensures.value in
-    let steps = steps_at K.keeps K.fails K.failed c.deref_mut.result.now old c.act-acted.new.system new c.event.result c.event.result c.act-acted.result k k' c.deref_mut.ensures.value refl last c.act-acted.ensures in
-    act_stands K.keeps K.fails K.failed old new c.event.result c.act-acted.result c.self.inside.basis k k' c.self.invariant steps
+    let steps = steps_at K c.deref_mut.result.now old c.act-acted.new.system new c.event.result c.event.result c.act-acted.result k k' c.deref_mut.ensures.value refl last c.act-acted.ensures in
+    act_stands K old new c.event.result c.act-acted.result c.self.inside.basis k k' c.self.invariant steps
 
 pub returns : goal.returns
 returns g c =
@@ -25,9 +25,9 @@ returns g c =
     let k = c.self.inside.keeper in
     let k' = c.act-acted.new.keeper in
     let last = c.take_parting-parting.ensures ∙ c.deref_mut-2.ensures.value in
-    let steps = steps_at K.keeps K.fails K.failed c.deref_mut.result.now old c.act-acted.new.system new c.event.result event c.act-acted.result k k' c.deref_mut.ensures.value c.event.ensures.event last c.act-acted.ensures in
-    let stands = act_stands K.keeps K.fails K.failed old new event c.act-acted.result c.self.inside.basis k k' c.self.invariant steps in
-    subst (λ (x : CoreState g.row.K.Denot). Acts K.keeps K.fails K.failed x c.args.pass c.args.ask c.act-acted.result (record { world = new; origin = c.self.inside.basis; keeper = k' }))
+    let steps = steps_at K c.deref_mut.result.now old c.act-acted.new.system new c.event.result event c.act-acted.result k k' c.deref_mut.ensures.value c.event.ensures.event last c.act-acted.ensures in
+    let stands = act_stands K old new event c.act-acted.result c.self.inside.basis k k' c.self.invariant steps in
+    subst (λ (x : CoreState g.row.K.Denot). Acts K x c.args.pass c.args.ask c.act-acted.result (record { world = new; origin = c.self.inside.basis; keeper = k' }))
     c.self.view_is
     (record {
       lawful = subst (λ (w : World). IsLawfulWorld w) c.deref.ensures c.journal.ensures.lawful;

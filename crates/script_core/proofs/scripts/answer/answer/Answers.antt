@@ -19,9 +19,9 @@ returns-in-Ok g c =
     let user = c.in-Ok.user in
     let asked = c.in-Ok.statement in
     let asks : Asks MAX_LINE line user asked = c.in-Ok.ensures.asks in
-    write-map g.W.Sink.failed g.W.Sink.taken _ _ (TellsKept K.keeps K.fails K.failed (entry 0 user asked) old new)
-    (λ text. AnswersKept K.keeps K.fails K.failed old line text new) c.ask.result
-    (kept-answers K.keeps K.fails K.failed old new line user asked c.requires.works asks) c.ask.ensures
+    write-map g.W.Sink.failed g.W.Sink.taken _ _ (TellsKept K (entry 0 user asked) old new)
+    (λ text. AnswersKept K old line text new) c.ask.result
+    (kept-answers K old new line user asked c.requires.works asks) c.ask.ensures
 
 pub returns-in-Err : goal.returns-in-Err
 returns-in-Err g c =
@@ -32,5 +32,5 @@ returns-in-Err g c =
     let new = c.tell_fault.new.system in
     let what = says.Fault c.in-Err.fault in
     write-map g.W.Sink.failed g.W.Sink.taken _ _ (TellsThen what old new)
-    (λ text. AnswersKept K.keeps K.fails K.failed (with_keeper old k) line text (with_keeper new k)) c.tell_fault.result
-    (then-kept K.keeps K.fails K.failed old new k line what c.requires.works (c.in-Err.ensures.unread, refl)) c.tell_fault.ensures
+    (λ text. AnswersKept K (with_keeper old k) line text (with_keeper new k)) c.tell_fault.result
+    (then-kept K old new k line what c.requires.works (c.in-Err.ensures.unread, refl)) c.tell_fault.ensures

@@ -40,10 +40,10 @@ returns-in-Ok-made g c =
     let k' = c.enter.new.keeper in
     let e = c.args.entry in
     let reply = replies.Done c.in-Ok-made.made in
-    let Acted = λ (r : Result Moment NoMemory). StepsKept K.keeps K.fails K.failed (with_keeper old k) (event_of_entry e) (change_reply (moment_of old) r) true (with_keeper mid k') in
+    let Acted = λ (r : Result Moment NoMemory). StepsKept K (with_keeper old k) (event_of_entry e) (change_reply (moment_of old) r) true (with_keeper mid k') in
     let acted = subst Acted c.in-Ok-made.is c.in-Ok.ensures.told in
-    write-map g.W.Sink.failed g.W.Sink.taken _ _ (TellsReply reply) (TellsKept K.keeps K.fails K.failed e (with_keeper old k) (with_keeper mid k')) c.write_done.result
-    (λ text tells. change-told K.keeps K.fails K.failed old mid mid k k' e reply acted text (said-idle mid (says.Answer reply) (sym c.is_idle.ensures ∙ c.if-not-is_idle.false) text tells))
+    write-map g.W.Sink.failed g.W.Sink.taken _ _ (TellsReply reply) (TellsKept K e (with_keeper old k) (with_keeper mid k')) c.write_done.result
+    (λ text tells. change-told K old mid mid k k' e reply acted text (said-idle mid (says.Answer reply) (sym c.is_idle.ensures ∙ c.if-not-is_idle.false) text tells))
     c.write_done.ensures
 
 pub returns-then-not-is_idle : goal.returns-then-not-is_idle
@@ -56,8 +56,8 @@ returns-then-not-is_idle g c =
     let k' = c.enter.new.keeper in
     let e = c.args.entry in
     let Tells = λ (m : Moment). TellsThen (says.Answer (change_reply m c.in-Ok.made)) mid new in
-    write-map g.W.Sink.failed g.W.Sink.taken _ _ (Tells c.moment-at.result) (TellsKept K.keeps K.fails K.failed e (with_keeper old k) (with_keeper new k')) c.tell_change.result
-    (λ text h. change-told K.keeps K.fails K.failed old mid new k k' e (change_reply (moment_of old) c.in-Ok.made) c.in-Ok.ensures.told text (subst (λ m. Tells m text) c.moment-at.ensures h))
+    write-map g.W.Sink.failed g.W.Sink.taken _ _ (Tells c.moment-at.result) (TellsKept K e (with_keeper old k) (with_keeper new k')) c.tell_change.result
+    (λ text h. change-told K old mid new k k' e (change_reply (moment_of old) c.in-Ok.made) c.in-Ok.ensures.told text (subst (λ m. Tells m text) c.moment-at.ensures h))
     c.tell_change.ensures
 
 pub returns-in-Err : goal.returns-in-Err
@@ -70,6 +70,6 @@ returns-in-Err g c =
     let k' = c.enter.new.keeper in
     let e = c.args.entry in
     let Tells = λ (m : Moment). TellsThen (says.Answer (change_reply m c.in-Ok.made)) mid new in
-    write-map g.W.Sink.failed g.W.Sink.taken _ _ (Tells c.moment-at.result) (TellsKept K.keeps K.fails K.failed e (with_keeper old k) (with_keeper new k')) c.tell_change-in-Err.result
-    (λ text h. change-told K.keeps K.fails K.failed old mid new k k' e (change_reply (moment_of old) c.in-Ok.made) c.in-Ok.ensures.told text (subst (λ m. Tells m text) c.moment-at.ensures h))
+    write-map g.W.Sink.failed g.W.Sink.taken _ _ (Tells c.moment-at.result) (TellsKept K e (with_keeper old k) (with_keeper new k')) c.tell_change-in-Err.result
+    (λ text h. change-told K old mid new k k' e (change_reply (moment_of old) c.in-Ok.made) c.in-Ok.ensures.told text (subst (λ m. Tells m text) c.moment-at.ensures h))
     c.tell_change-in-Err.ensures

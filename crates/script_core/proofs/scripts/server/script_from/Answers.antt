@@ -3,8 +3,9 @@ use Rattle.std.proofs.KnownBytes.{Keeps-refl}
 use Rattle.lines_core.specs.declared.serving.SessionFault.TheVariants as faults
 use Rattle.script_core.specs.declared.scripts.fault.ScriptFault.TheVariants as script_faults
 use Rattle.script_core.specs.declared.scripts.server.ScriptServer.{ScriptServer}
+use Rattle.lines_core.proofs.Over.{over-or-broken}
 use Rattle.journal_core.proofs.Entering.{never-both}
-use Rattle.script_core.proofs.KeptLemmas.{server_ends, script_ends, journal_ends, over-or-broken, session-once, fault-once, no-journal, no-fault}
+use Rattle.script_core.proofs.KeptLemmas.{server_ends, script_ends, journal_ends, session-once, fault-once, no-journal, no-fault}
 use Rattle.script_core.proofs.scripts.server.script_from.Goals as goal
 
 pub returns-in_default-clause-ends : goal.returns-in_default-clause-ends
@@ -16,19 +17,19 @@ returns-then-failed-clause-ends g c =
     let X = ScriptServer g.row.K.Denot in
     let y = c.serve-served.new.server in
     let ending = c.serve-served.result in
-    let e = server_ends {X = X} (λ s. s.system.now) (λ s. s.keeper.now) (λ s. s.system.ghost_name) (λ s. s.keeper.ghost_name) K.keeps K.fails K.failed ending _ y _ _ _ _ c.serve-served.ensures.ends in
+    let e = server_ends {X = X} (λ s. s.system.now) (λ s. s.keeper.now) (λ s. s.system.ghost_name) (λ s. s.keeper.ghost_name) K ending _ y _ c.serve-served.ensures.ends in
     let kept = c.keeper-1.given.1 (sym e.1.1) in
     let last = c.system-2-1.given.1 (sym e.1.0) in
-    let ends = script_ends K.keeps K.fails K.failed ending _ y.system.now c.system-2-1.given.0 c.args.keeper.now y.keeper.now c.keeper-1.given.0 _ _ _ _ last kept e.0 in
+    let ends = script_ends K ending _ y.system.now c.system-2-1.given.0 c.args.keeper.now y.keeper.now c.keeper-1.given.0 _ last kept e.0 in
     let failed : K.failed c.keeper-1.given.0 ≡ true = ap K.failed kept ∙ sym c.has_failed-failed.ensures ∙ c.if-failed.true in
     let how = over-or-broken ending (g.W.Sink.failed c.serve-served.new.writer) (K.failed c.args.keeper.now) (K.failed y.keeper.now) c.serve-served.ensures.write.1 c.serve-served.ensures.not_over c.requires.works (sym c.has_failed-failed.ensures ∙ c.if-failed.true) in
-    journal_ends K.keeps K.fails K.failed c.args.system ending c.system-2-1.given.0 c.args.keeper.now c.keeper-1.given.0 _ _ _ _ failed how ends
+    journal_ends K c.args.system ending c.system-2-1.given.0 c.args.keeper.now c.keeper-1.given.0 _ failed how ends
 
 pub returns-then-failed-clause-write : goal.returns-then-failed-clause-write
 returns-then-failed-clause-write g c =
     let K = g.K.Keeper in
     let X = ScriptServer g.row.K.Denot in
-    let e = server_ends {X = X} (λ s. s.system.now) (λ s. s.keeper.now) (λ s. s.system.ghost_name) (λ s. s.keeper.ghost_name) K.keeps K.fails K.failed c.serve-served.result _ c.serve-served.new.server _ _ _ _ c.serve-served.ensures.ends in
+    let e = server_ends {X = X} (λ s. s.system.now) (λ s. s.keeper.now) (λ s. s.system.ghost_name) (λ s. s.keeper.ghost_name) K c.serve-served.result _ c.serve-served.new.server _ c.serve-served.ensures.ends in
     let failed : K.failed c.keeper-1.given.0 ≡ true = ap K.failed (c.keeper-1.given.1 (sym e.1.1)) ∙ sym c.has_failed-failed.ensures ∙ c.if-failed.true in
     (λ e. absurd (no-journal faults.Write _ e refl), λ h. never-both (K.failed c.keeper-1.given.0) failed h.1)
 
@@ -36,7 +37,7 @@ pub returns-then-failed-clause-journal : goal.returns-then-failed-clause-journal
 returns-then-failed-clause-journal g c =
     let K = g.K.Keeper in
     let X = ScriptServer g.row.K.Denot in
-    let e = server_ends {X = X} (λ s. s.system.now) (λ s. s.keeper.now) (λ s. s.system.ghost_name) (λ s. s.keeper.ghost_name) K.keeps K.fails K.failed c.serve-served.result _ c.serve-served.new.server _ _ _ _ c.serve-served.ensures.ends in
+    let e = server_ends {X = X} (λ s. s.system.now) (λ s. s.keeper.now) (λ s. s.system.ghost_name) (λ s. s.keeper.ghost_name) K c.serve-served.result _ c.serve-served.new.server _ c.serve-served.ensures.ends in
     let failed : K.failed c.keeper-1.given.0 ≡ true = ap K.failed (c.keeper-1.given.1 (sym e.1.1)) ∙ sym c.has_failed-failed.ensures ∙ c.if-failed.true in
     (λ e. failed, λ h. refl)
 
@@ -46,10 +47,10 @@ returns-in-Ok-served-clause-ends g c =
     let X = ScriptServer g.row.K.Denot in
     let y = c.serve-served.new.server in
     let ending = Ok tt in
-    let e = server_ends {X = X} (λ s. s.system.now) (λ s. s.keeper.now) (λ s. s.system.ghost_name) (λ s. s.keeper.ghost_name) K.keeps K.fails K.failed ending _ y _ _ _ _ c.in-Ok-served.ensures.ends in
+    let e = server_ends {X = X} (λ s. s.system.now) (λ s. s.keeper.now) (λ s. s.system.ghost_name) (λ s. s.keeper.ghost_name) K ending _ y _ c.in-Ok-served.ensures.ends in
     let kept = c.keeper-1.given.1 (sym e.1.1) in
     let last = c.system-2-1.given.1 (sym e.1.0) in
-    let ends = script_ends K.keeps K.fails K.failed ending _ y.system.now c.system-2-1.given.0 c.args.keeper.now y.keeper.now c.keeper-1.given.0 _ _ _ _ last kept e.0 in
+    let ends = script_ends K ending _ y.system.now c.system-2-1.given.0 c.args.keeper.now y.keeper.now c.keeper-1.given.0 _ last kept e.0 in
     let failed : K.failed c.keeper-1.given.0 ≡ false = ap K.failed kept ∙ sym c.has_failed-failed.ensures ∙ c.if-failed.false in
     (failed, ends)
 
@@ -57,7 +58,7 @@ pub returns-in-Ok-served-clause-journal : goal.returns-in-Ok-served-clause-journ
 returns-in-Ok-served-clause-journal g c =
     let K = g.K.Keeper in
     let X = ScriptServer g.row.K.Denot in
-    let e = server_ends {X = X} (λ s. s.system.now) (λ s. s.keeper.now) (λ s. s.system.ghost_name) (λ s. s.keeper.ghost_name) K.keeps K.fails K.failed (Ok tt) _ c.serve-served.new.server _ _ _ _ c.in-Ok-served.ensures.ends in
+    let e = server_ends {X = X} (λ s. s.system.now) (λ s. s.keeper.now) (λ s. s.system.ghost_name) (λ s. s.keeper.ghost_name) K (Ok tt) _ c.serve-served.new.server _ c.in-Ok-served.ensures.ends in
     let failed : K.failed c.keeper-1.given.0 ≡ false = ap K.failed (c.keeper-1.given.1 (sym e.1.1)) ∙ sym c.has_failed-failed.ensures ∙ c.if-failed.false in
     (λ e. absurd (no-fault _ script_faults.Journal _ refl e), λ h. never-both (K.failed c.keeper-1.given.0) h failed)
 
@@ -67,10 +68,10 @@ returns-clause-ends g c =
     let X = ScriptServer g.row.K.Denot in
     let y = c.serve-served.new.server in
     let ending = Err c.in-Err.fault in
-    let e = server_ends {X = X} (λ s. s.system.now) (λ s. s.keeper.now) (λ s. s.system.ghost_name) (λ s. s.keeper.ghost_name) K.keeps K.fails K.failed ending _ y _ _ _ _ c.in-Err.ensures.ends in
+    let e = server_ends {X = X} (λ s. s.system.now) (λ s. s.keeper.now) (λ s. s.system.ghost_name) (λ s. s.keeper.ghost_name) K ending _ y _ c.in-Err.ensures.ends in
     let kept = c.keeper-1.given.1 (sym e.1.1) in
     let last = c.system-2-1.given.1 (sym e.1.0) in
-    let ends = script_ends K.keeps K.fails K.failed ending _ y.system.now c.system-2-1.given.0 c.args.keeper.now y.keeper.now c.keeper-1.given.0 _ _ _ _ last kept e.0 in
+    let ends = script_ends K ending _ y.system.now c.system-2-1.given.0 c.args.keeper.now y.keeper.now c.keeper-1.given.0 _ last kept e.0 in
     let failed : K.failed c.keeper-1.given.0 ≡ false = ap K.failed kept ∙ sym c.has_failed-failed.ensures ∙ c.if-failed.false in
     (failed, c.system-2-1.given.0, ends)
 
@@ -78,7 +79,7 @@ pub returns-clause-write : goal.returns-clause-write
 returns-clause-write g c =
     let K = g.K.Keeper in
     let X = ScriptServer g.row.K.Denot in
-    let e = server_ends {X = X} (λ s. s.system.now) (λ s. s.keeper.now) (λ s. s.system.ghost_name) (λ s. s.keeper.ghost_name) K.keeps K.fails K.failed (Err c.in-Err.fault) _ c.serve-served.new.server _ _ _ _ c.in-Err.ensures.ends in
+    let e = server_ends {X = X} (λ s. s.system.now) (λ s. s.keeper.now) (λ s. s.system.ghost_name) (λ s. s.keeper.ghost_name) K (Err c.in-Err.fault) _ c.serve-served.new.server _ c.in-Err.ensures.ends in
     let failed : K.failed c.keeper-1.given.0 ≡ false = ap K.failed (c.keeper-1.given.1 (sym e.1.1)) ∙ sym c.has_failed-failed.ensures ∙ c.if-failed.false in (
       λ e. (c.in-Err.ensures.write.0 (ap Err (session-once c.in-Err.fault faults.Write _ refl e)), failed),
       λ h. ap (λ f. Err (script_faults.Session f)) (fault-once c.in-Err.fault faults.Write _ refl (c.in-Err.ensures.write.1 h.0)),
@@ -88,6 +89,6 @@ pub returns-clause-journal : goal.returns-clause-journal
 returns-clause-journal g c =
     let K = g.K.Keeper in
     let X = ScriptServer g.row.K.Denot in
-    let e = server_ends {X = X} (λ s. s.system.now) (λ s. s.keeper.now) (λ s. s.system.ghost_name) (λ s. s.keeper.ghost_name) K.keeps K.fails K.failed (Err c.in-Err.fault) _ c.serve-served.new.server _ _ _ _ c.in-Err.ensures.ends in
+    let e = server_ends {X = X} (λ s. s.system.now) (λ s. s.keeper.now) (λ s. s.system.ghost_name) (λ s. s.keeper.ghost_name) K (Err c.in-Err.fault) _ c.serve-served.new.server _ c.in-Err.ensures.ends in
     let failed : K.failed c.keeper-1.given.0 ≡ false = ap K.failed (c.keeper-1.given.1 (sym e.1.1)) ∙ sym c.has_failed-failed.ensures ∙ c.if-failed.false in
     (λ e. absurd (no-journal c.in-Err.fault _ refl e), λ h. never-both (K.failed c.keeper-1.given.0) h failed)
