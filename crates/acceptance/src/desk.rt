@@ -102,7 +102,7 @@ fn close(
 fn freshness(rt: HostRuntime) {
     let mut said = Vec::new(rt.alloc());
     let system = System::new(rt.alloc(), 16).expect(&rt, "memory");
-    let (desk, mut passes) = Desk::build(rt.alloc(), system, 16, NoKeeper, 2).expect(&rt, "memory");
+    let (desk, mut passes) = Desk::build(rt.alloc(), system, NoKeeper, 2).expect(&rt, "memory");
     let mut second = passes.pop().expect(&rt, "a pass");
     let mut first = passes.pop().expect(&rt, "a pass");
     share(&rt, rt.alloc(), &desk, &mut first, &mut second, &mut said);
@@ -143,7 +143,7 @@ fn worn(rt: HostRuntime) {
     let mut said = Vec::new(rt.alloc());
     let system = System::new(rt.alloc(), 16).expect(&rt, "memory");
     let start = (1 << 62) - 1;
-    let (desk, mut passes) = Desk::build_at(rt.alloc(), system, 16, NoKeeper, 1, start).expect(
+    let (desk, mut passes) = Desk::build_at(rt.alloc(), system, NoKeeper, 1, start).expect(
         &rt, "memory",
     );
     let mut pass = passes.pop().expect(&rt, "a pass");

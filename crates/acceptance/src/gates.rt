@@ -249,7 +249,7 @@ fn hold_up<R: Threads + Wait + Clock + Abort + Sync>(
     head: &str,
 ) {
     let system = System::new(alloc, 1).expect(rt, "memory");
-    let (desk, mut passes) = Desk::build(alloc, system, 1, NoKeeper, 3).expect(rt, "memory");
+    let (desk, mut passes) = Desk::build(alloc, system, NoKeeper, 3).expect(rt, "memory");
     let (Some(third), Some(second), Some(first)) = (passes.pop(), passes.pop(), passes.pop()) else {
         panic!(rt; "no passes")
     };

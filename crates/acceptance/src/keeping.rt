@@ -89,7 +89,7 @@ fn are_answered<R: Wait + Abort>(
 ) -> (bool, bool, bool) {
     let system = System::new(alloc, 16).expect(rt, "memory");
     let keeper = LineKeeper::new(alloc, Paper::new(bytes, good_writes)).expect(rt, "memory");
-    let (desk, mut passes) = Desk::build(alloc, system, 16, keeper, 2).expect(rt, "memory");
+    let (desk, mut passes) = Desk::build(alloc, system, keeper, 2).expect(rt, "memory");
     let mut second = passes.pop().expect(rt, "a pass");
     let mut first = passes.pop().expect(rt, "a pass");
     let (ann, bob) = (&mut first, &mut second);

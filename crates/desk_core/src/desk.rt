@@ -43,43 +43,39 @@ impl<K: Keeper + Drop> Model for Desk<K> {
 }
 
 impl<K: Keeper + Drop> Desk<K> {
-    /// A desk with `count` passes, from 1 to 64, and this system, which has full limits, this chunk,
-    /// and no checkpoint that was begun. Each entry of its journal bears the number of a pass. The
-    /// keeper, which has not failed, keeps what is entered from now on. Turns are counted from 0. The
-    /// passes are numbered from 0 and have seen the journal. `NoMemory` where a request for memory was
+    /// A desk with `count` passes, from 1 to 64, and this system, which has full limits and no
+    /// checkpoint that was begun. Each entry of its journal bears the number of a pass. The keeper,
+    /// which has not failed, keeps what is entered from now on. Turns are counted from 0. The passes
+    /// are numbered from 0 and have seen the journal. `NoMemory` where a request for memory was
     /// refused.
     pub fn build(
         alloc: Global,
         system: System,
-        chunk: usize,
         keeper: K,
         count: usize,
     ) -> Result<(Desk<K>, Vec<Pass<K>>), NoMemory>
         requires counts { (0 < count) × (count ≤ 64) }
-        requires chunk { system.chunk ≡ chunk }
         requires full { IsFull system.limits }
         requires unbegun { system.begun ≡ 0 }
         requires bears { All (λ e. e.pass < count) system.journal }
         requires works { K.failed keeper ≡ false }
         ensures desk { IfOk result (λ b. (b.0.count ≡ count) × (b.0.start ≡ 0)) }
         ensures origin { IfOk result (λ b. origin_of b.0
-            ≡ record { chunk = chunk; front = length system.journal; keeper = keeper }) }
+            ≡ record { chunk = system.chunk; front = length system.journal; keeper = keeper }) }
         ensures passes { IfOk result (λ b. b.1.items ≡ new_passes system.journal b.0) }
     {
-        Desk::build_at(alloc, system, chunk, keeper, count, 0)
+        Desk::build_at(alloc, system, keeper, count, 0)
     }
 
     /// The same, with the turns counted from `start`, at most 2^62.
     pub fn build_at(
         alloc: Global,
         system: System,
-        chunk: usize,
         keeper: K,
         count: usize,
         start: u64,
     ) -> Result<(Desk<K>, Vec<Pass<K>>), NoMemory>
         requires counts { (0 < count) × (count ≤ 64) }
-        requires chunk { system.chunk ≡ chunk }
         requires full { IsFull system.limits }
         requires unbegun { system.begun ≡ 0 }
         requires bears { All (λ e. e.pass < count) system.journal }
@@ -87,10 +83,10 @@ impl<K: Keeper + Drop> Desk<K> {
         requires start { start ≤ 2 ^ 62 }
         ensures desk { IfOk result (λ b. (b.0.count ≡ count) × (b.0.start ≡ start)) }
         ensures origin { IfOk result (λ b. origin_of b.0
-            ≡ record { chunk = chunk; front = length system.journal; keeper = keeper }) }
+            ≡ record { chunk = system.chunk; front = length system.journal; keeper = keeper }) }
         ensures passes { IfOk result (λ b. b.1.items ≡ new_passes system.journal b.0) }
     {
-        let core = Core::new(alloc, system, chunk, keeper)?;
+        let core = Core::new(alloc, system, keeper)?;
         let (turnstile, passes) = Turnstile::build_at(alloc, core, count, start)?;
         Ok((Desk { turnstile }, passes))
     }

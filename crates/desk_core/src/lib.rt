@@ -25,7 +25,7 @@
 //!
 //! ```text
 //! let system = System::new(alloc, 16)?;
-//! let (desk, mut passes) = Desk::build(alloc, system, 16, NoKeeper, 2)?;
+//! let (desk, mut passes) = Desk::build(alloc, system, NoKeeper, 2)?;
 //! let mut second = passes.pop()?;
 //! let mut first = passes.pop()?;
 //! desk.execute(&rt, &mut first, ann, create)?;    // Done { at: Moment(1) }

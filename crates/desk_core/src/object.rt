@@ -150,19 +150,18 @@ impl<K: Keeper> Model for Core<K> {
 }
 
 impl<K: Keeper + Drop> Core<K> {
-    /// This system, of this chunk, whose changes from now on the keeper keeps. `NoMemory` where a
-    /// request for memory was refused.
-    pub fn new(alloc: Global, system: System, chunk: usize, keeper: K) -> Result<Core<K>, NoMemory>
-        requires chunk { system.chunk ≡ chunk }
+    /// This system, whose changes from now on the keeper keeps. `NoMemory` where a request for
+    /// memory was refused.
+    pub fn new(alloc: Global, system: System, keeper: K) -> Result<Core<K>, NoMemory>
         requires full { IsFull system.limits }
         ensures { IfOk result (λ c. c ≡ record {
           world = system;
-          origin = record { chunk = chunk; front = length system.journal; keeper = keeper };
+          origin = record { chunk = system.chunk; front = length system.journal; keeper = keeper };
           keeper = keeper;
         }) }
     {
         let basis = Basis {
-            chunk,
+            chunk: system.chunk(),
             front: system.journal().len(),
             begun: Snapshot::of(&keeper),
         };

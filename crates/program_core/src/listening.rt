@@ -68,7 +68,7 @@ where
     ensures leaves { IfOk result
         (λ left. Leaves asked.entry.workers asked.entry.sessions keeper system left.system) }
     ensures kept { IfOk result (λ left. HasKept K.Keeper
-        (record { chunk = asked.entry.chunk; front = length system.journal; keeper = keeper })
+        (record { chunk = system.chunk; front = length system.journal; keeper = keeper })
         left.system.journal left.keeper) }
 {
     let manners = Manners {
@@ -82,7 +82,6 @@ where
         listener,
         asked.workers,
         asked.sessions,
-        asked.chunk,
         system,
         keeper,
         manners,

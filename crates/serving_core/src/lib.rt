@@ -7,7 +7,7 @@
 //! each once, from the state in which it was handed in.
 //!
 //! ```text
-//! let served = serve_on(&rt, alloc, &listener, 4, 100, 16, system, keeper, manners, &mut err)?;
+//! let served = serve_on(&rt, alloc, &listener, 4, 100, system, keeper, manners, &mut err)?;
 //! served.sessions                                                        // 100
 //! ```
 //!

@@ -125,7 +125,6 @@ fn serve_sessions<K, L, R, G>(
     listener: &TcpListener,
     workers: usize,
     sessions: u64,
-    chunk: usize,
     system: System,
     keeper: K,
     idle: Option<Duration>,
@@ -139,16 +138,16 @@ where
     requires name { blank.name ≡ L.name }
     requires parts { (blank.parts ≡ L.parts) × (L.parts ≡ workers + 1) }
     requires workers { (0 < workers) × (workers ≤ 16) }
-    requires ready { IsReady chunk system }
+    requires ready { IsReady system.chunk system }
     requires works { K.failed keeper ≡ false }
     ensures count { IfOk result (λ served. served.sessions ≡ sessions) }
     ensures leaves { IfOk result (λ served. Leaves workers sessions keeper system served.system) }
     ensures kept { IfOk result (λ served. HasKept K.Keeper
-        (record { chunk = chunk; front = length system.journal; keeper = keeper })
+        (record { chunk = system.chunk; front = length system.journal; keeper = keeper })
         served.system.journal served.keeper) }
 {
     let begun = Snapshot::of(&system);
-    let (desk, passes) = Desk::build(alloc, system, chunk, keeper, workers + 1)?;
+    let (desk, passes) = Desk::build(alloc, system, keeper, workers + 1)?;
     match serve_through::<K, L, R, G>(
         rt, alloc, blank, &desk, &begun, passes, workers, listener, sessions, idle, log,
     ) {
@@ -162,7 +161,7 @@ where
 }
 
 /// Serves so many sessions that the listener gives, by so many threads, from 1 to 16, beside one
-/// that takes the steps of checkpoints, of so many records as the chunk says, from 1 to 64. They
+/// that takes the steps of checkpoints, of so many records as the core's chunk says. They
 /// begin with this core, and the keeper keeps each change before its reply is written. Behind the
 /// last session that is wanted the listener is closed, so that further clients are refused. Then it
 /// closes the desk, and answers the number of sessions, and the core and the keeper that they left.
@@ -187,7 +186,6 @@ pub fn serve_on<K, R, W>(
     listener: &TcpListener,
     workers: usize,
     sessions: u64,
-    chunk: usize,
     system: System,
     keeper: K,
     manners: Manners,
@@ -198,12 +196,12 @@ where
     R: Threads + Wait + Clock + Sync,
     W: Write + Send,
     requires workers { (0 < workers) × (workers ≤ 16) }
-    requires ready { IsReady chunk system }
+    requires ready { IsReady system.chunk system }
     requires works { K.failed keeper ≡ false }
     ensures count { IfOk result (λ served. served.sessions ≡ sessions) }
     ensures leaves { IfOk result (λ served. Leaves workers sessions keeper system served.system) }
     ensures kept { IfOk result (λ served. HasKept K.Keeper
-        (record { chunk = chunk; front = length system.journal; keeper = keeper })
+        (record { chunk = system.chunk; front = length system.journal; keeper = keeper })
         served.system.journal served.keeper) }
 {
     let log = SharedLog {
@@ -219,7 +217,6 @@ where
         listener,
         workers,
         sessions,
-        chunk,
         system,
         keeper,
         manners.idle,

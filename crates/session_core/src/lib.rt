@@ -15,7 +15,7 @@
 //! or a reply is withheld. It makes no entry.
 //!
 //! ```text
-//! let (desk, mut passes) = Desk::build(alloc, System::new(alloc, 16)?, 16, NoKeeper, 2)?;
+//! let (desk, mut passes) = Desk::build(alloc, System::new(alloc, 16)?, NoKeeper, 2)?;
 //! serve_session(&rt, alloc, &desk, &mut pass, &mut reader, &mut writer, &NoGate);
 //! // USER ann                           welcome ann
 //! // CREATE TABLE pay (wage INTEGER)    done @1

@@ -104,6 +104,13 @@ impl System {
         self.ledger.moment()
     }
 
+    /// How many records a step of the checkpointer takes at most.
+    pub fn chunk(&self) -> usize
+        ensures { result ≡ self.now.chunk }
+    {
+        self.chunk
+    }
+
     /// The accepted changes, in order: entry m, counted from 1, made moment m. Each was allowed at
     /// the journal before it, and the checkpoints are as those of a world are.
     pub fn journal(&self) -> &[Entry]

@@ -12,7 +12,7 @@ invariant_of-result g c =
     let is = c.in_ok-system.ensures.ok in
     let same = ap length (c.journal.ensures.journal ∙ ap (λ (w : World). w.journal) (sym is)) in
     let none_left = ap (λ n. drop n c.in_ok-system.system.value.journal) same ∙ drop-length c.in_ok-system.system.value.journal in (
-      ap (λ (w : World). w.chunk) is ∙ c.requires.chunk,
+      ap (λ (w : World). w.chunk) is ∙ sym c.chunk.ensures,
       subst (λ (w : World). IsFull w.limits) (sym is) c.requires.full,
       le_of_eq same,
       λ works. subst (λ (z : g.row.K.Denot × List Entry). KeepsAll K.keeps z.0 z.1 c.args.keeper) (λ i. (sym c.of.ensures i, sym none_left i)) refl,
