@@ -2,5 +2,5 @@ pub mod ImageLemmas
 pub mod FillingLemmas
 pub mod BeginLemmas
 pub mod TakingLemmas
-pub mod MarkLemmas
+pub mod FingerprintLemmas
 pub mod Given

@@ -7,8 +7,8 @@ ghost use Rattle.grants_core.specs.Content as rights;
 ghost use Rattle.grants_core.specs.Keys.{same_key};
 ghost use Rattle.base_core.specs.Privileges.{to_select};
 ghost use Rattle.capture_core.specs.Image.{gives_one};
-ghost use Rattle.capture_core.specs.Marks as marks;
-ghost use Rattle.capture_core.specs.Marks.{grant_mark};
+ghost use Rattle.capture_core.specs.Fingerprints as fingerprint;
+ghost use Rattle.capture_core.specs.Fingerprints.{grant_fingerprint};
 
 use base_core::{Atom, Column, Kind, Name, NoMemory, User};
 use grants_core::Grant;
@@ -20,37 +20,37 @@ use std::marker::Model;
 // A prime below 2^16.
 const PARTS: u32 = 65_521;
 
-// The part of a mark that its grantee makes counts so much.
+// The part of a fingerprint that its grantee makes counts so much.
 const GRANTEES: u32 = 65_536;
 
 /// Grants in the order of their numbers. Contracts see the list.
 ///
-/// Beside each stands a small number, its mark, of which the name of its grantee makes the upper
-/// half and that of its table the lower. Grants that are not looked for mostly differ in it, so a
-/// look-up over many grants reads 4 bytes of each in place of 144. Where a mark found no memory, it
-/// and the later ones are missing.
+/// Beside each stands a small number, its fingerprint, of which the name of its grantee makes the
+/// upper half and that of its table the lower. Grants that are not looked for mostly differ in it,
+/// so a look-up over many grants reads 4 bytes of each in place of 144. Where a fingerprint found
+/// no memory, it and the later ones are missing.
 #[derive(Drop)]
 pub struct Grants {
     grants: Vec<Grant>,
-    marks: Vec<u32>,
+    fingerprints: Vec<u32>,
 }
 
 impl Model for Grants {
     ghost use Rattle.std.specs.Prelude.{◌≡◌, List, length, map, take};
     ghost use Rattle.grants_core.specs.declared.grant.Grant.{Grant};
-    ghost use Rattle.capture_core.specs.Marks.{grant_mark};
+    ghost use Rattle.capture_core.specs.Fingerprints.{grant_fingerprint};
 
     ghost Value = { List Grant };
 
     ghost view = { λ g. g.grants.items };
 
-    ghost invariant = { λ g. g.marks.items
-        ≡ map grant_mark (take (length g.marks.items) g.grants.items) };
+    ghost invariant = { λ g. g.fingerprints.items
+        ≡ map grant_fingerprint (take (length g.fingerprints.items) g.grants.items) };
 }
 
 // The number that the bytes of a name make.
 fn part_of(bytes: &[u8]) -> u32
-    ensures part { result ≡ marks.part_of bytes.now }
+    ensures part { result ≡ fingerprint.part_of bytes.now }
     ensures small { result < 65521 }
 {
     let mut part = 0;
@@ -60,20 +60,22 @@ fn part_of(bytes: &[u8]) -> u32
     part
 }
 
-fn mark_of(user: &User, table: &Name) -> u32
-    ensures { result ≡ marks.mark_of user.now table.now }
+fn fingerprint_of(user: &User, table: &Name) -> u32
+    ensures { result ≡ fingerprint.fingerprint_of user.now table.now }
 {
     part_of(user.0.as_bytes()) * GRANTEES + part_of(table.as_bytes())
 }
 
-// Marks the grants that have no mark yet, as far as there is memory.
-fn mark_all(marked: &mut Vec<u32>, grants: &[Grant])
-    requires { marked.old.items ≡ map grant_mark (take (length marked.old.items) grants.now) }
-    ensures { marked.new.items ≡ map grant_mark (take (length marked.new.items) grants.now) }
+// Gives a fingerprint to the grants that have none yet, as far as there is memory.
+fn fingerprint_all(fingerprints: &mut Vec<u32>, grants: &[Grant])
+    requires { fingerprints.old.items
+        ≡ map grant_fingerprint (take (length fingerprints.old.items) grants.now) }
+    ensures { fingerprints.new.items
+        ≡ map grant_fingerprint (take (length fingerprints.new.items) grants.now) }
 {
-    while let Some(grant) = grants.get(marked.len()) {
-        if marked
-            .push(mark_of(&grant.grantee, &grant.atom.table))
+    while let Some(grant) = grants.get(fingerprints.len()) {
+        if fingerprints
+            .push(fingerprint_of(&grant.grantee, &grant.atom.table))
             .is_err()
         {
             return;
@@ -81,30 +83,32 @@ fn mark_all(marked: &mut Vec<u32>, grants: &[Grant])
     }
 }
 
-// Whether one of the grants that have a mark gives the user the atom.
-fn any_marked(marked: &[u32], grants: &[Grant], user: &User, atom: &Atom) -> bool
-    requires { marked.now ≡ map grant_mark (take (length marked.now) grants.now) }
+// Whether one of the grants that have a fingerprint gives the user the atom.
+fn any_fingerprinted(fingerprints: &[u32], grants: &[Grant], user: &User, atom: &Atom) -> bool
+    requires { fingerprints.now
+        ≡ map grant_fingerprint (take (length fingerprints.now) grants.now) }
     ensures { result
-        ≡ list_any (rights.gives user.now atom.now) (take (length marked.now) grants.now) }
+        ≡ list_any (rights.gives user.now atom.now) (take (length fingerprints.now) grants.now) }
 {
-    let wanted = mark_of(user, &atom.table);
-    for at in 0..marked.len() {
+    let wanted = fingerprint_of(user, &atom.table);
+    for at in 0..fingerprints.len() {
         let grant = &grants[at];
-        if marked[at] == wanted && grant.gives(user, atom) {
+        if fingerprints[at] == wanted && grant.gives(user, atom) {
             return true;
         }
     }
     false
 }
 
-// Whether the mark at a place, if there is one, is of another grantee than the one of whom marks
-// begin here.
-fn is_of_another(marked: &[u32], at: usize, first: u32) -> bool
-    ensures { IsTrue result → ((at < length marked.now)
-        × ((get_or marked.now at 0 < first) ⊎ (first + 65535 < get_or marked.now at 0))) }
+// Whether the fingerprint at a place, if there is one, is of another grantee than the one whose
+// fingerprints begin here.
+fn is_of_another(fingerprints: &[u32], at: usize, first: u32) -> bool
+    ensures { IsTrue result → ((at < length fingerprints.now)
+        × ((get_or fingerprints.now at 0 < first)
+        ⊎ (first + 65535 < get_or fingerprints.now at 0))) }
 {
-    match marked.get(at) {
-        Some(mark) => *mark < first || *mark - first >= GRANTEES,
+    match fingerprints.get(at) {
+        Some(fingerprint) => *fingerprint < first || *fingerprint - first >= GRANTEES,
         None => false,
     }
 }
@@ -125,11 +129,12 @@ fn add_given(given: &mut IndexSet<Key>, grant: &Grant, user: &User) -> Result<()
 // The privileges that one of the grants gives the user.
 fn given_privileges(
     alloc: Global,
-    marked: &[u32],
+    fingerprints: &[u32],
     grants: &[Grant],
     user: &User,
 ) -> Result<IndexSet<Key>, NoMemory>
-    requires { marked.now ≡ map grant_mark (take (length marked.now) grants.now) }
+    requires { fingerprints.now
+        ≡ map grant_fingerprint (take (length fingerprints.now) grants.now) }
     ensures { IfOk result (λ given. (atom : atoms)
         → contains_by (same_key (record { 0 = atom })) given
         ≡ list_any (rights.gives user.now atom) grants.now) }
@@ -138,7 +143,7 @@ fn given_privileges(
     let mut given = IndexSet::new(alloc);
     for at in 0..grants.len() {
         let grant = &grants[at];
-        if !is_of_another(marked, at, first) {
+        if !is_of_another(fingerprints, at, first) {
             add_given(&mut given, grant, user)?;
         }
     }
@@ -155,22 +160,23 @@ fn gives_one(grant: &Grant, user: &User, table: Name, columns: &[Column]) -> boo
     })
 }
 
-// Whether one of the grants that have a mark does.
-fn any_marked_one(
-    marked: &[u32],
+// Whether one of the grants that have a fingerprint does.
+fn any_fingerprinted_one(
+    fingerprints: &[u32],
     grants: &[Grant],
     user: &User,
     table: Name,
     columns: &[Column],
 ) -> bool
-    requires { marked.now ≡ map grant_mark (take (length marked.now) grants.now) }
+    requires { fingerprints.now
+        ≡ map grant_fingerprint (take (length fingerprints.now) grants.now) }
     ensures { result ≡ list_any (gives_one user.now table columns.now)
-        (take (length marked.now) grants.now) }
+        (take (length fingerprints.now) grants.now) }
 {
-    let wanted = mark_of(user, &table);
-    for at in 0..marked.len() {
+    let wanted = fingerprint_of(user, &table);
+    for at in 0..fingerprints.len() {
         let grant = &grants[at];
-        if marked[at] == wanted && gives_one(grant, user, table, columns) {
+        if fingerprints[at] == wanted && gives_one(grant, user, table, columns) {
             return true;
         }
     }
@@ -200,7 +206,7 @@ impl Grants {
     {
         Grants {
             grants: Vec::new(alloc),
-            marks: Vec::new(alloc),
+            fingerprints: Vec::new(alloc),
         }
     }
 
@@ -229,8 +235,8 @@ impl Grants {
     pub fn gives(&self, user: &User, atom: &Atom) -> bool
         ensures { result ≡ list_any (rights.gives user.now atom.now) self.now }
     {
-        any_marked(&self.marks, &self.grants, user, atom)
-            || any_gives(&self.grants[self.marks.len()..], user, atom)
+        any_fingerprinted(&self.fingerprints, &self.grants, user, atom)
+            || any_gives(&self.grants[self.fingerprints.len()..], user, atom)
     }
 
     /// Whether one of them gives the user SELECT of one of the columns of the table. It goes over
@@ -239,8 +245,13 @@ impl Grants {
         ensures { result ≡ list_any
             (λ c. list_any (rights.gives user.now (to_select table c.name)) self.now) columns.now }
     {
-        any_marked_one(&self.marks, &self.grants, user, table, columns)
-            || any_gives_one(&self.grants[self.marks.len()..], user, table, columns)
+        any_fingerprinted_one(&self.fingerprints, &self.grants, user, table, columns)
+            || any_gives_one(
+                &self.grants[self.fingerprints.len()..],
+                user,
+                table,
+                columns,
+            )
     }
 
     /// The privileges that one of them gives the user. `NoMemory` where a request for memory was
@@ -250,7 +261,7 @@ impl Grants {
             → contains_by (same_key (record { 0 = atom })) given
             ≡ list_any (rights.gives user.now atom) self.now) }
     {
-        given_privileges(alloc, &self.marks, &self.grants, user)
+        given_privileges(alloc, &self.fingerprints, &self.grants, user)
     }
 
     /// Takes the next `count` grants of the capture, or all that are left. `NoMemory` where a
@@ -265,10 +276,11 @@ impl Grants {
         if self.grants.is_empty() {
             let ahead = rights.left() as usize;
             self.grants.reserve_exact(ahead)?;
-            let _ = self.marks.reserve_exact(ahead);
+            // Fingerprints that find no memory are missing, and no fault.
+            let _ = self.fingerprints.reserve_exact(ahead);
         }
         rights.capture_step(&mut self.grants, count)?;
-        mark_all(&mut self.marks, &self.grants);
+        fingerprint_all(&mut self.fingerprints, &self.grants);
         Ok(())
     }
 }

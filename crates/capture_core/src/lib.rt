@@ -52,11 +52,11 @@
 //! `begin` and `active` are constant. `abandon` goes over the grants that had still to be taken,
 //! and hands what was taken to the caller. A step of k copies k rows and grants at most, and goes
 //! on over the tables that become whole with them; with a table goes a copy of its columns. `has`
-//! and `owns` go over the image's tables, and `holds` over these and over the marks of its grants,
-//! of 4 bytes each. `privileges_given` of the grants goes over the marks too, and takes memory for
-//! what it gives. Of a capture only `step` takes memory, as much as the image has at the end: room
-//! for the rows of a table, and for the grants, is made at once, so that no long list is moved as
-//! it grows.
+//! and `owns` go over the image's tables, and `holds` over these and over the fingerprints of its
+//! grants, of 4 bytes each. `privileges_given` of the grants goes over these too, and takes memory
+//! for what it gives. Of a capture only `step` takes memory, as much as the image has at the end:
+//! room for the rows of a table, and for the grants, is made at once, so that no long list is moved
+//! as it grows.
 #![tactic(auto)]
 
 mod active;

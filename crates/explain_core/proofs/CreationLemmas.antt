@@ -14,7 +14,7 @@ use Rattle.grants_core.specs.declared.grant.Change.{Change}
 use Rattle.grants_core.specs.declared.grant.Change.TheVariants as change
 use Rattle.grants_core.specs.Owners.{owner_of, owns, with_owner}
 use Rattle.grants_core.specs.History.{owners_with, owners_after}
-use Rattle.grants_core.proofs.OwnersLemmas.{owner_of-cons, owner_of-with_owner, owner_of-marked, owns-with_owner, owns-with_granted}
+use Rattle.grants_core.proofs.OwnersLemmas.{owner_of-cons, owner_of-with_owner, owner_of-noted, owns-with_owner, owns-with_granted}
 use Rattle.grants_core.proofs.HistoryLemmas.{owners-more}
 use Rattle.grants_core.specs.Lawful.{AreCreatedFirst}
 
@@ -64,7 +64,7 @@ owner_stays before (c ∷ cs) table owner first is =
         absurd (let never : ⊥ = cc in never))
         (λ (there : same_name name table ≡ false). owner_of-with_owner name user (owners_after before) table there ∙ is)
         (cases_Bool (same_name name table))
-    one_more (change.Grant by atoms whom option) none = owner_of-marked atoms (owners_after before) table ∙ is
+    one_more (change.Grant by atoms whom option) none = owner_of-noted atoms (owners_after before) table ∙ is
     one_more (change.Revoke by atoms whom) none = is
     one_more (change.RevokeOption by atoms whom) none = is
     one_more (change.Other) none = is

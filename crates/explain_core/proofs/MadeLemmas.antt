@@ -19,7 +19,7 @@ use Rattle.grants_core.specs.Owners.{owns}
 use Rattle.grants_core.specs.Valid.{valid, supports, is_supported}
 use Rattle.grants_core.specs.Content.{option_off}
 use Rattle.grants_core.specs.History.{made_by, made_by_all, grants_of, granted_from, granted, is_granted, is_struck, is_unoptioned, owners_with, owners_after, left_after, unstruck_after, in_force_after}
-use Rattle.grants_core.specs.Marks.{may_grant_after, AreGrantable}
+use Rattle.grants_core.specs.Noted.{may_grant_after, AreGrantable}
 use Rattle.grants_core.proofs.GrantLemmas.{All-implied, All-filtered, All-valid}
 use Rattle.grants_core.proofs.HistoryLemmas.{made_by_all-more, granted_from-append, granted-more, owners-more, none_of, left-early}
 use Rattle.grants_core.proofs.OptionLemmas.{All-options_off}

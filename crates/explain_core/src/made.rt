@@ -32,7 +32,7 @@ impl Made {
                 let (atoms, whom) = (atoms.as_slice(), whom.as_slice());
                 let more = single_grants(alloc, first, at, by, atoms, whom, *option)?;
                 self.grants.extend_from_slice(&more)?;
-                self.owners.mark_granted(atoms);
+                self.owners.note_granted(atoms);
             }
             Change::Revoke { .. } | Change::RevokeOption { .. } | Change::Other => {}
         }

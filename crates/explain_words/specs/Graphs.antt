@@ -1,10 +1,10 @@
 -- Colours of graphs, as Graphviz reads them.
 use Rattle.std.specs.Prelude.{ℕ, List, [], codes}
-use Rattle.explain_words.specs.declared.dot.Mark.{Mark}
-use Rattle.explain_words.specs.declared.dot.Mark.TheVariants as marks
+use Rattle.explain_words.specs.declared.dot.Part.{Part}
+use Rattle.explain_words.specs.declared.dot.Part.TheVariants as parts
 
 -- the colour of an edge: of a right that is held, and of one that was lost
-abbrev pub colour : Mark → List ℕ
-colour marks.Beside = []
-colour marks.Holds = codes ", color=blue"
-colour marks.Lost = codes ", color=red"
+abbrev pub colour : Part → List ℕ
+colour parts.Beside = []
+colour parts.Holds = codes ", color=blue"
+colour parts.Lost = codes ", color=red"

@@ -11,9 +11,9 @@ use explain_core::{Life, Why};
 use grants_core::Grant;
 use std::alloc::Global;
 
-/// What a grant has to do with what was asked.
+/// The part that a grant has in what was asked.
 #[derive(Clone, Copy, PartialEq, Eq)]
-enum Mark {
+enum Part {
     Beside,
     /// It is of a chain by which the user holds it.
     Holds,
@@ -21,52 +21,52 @@ enum Mark {
     Lost,
 }
 
-/// The mark of each grant, by its number.
-type Marks = Vec<Mark>;
+/// The part of each grant, by its number.
+type Parts = Vec<Part>;
 
-/// No marks.
-fn no_marks(alloc: Global, past: &Past<'_>) -> Result<Marks, NoMemory> {
-    let mut marks = Vec::new(alloc);
+/// No grant has a part in it yet.
+fn no_parts(alloc: Global, past: &Past<'_>) -> Result<Parts, NoMemory> {
+    let mut parts = Vec::new(alloc);
     for _ in past.history.lives() {
-        marks.push(Mark::Beside)?;
+        parts.push(Part::Beside)?;
     }
-    Ok(marks)
+    Ok(parts)
 }
 
-fn set_mark(marks: &mut Marks, grant: &Grant, mark: Mark) {
-    if let Some(marked) = marks.get_mut(grant.number as usize) {
-        *marked = mark;
+fn set_part(parts: &mut Parts, grant: &Grant, part: Part) {
+    if let Some(noted) = parts.get_mut(grant.number as usize) {
+        *noted = part;
     }
 }
 
-/// Marks the grants that lead down to one that fell.
-fn mark_descent(
-    marks: &mut Marks,
+/// Notes the grants that lead down to one that fell.
+fn note_descent(
+    parts: &mut Parts,
     alloc: Global,
     past: &Past<'_>,
     life: &Life,
 ) -> Result<(), NoMemory> {
     for step in &past.descent_to(alloc, life.grant.number)? {
-        set_mark(marks, &step.grant, Mark::Lost);
+        set_part(parts, &step.grant, Part::Lost);
     }
     Ok(())
 }
 
-fn mark_descents(
-    marks: &mut Marks,
+fn note_descents(
+    parts: &mut Parts,
     alloc: Global,
     past: &Past<'_>,
     given: &[Life],
 ) -> Result<(), NoMemory> {
     for life in given {
-        mark_descent(marks, alloc, past, life)?;
+        note_descent(parts, alloc, past, life)?;
     }
     Ok(())
 }
 
-/// Marks the grants that tell why the user holds the atom, or why he does not.
-fn mark_why(
-    marks: &mut Marks,
+/// Notes the grants that tell why the user holds the atom, or why he does not.
+fn note_why(
+    parts: &mut Parts,
     alloc: Global,
     past: &Past<'_>,
     user: &User,
@@ -76,29 +76,29 @@ fn mark_why(
         Why::Owns { .. } => Ok(true),
         Why::Holds { chain } => {
             for grant in &chain {
-                set_mark(marks, grant, Mark::Holds);
+                set_part(parts, grant, Part::Holds);
             }
             Ok(true)
         }
         Why::Lacks { given } => {
-            mark_descents(marks, alloc, past, &given)?;
+            note_descents(parts, alloc, past, &given)?;
             Ok(false)
         }
     }
 }
 
-/// The lives of grants of the atoms which have this mark.
+/// The lives of grants of the atoms which have this part.
 fn edges_of(
     alloc: Global,
     past: &Past<'_>,
     atoms: &[Atom],
-    marks: &[Mark],
-    mark: Mark,
+    parts: &[Part],
+    part: Part,
 ) -> Result<Vec<Life>, NoMemory> {
     let mut edges = Vec::new(alloc);
     let lives = past.history.lives();
     for at in 0..lives.len() {
-        if marks.get(at) == Some(&mark) && atoms.contains(&lives[at].grant.atom) {
+        if parts.get(at) == Some(&part) && atoms.contains(&lives[at].grant.atom) {
             edges.reserve(1)?;
             edges.push_reserved(lives[at]);
         }
@@ -154,28 +154,28 @@ fn put_edge(
     text.put(b"];\n")
 }
 
-fn colour_of(mark: Mark) -> &'static [u8]
-    ensures { result.now ≡ colour mark }
+fn colour_of(part: Part) -> &'static [u8]
+    ensures { result.now ≡ colour part }
 {
-    match mark {
-        Mark::Beside => b"",
-        Mark::Holds => b", color=blue",
-        Mark::Lost => b", color=red",
+    match part {
+        Part::Beside => b"",
+        Part::Holds => b", color=blue",
+        Part::Lost => b", color=red",
     }
 }
 
-/// The edges with this mark.
+/// The edges with this part.
 fn put_edges(
     text: &mut Prose,
     alloc: Global,
     past: &Past<'_>,
     atoms: &[Atom],
-    marks: &[Mark],
-    mark: Mark,
+    parts: &[Part],
+    part: Part,
 ) -> Result<(), NoMemory> {
-    let lives = edges_of(alloc, past, atoms, marks, mark)?;
+    let lives = edges_of(alloc, past, atoms, parts, part)?;
     for fold in &folds_of(alloc, &lives)? {
-        put_edge(text, past, atoms.len(), fold, colour_of(mark))?;
+        put_edge(text, past, atoms.len(), fold, colour_of(part))?;
     }
     Ok(())
 }
@@ -207,22 +207,22 @@ fn are_of_one_word(atoms: &[Atom]) -> bool {
     }
 }
 
-/// Appends the graph, in which marked edges have a colour.
+/// Appends the graph, in which noted edges have a colour.
 fn put_graph(
     text: &mut Prose,
     alloc: Global,
     past: &Past<'_>,
     table: &Name,
     atoms: &[Atom],
-    marks: &[Mark],
+    parts: &[Part],
 ) -> Result<(), NoMemory> {
     put_title(text, past, table, atoms)?;
     if let Some(owned) = past.owned(table) {
         text.put_all(&[b"  \"", owned.owner.0.as_bytes(), b"\" [peripheries=2];\n"])?;
     }
-    put_edges(text, alloc, past, atoms, marks, Mark::Beside)?;
-    put_edges(text, alloc, past, atoms, marks, Mark::Lost)?;
-    put_edges(text, alloc, past, atoms, marks, Mark::Holds)?;
+    put_edges(text, alloc, past, atoms, parts, Part::Beside)?;
+    put_edges(text, alloc, past, atoms, parts, Part::Lost)?;
+    put_edges(text, alloc, past, atoms, parts, Part::Holds)?;
     text.put(b"}\n")
 }
 
@@ -234,14 +234,14 @@ pub fn put_grants_graph(
     table: &Name,
     atoms: &[Atom],
 ) -> Result<(), NoMemory> {
-    let marks = no_marks(alloc, past)?;
-    put_graph(text, alloc, past, table, atoms, &marks)
+    let parts = no_parts(alloc, past)?;
+    put_graph(text, alloc, past, table, atoms, &parts)
 }
 
-/// Marks what tells why the user holds the atoms, or how he lost them. Says whether he holds them
+/// Notes what tells why the user holds the atoms, or how he lost them. Says whether he holds them
 /// all.
-fn mark_each(
-    marks: &mut Marks,
+fn note_each(
+    parts: &mut Parts,
     alloc: Global,
     past: &Past<'_>,
     user: &User,
@@ -249,7 +249,7 @@ fn mark_each(
 ) -> Result<bool, NoMemory> {
     let mut holds = true;
     for atom in atoms {
-        holds &= mark_why(marks, alloc, past, user, atom)?;
+        holds &= note_why(parts, alloc, past, user, atom)?;
     }
     Ok(holds)
 }
@@ -264,8 +264,8 @@ pub fn put_why_graph(
     table: &Name,
     atoms: &[Atom],
 ) -> Result<bool, NoMemory> {
-    let mut marks = no_marks(alloc, past)?;
-    let holds = mark_each(&mut marks, alloc, past, user, atoms)?;
-    put_graph(text, alloc, past, table, atoms, &marks)?;
+    let mut parts = no_parts(alloc, past)?;
+    let holds = note_each(&mut parts, alloc, past, user, atoms)?;
+    put_graph(text, alloc, past, table, atoms, &parts)?;
     Ok(holds)
 }

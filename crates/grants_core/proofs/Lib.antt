@@ -10,5 +10,5 @@ pub mod LogLemmas
 pub mod KeptLemmas
 pub mod HistoryLemmas
 pub mod StayLemmas
-pub mod MarkLemmas
+pub mod NotedLemmas
 pub mod SameGrant

@@ -14,7 +14,7 @@ use Rattle.base_core.specs.declared.privilege.Atom.{Atom}
 use Rattle.base_core.proofs.SameLemmas.{same_name-true}
 use Rattle.grants_core.specs.declared.grant.Ownership.{Ownership}
 use Rattle.grants_core.specs.declared.owners.Owned.{Owned}
-use Rattle.grants_core.specs.Owners.{owner_of, with_owner, marked, with_granted}
+use Rattle.grants_core.specs.Owners.{owner_of, with_owner, noted, with_granted}
 use Rattle.grants_core.specs.Owned.{ownership, ownerships}
 use Rattle.grants_core.proofs.OwnersLemmas.{owner_of-cons}
 
@@ -70,16 +70,16 @@ with_owner-apart table user (e ∷ es) apart =
 pub with_owner-new : (table : Name) (user : User) (es : List (Name × Owned)) → lookup (same_name table) es ≡ None → ownerships (es ++ (table, record { owner = user; granted = false }) ∷ []) ≡ with_owner table user (ownerships es)
 with_owner-new table user es none = with_owner-apart table user es (names_apart table es none)
 
--- an entry is marked, or not, as its name says
-marked_as : (atom : Atom) (e : Name × Owned) (b : Bool) → same_name atom.table e.0 ≡ b → marked (atom ∷ []) (ownership e) ≡ ownership (e.0, record { owner = e.1.owner; granted = e.1.granted || b })
-marked_as atom e b is =
+-- an entry is noted, or not, as its name says
+noted_as : (atom : Atom) (e : Name × Owned) (b : Bool) → same_name atom.table e.0 ≡ b → noted (atom ∷ []) (ownership e) ≡ ownership (e.0, record { owner = e.1.owner; granted = e.1.granted || b })
+noted_as atom e b is =
     ap (λ c. ownership (e.0, record { owner = e.1.owner; granted = e.1.granted || (c || false) })) is
     ∙ ap (λ c. ownership (e.0, record { owner = e.1.owner; granted = e.1.granted || c })) (or-false b)
 
 none_marked : (atom : Atom) (es : List (Name × Owned)) → AllByRecursion (λ name. same_name atom.table name ≡ false) (keys_of es) → with_granted (atom ∷ []) (ownerships es) ≡ ownerships es
 none_marked atom [] apart = refl
 none_marked atom (e ∷ es) apart =
-    ap (λ o. o ∷ with_granted (atom ∷ []) (ownerships es)) (marked_as atom e false apart.0 ∙ ap (λ b. ownership (e.0, record { owner = e.1.owner; granted = b })) (or-false e.1.granted))
+    ap (λ o. o ∷ with_granted (atom ∷ []) (ownerships es)) (noted_as atom e false apart.0 ∙ ap (λ b. ownership (e.0, record { owner = e.1.owner; granted = b })) (or-false e.1.granted))
     ∙ ap (λ k. ownership e ∷ k) (none_marked atom es apart.1)
 
 -- a grant of an atom of no table that is there
@@ -102,17 +102,17 @@ with_granted-there atom (e ∷ es) w distinct there =
     ap ownerships (cond-true (is_its e.0) ((e.0, new) ∷ es) (e ∷ set_value is_its es new) here)
     ∙ ap (λ (v : Owned). ownership (e.0, record v { granted = true }) ∷ ownerships es) (sym same)
     ∙ ap (λ b. ownership (e.0, record { owner = e.1.owner; granted = b }) ∷ ownerships es) (sym (or_right e.1.granted true refl))
-    ∙ ap (λ o. o ∷ ownerships es) (sym (marked_as atom e true here))
-    ∙ ap (λ k. marked (atom ∷ []) (ownership e) ∷ k) (sym rest))
+    ∙ ap (λ o. o ∷ ownerships es) (sym (noted_as atom e true here))
+    ∙ ap (λ k. noted (atom ∷ []) (ownership e) ∷ k) (sym rest))
     (λ (apart : is_its e.0 ≡ false).
     let rest : lookup is_its es ≡ Some w = sym (cond-false (is_its e.0) (Some e.1) (lookup is_its es) apart) ∙ there in
     ap ownerships (cond-false (is_its e.0) ((e.0, new) ∷ es) (e ∷ set_value is_its es new) apart)
     ∙ ap (λ k. ownership e ∷ k) (with_granted-there atom es w distinct.1 rest)
     ∙ ap (λ b. ownership (e.0, record { owner = e.1.owner; granted = b }) ∷ with_granted (atom ∷ []) (ownerships es)) (sym (or-false e.1.granted))
-    ∙ ap (λ o. o ∷ with_granted (atom ∷ []) (ownerships es)) (sym (marked_as atom e false apart)))
+    ∙ ap (λ o. o ∷ with_granted (atom ∷ []) (ownerships es)) (sym (noted_as atom e false apart)))
     (cases_Bool (is_its e.0))
 
--- a grant of no atom marks nothing
+-- a grant of no atom notes nothing
 pub with_granted-nil : (os : List Ownership) → with_granted [] os ≡ os
 with_granted-nil [] = refl
 with_granted-nil (o ∷ os) =
@@ -125,4 +125,4 @@ with_granted-more atoms atom (o ∷ os) =
     let is_its : Atom → Bool = λ a. same_name a.table o.table in
     ap (λ b. record o { granted = o.granted || b } ∷ with_granted (atoms ++ atom ∷ []) os) (list_any-append is_its atoms (atom ∷ []))
     ∙ ap (λ b. record o { granted = b } ∷ with_granted (atoms ++ atom ∷ []) os) (sym (or_assoc o.granted (list_any is_its atoms) (list_any is_its (atom ∷ []))))
-    ∙ ap (λ k. marked (atom ∷ []) (marked atoms o) ∷ k) (with_granted-more atoms atom os)
+    ∙ ap (λ k. noted (atom ∷ []) (noted atoms o) ∷ k) (with_granted-more atoms atom os)

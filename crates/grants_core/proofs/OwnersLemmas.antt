@@ -10,7 +10,7 @@ use Rattle.base_core.specs.declared.value.Moment.{Moment}
 use Rattle.base_core.specs.Words.{same_name}
 use Rattle.base_core.specs.Users.{same_user}
 use Rattle.base_core.specs.Privileges.{same_atom}
-use Rattle.grants_core.specs.Owners.{owner_of, owns, was_granted, with_owner, marked, with_granted}
+use Rattle.grants_core.specs.Owners.{owner_of, owns, was_granted, with_owner, noted, with_granted}
 use Rattle.grants_core.specs.Valid.{is_supported, supports, kept_with, valid}
 use Rattle.grants_core.specs.Content.{gives, may_grant, to_each, singles}
 use Rattle.base_core.proofs.SameLemmas.{same_name-true}
@@ -44,7 +44,7 @@ unfolding owns
 owns-with_owner table owner os user atom other =
     ap (λ (k : Option User). elim k as (λ _. Bool) [ Some o ↦ same_user o user | None ↦ false ]) (owner_of-with_owner table owner os atom.table other)
 
--- no table gains or loses its mark
+-- no table gains or loses its note
 pub was_granted-with_owner : (table : Name) (user : User) (os : List Ownership) (t : Name) → was_granted (with_owner table user os) t ≡ was_granted os t
 was_granted-with_owner table user [] t = refl
 was_granted-with_owner table user (o ∷ os) t =
@@ -53,15 +53,15 @@ was_granted-with_owner table user (o ∷ os) t =
       | false ↦ ap (λ k. (o.granted && same_name o.table t) || k) (was_granted-with_owner table user os t)
     ]
 
-pub owner_of-marked : (atoms : List Atom) (os : List Ownership) (t : Name) → owner_of (with_granted atoms os) t ≡ owner_of os t
-owner_of-marked atoms [] t = refl
-owner_of-marked atoms (o ∷ os) t =
-    owner_of-cons (marked atoms o) (with_granted atoms os) t ∙ ap (cond (same_name o.table t) (Some o.owner)) (owner_of-marked atoms os t) ∙ sym (owner_of-cons o os t)
+pub owner_of-noted : (atoms : List Atom) (os : List Ownership) (t : Name) → owner_of (with_granted atoms os) t ≡ owner_of os t
+owner_of-noted atoms [] t = refl
+owner_of-noted atoms (o ∷ os) t =
+    owner_of-cons (noted atoms o) (with_granted atoms os) t ∙ ap (cond (same_name o.table t) (Some o.owner)) (owner_of-noted atoms os t) ∙ sym (owner_of-cons o os t)
 
 pub owns-with_granted : (atoms : List Atom) (os : List Ownership) (user : User) (atom : Atom) → owns (with_granted atoms os) user atom ≡ owns os user atom
 unfolding owns
 owns-with_granted atoms os user atom =
-    ap (λ (k : Option User). elim k as (λ _. Bool) [ Some o ↦ same_user o user | None ↦ false ]) (owner_of-marked atoms os atom.table)
+    ap (λ (k : Option User). elim k as (λ _. Bool) [ Some o ↦ same_user o user | None ↦ false ]) (owner_of-noted atoms os atom.table)
 
 -- the same grants are valid under owners who own alike
 valid_alike : (o p : List Ownership) (kept grants : List Grant) → AllByRecursion (λ g. owns p g.grantor g.atom ≡ owns o g.grantor g.atom) grants → fold (kept_with p) kept grants ≡ fold (kept_with o) kept grants

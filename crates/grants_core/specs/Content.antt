@@ -83,7 +83,7 @@ options_off by atoms whom grants = map (option_off (names by atoms whom)) grants
 abbrev pub after_create : Rights → Name → User → Rights
 after_create c table user = record c { owners = with_owner table user c.owners }
 
--- the single grants are in force, and the tables are marked
+-- the single grants are in force, and the tables are noted
 abbrev pub after_grant : Rights → User → List Atom → List User → Bool → Moment → Rights
 after_grant c by atoms whom option at = record {
   owners = with_granted atoms c.owners;

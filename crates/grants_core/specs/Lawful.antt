@@ -6,7 +6,7 @@ use Rattle.grants_core.specs.declared.grant.Change.{Change}
 use Rattle.grants_core.specs.declared.grant.Change.TheVariants as change
 use Rattle.grants_core.specs.Owners.{owner_of}
 use Rattle.grants_core.specs.History.{owners_after, is_granted}
-use Rattle.grants_core.specs.Marks.{AreGrantable}
+use Rattle.grants_core.specs.Noted.{AreGrantable}
 
 -- each table is created once, and before any grant on it
 abbrev pub AreCreatedFirst : List Change → Type 0

@@ -4,7 +4,7 @@ pub mod Valid
 pub mod Numbers
 pub mod Content
 pub mod History
-pub mod Marks
+pub mod Noted
 pub mod Log
 pub mod Keys
 pub mod KeyLaws

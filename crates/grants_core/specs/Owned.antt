@@ -1,4 +1,4 @@
--- The owners as they are kept: the name of each table, with its owner and mark.
+-- The owners as they are kept: the name of each table, with its owner and note.
 use Rattle.std.specs.Prelude.{List, map}
 use Rattle.base_core.specs.declared.name.Name.{Name}
 use Rattle.grants_core.specs.declared.grant.Ownership.{Ownership}

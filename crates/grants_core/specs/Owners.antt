@@ -30,9 +30,9 @@ abbrev pub was_granted : List Ownership → Name → Bool
 was_granted owners table = list_any (λ o. o.granted && same_name o.table table) owners
 
 -- a table's entry, after a grant of these atoms
-abbrev pub marked : List Atom → Ownership → Ownership
-marked atoms o = record o { granted = o.granted || list_any (λ a. same_name a.table o.table) atoms }
+abbrev pub noted : List Atom → Ownership → Ownership
+noted atoms o = record o { granted = o.granted || list_any (λ a. same_name a.table o.table) atoms }
 
 -- the owners, after a grant of these atoms
 abbrev pub with_granted : List Atom → List Ownership → List Ownership
-with_granted atoms owners = map (marked atoms) owners
+with_granted atoms owners = map (noted atoms) owners

@@ -12,7 +12,7 @@ ghost use Rattle.grants_core.specs.Valid.{valid, is_supported, IsPart, IsInOrder
 ghost use Rattle.grants_core.specs.Content.{holds, may_grant, has_made, names, option_off, options_off, after_create, after_grant, after_revoke, after_revoke_option};
 ghost use Rattle.grants_core.specs.Numbers.{IsNumbered};
 ghost use Rattle.grants_core.specs.History.{granted, made_by_all, is_granted, owners_after, in_force_after, content_after};
-ghost use Rattle.grants_core.specs.Marks.{is_marked, is_granted_once_created, is_granted_uncreated, AreToSomebody, AreGrantable};
+ghost use Rattle.grants_core.specs.Noted.{is_noted, is_granted_once_created, is_granted_uncreated, AreToSomebody, AreGrantable};
 
 /// Whatever is valid in a part of a list of grants is valid in the list: more grants make none
 /// fall.
@@ -108,29 +108,29 @@ pub fn numbers_rise()
         → IsNumbered (content_after changes).made (content_after changes).in_force }
 {}
 
-/// A table is marked exactly where a grant of an atom of it, even to nobody, came after its first
-/// creation. So where each such grant is to somebody, single grants were made on each marked table;
-/// and each table on which one was made is marked, where no grant came before its creation. None
-/// does where each is by a user who may grant it at that point: then a table is marked exactly
+/// A table is noted exactly where a grant of an atom of it, even to nobody, came after its first
+/// creation. So where each such grant is to somebody, single grants were made on each noted table;
+/// and each table on which one was made is noted, where no grant came before its creation. None
+/// does where each is by a user who may grant it at that point: then a table is noted exactly
 /// where a grant on it was ever made.
-pub fn marked_where_granted()
-    ensures marked { (changes : List Change) (table : Name)
-        → is_marked changes table ≡ is_granted_once_created changes table }
+pub fn noted_where_granted()
+    ensures noted { (changes : List Change) (table : Name)
+        → is_noted changes table ≡ is_granted_once_created changes table }
     ensures made { (changes : List Change) (table : Name)
         → AreToSomebody changes table
-        → is_marked changes table ≡ true
+        → is_noted changes table ≡ true
         → is_granted changes table ≡ true }
-    ensures noted { (changes : List Change) (table : Name)
+    ensures made_noted { (changes : List Change) (table : Name)
         → is_granted_uncreated changes table ≡ false
         → is_granted changes table ≡ true
-        → is_marked changes table ≡ true }
+        → is_noted changes table ≡ true }
     ensures created { (changes : List Change) (table : Name)
         → AreGrantable changes
         → is_granted_uncreated changes table ≡ false }
     ensures lawful { (changes : List Change) (table : Name)
         → AreGrantable changes
         → AreToSomebody changes table
-        → is_marked changes table ≡ is_granted changes table }
+        → is_noted changes table ≡ is_granted changes table }
 {}
 
 /// A revocation changes nothing exactly where it names no grant in force.

@@ -57,7 +57,7 @@ impl GrantLog {
                 let first = self.made.len() as u64;
                 let made = &mut self.made;
                 append(alloc, made, first, by, atoms, whom, *option, moment)?;
-                self.owners.mark_granted(atoms);
+                self.owners.note_granted(atoms);
             }
             Change::Revoke { by, atoms, whom } => {
                 let (atoms, whom) = (atoms.as_slice(), whom.as_slice());

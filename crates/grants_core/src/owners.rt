@@ -62,7 +62,7 @@ impl Owners {
     }
 
     // Notes that a grant of the atom was made.
-    fn mark(&mut self, atom: &Atom)
+    fn note(&mut self, atom: &Atom)
         ensures { self.new ≡ with_granted (atom.now ∷ []) self.old }
     {
         if let Some(owned) = self.tables.get_mut(&atom.table) {
@@ -72,11 +72,11 @@ impl Owners {
 
     /// Notes that a grant of these atoms was made: of those of tables without an owner nothing. It
     /// takes no memory.
-    pub fn mark_granted(&mut self, atoms: &[Atom])
+    pub fn note_granted(&mut self, atoms: &[Atom])
         ensures { self.new ≡ with_granted atoms.now self.old }
     {
         for atom in atoms {
-            self.mark(atom);
+            self.note(atom);
         }
     }
 

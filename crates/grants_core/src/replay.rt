@@ -67,7 +67,7 @@ impl Authority for Replay {
         let grants = &mut self.in_force;
         append(self.alloc, grants, self.made, &by, atoms, whom, option, at)?;
         self.made += (atoms.len() * whom.len()) as u64;
-        self.owners.mark_granted(atoms);
+        self.owners.note_granted(atoms);
         Ok(())
     }
 

@@ -10,5 +10,5 @@ pub mod FallLemmas
 pub mod NamedLemmas
 pub mod OptionLemmas
 pub mod LossLemmas
-pub mod MarkedLemmas
+pub mod NotedLemmas
 pub mod SoundLemmas

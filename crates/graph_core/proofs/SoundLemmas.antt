@@ -16,7 +16,7 @@ use Rattle.grants_core.proofs.ValidLemmas.{AreSupported-more, AreSupported-appen
 use Rattle.grants_core.proofs.OptionLemmas.{All-options_off}
 use Rattle.grants_core.proofs.GrantLemmas.{All-implied, All-filtered, All-valid, singles-supported}
 use Rattle.graph_core.specs.Revocation.{IsSound}
-use Rattle.graph_core.proofs.MarkedLemmas.{AreMarked, AreSupported-owners, alike-with_owner, AreMarked-with_owner, AreMarked-with_granted, singles-marked}
+use Rattle.graph_core.proofs.NotedLemmas.{AreNoted, AreSupported-owners, alike-with_owner, AreNoted-with_owner, AreNoted-with_granted, singles-noted}
 
 pub same_content : (os ps : List Ownership) (gs hs : List Grant) (n m : ℕ) → os ≡ ps → gs ≡ hs → n ≡ m → ◌≡◌ {A = Rights} (record { owners = os; in_force = gs; made = n }) (record { owners = ps; in_force = hs; made = m })
 same_content os ps gs hs n m e f g = cc
@@ -24,17 +24,17 @@ same_content os ps gs hs n m e f g = cc
 pub IsSound-with_owner : (table : Name) (owner : User) (os : List Ownership) (edges : List Grant) → was_granted os table ≡ false → IsSound os edges → IsSound (with_owner table owner os) edges
 IsSound-with_owner table owner os edges fresh h = record {
   in_order = h.in_order;
-  supported = AreSupported-owners os (with_owner table owner os) edges edges (alike-with_owner table owner os edges fresh h.marked) h.supported;
-  marked = AreMarked-with_owner table owner os edges h.marked;
+  supported = AreSupported-owners os (with_owner table owner os) edges edges (alike-with_owner table owner os edges fresh h.noted) h.supported;
+  noted = AreNoted-with_owner table owner os edges h.noted;
 }
 
-pub AreMarked-revoked : (os : List Ownership) (edges : List Grant) (by : User) (atoms : List Atom) (whom : List User) → AreMarked os edges → AreMarked os (valid os (without by atoms whom edges))
-AreMarked-revoked os edges by atoms whom h =
+pub AreNoted-revoked : (os : List Ownership) (edges : List Grant) (by : User) (atoms : List Atom) (whom : List User) → AreNoted os edges → AreNoted os (valid os (without by atoms whom edges))
+AreNoted-revoked os edges by atoms whom h =
     let P : Grant → Type 0 = λ g. was_granted os g.atom.table ≡ true in
     All-valid P os (without by atoms whom edges) (All-filtered P (λ g. not (names by atoms whom g)) edges h)
 
-pub AreMarked-unoptioned : (os : List Ownership) (edges : List Grant) (by : User) (atoms : List Atom) (whom : List User) → AreMarked os edges → AreMarked os (valid os (options_off by atoms whom edges))
-AreMarked-unoptioned os edges by atoms whom h =
+pub AreNoted-unoptioned : (os : List Ownership) (edges : List Grant) (by : User) (atoms : List Atom) (whom : List User) → AreNoted os edges → AreNoted os (valid os (options_off by atoms whom edges))
+AreNoted-unoptioned os edges by atoms whom h =
     let P : Grant → Type 0 = λ g. was_granted os g.atom.table ≡ true in
     All-valid P os (options_off by atoms whom edges) (All-options_off P (names by atoms whom) edges (λ g k. k) h)
 
@@ -53,7 +53,7 @@ IsInOrder-same at (g ∷ gs) h = (All-implied (λ k. k.moment ≡ at) (λ k. g.m
 pub IsSound-added : (os : List Ownership) (edges : List Grant) (first : ℕ) (at : Moment) (by : User) (atoms : List Atom) (whom : List User) (option : Bool) → IsSound os edges → All (λ atom. may_grant os edges by atom ≡ true) atoms → All (λ g. g.moment.0 < at.0) edges → IsSound (with_granted atoms os) (edges ++ singles first at by atoms whom option)
 IsSound-added os edges first at by atoms whom option h may later =
     let more : List Grant = singles first at by atoms whom option in
-    let marks : List Ownership = with_granted atoms os in
+    let notes : List Ownership = with_granted atoms os in
     let May : Atom → Type 0 = λ atom. may_grant os edges by atom ≡ true in
     let may_each : AllByRecursion May atoms = recursion_from_All May atoms may in
     let later_each : AllByRecursion (λ g. g.moment.0 < at.0) edges = recursion_from_All (λ g. g.moment.0 < at.0) edges later in
@@ -65,8 +65,8 @@ IsSound-added os edges first at by atoms whom option h may later =
     (AreSupported-more os edges (edges ++ more) more (supported-append os edges more) supported) in
     record {
       in_order = IsInOrder-append at edges more h.in_order later_each then_made (IsInOrder-same at more then_made);
-      supported = AreSupported-owners os marks (edges ++ more) (edges ++ more) (alike-with_granted atoms os (edges ++ more)) old_and_new;
-      marked = AllByRecursion-append (λ g. was_granted marks g.atom.table ≡ true) edges more
-          (AreMarked-with_granted atoms os edges h.marked)
-          (singles-marked os edges first at by atoms whom option h.marked may_each);
+      supported = AreSupported-owners os notes (edges ++ more) (edges ++ more) (alike-with_granted atoms os (edges ++ more)) old_and_new;
+      noted = AllByRecursion-append (λ g. was_granted notes g.atom.table ≡ true) edges more
+          (AreNoted-with_granted atoms os edges h.noted)
+          (singles-noted os edges first at by atoms whom option h.noted may_each);
     }

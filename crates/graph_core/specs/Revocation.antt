@@ -36,8 +36,8 @@ pub record AreUpheld (indexed : Indexed) (owners : List Ownership) (links : List
   pub supported : let grants = grants_of_links indexed links in AreSupported owners grants grants
 
 -- Griffiths and Wade 1976: edges in order of time, each with support among them of an earlier
--- moment, or made by the owner; and each of a table that is marked
+-- moment, or made by the owner; and each of a table that is noted
 pub record IsSound (owners : List Ownership) (edges : List Grant) : Type 0 where
   pub in_order : IsInOrder edges
   pub supported : AreSupported owners edges edges
-  pub marked : AllByRecursion (λ g. was_granted owners g.atom.table ≡ true) edges
+  pub noted : AllByRecursion (λ g. was_granted owners g.atom.table ≡ true) edges

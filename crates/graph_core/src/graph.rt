@@ -117,7 +117,7 @@ impl Authority for Graph {
         ensures rest { self.new.rest ≡ self.old.rest }
     {
         self.edges.add(&by, atoms, whom, option, at)?;
-        self.owners.mark_granted(atoms);
+        self.owners.note_granted(atoms);
         Ok(())
     }
 

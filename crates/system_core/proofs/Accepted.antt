@@ -14,7 +14,7 @@ use Rattle.grants_core.specs.declared.grant.Change.TheVariants as change
 use Rattle.grants_core.specs.Owners.{owner_of}
 use Rattle.grants_core.specs.Content.{may_grant}
 use Rattle.grants_core.specs.History.{granted, owners_after, in_force_after, is_granted}
-use Rattle.grants_core.specs.Marks.{may_grant_after}
+use Rattle.grants_core.specs.Noted.{may_grant_after}
 use Rattle.grants_core.specs.Lawful.{AreLawful}
 use Rattle.monitor_core.specs.Verdict.{is_table, verdict, atoms_at}
 use Rattle.system_core.specs.declared.machine.event.Entry.{Entry}

@@ -16,7 +16,7 @@ use Rattle.grants_core.specs.Valid.{valid}
 use Rattle.grants_core.specs.Content.{Rights, without, names, options_off, singles}
 use Rattle.grants_core.specs.History.{made_by_all, granted, grants_of}
 use Rattle.base_core.proofs.SameLemmas.{same_name-true, same_name-refl}
-use Rattle.grants_core.proofs.OwnersLemmas.{was_granted-with_owner, owner_of-with_owner, owner_of-cons, owner_of-marked, valid-owners, singles-all, AllByRecursion-append}
+use Rattle.grants_core.proofs.OwnersLemmas.{was_granted-with_owner, owner_of-with_owner, owner_of-cons, owner_of-noted, valid-owners, singles-all, AllByRecursion-append}
 use Rattle.grants_core.proofs.GrantLemmas.{All-filtered, All-implied}
 use Rattle.grants_core.proofs.OptionLemmas.{All-options_off}
 use Rattle.grants_core.proofs.HistoryLemmas.{granted_from-append}
@@ -135,7 +135,7 @@ agree-after tables after c d m (change.Create table owner) h on ot grows = recor
 agree-after tables after c d m (change.Grant by atoms whom option) h on ot grows = record {
   in_force = ap (λ f. f ++ singles c.made (record { 0 = m + 1 }) by atoms whom option) h.in_force ∙ ap (λ n. d.in_force ++ singles n (record { 0 = m + 1 }) by atoms whom option) h.made;
   made = ap (λ k. k + length atoms * length whom) h.made;
-  owned = λ name stands. owner_of-marked atoms c.owners name ∙ (h.owned name (grows.old name refl stands) ∙ sym (owner_of-marked atoms d.owners name));
+  owned = λ name stands. owner_of-noted atoms c.owners name ∙ (h.owned name (grows.old name refl stands) ∙ sym (owner_of-noted atoms d.owners name));
   fresh = λ name none.
       let none_before = before tables after (change.Grant by atoms whom option) grows name none in
       marked_other atoms c.owners name (meant_other tables atoms name ot none_before) (h.fresh name none_before);

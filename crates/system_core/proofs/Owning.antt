@@ -17,7 +17,7 @@ use Rattle.grants_core.specs.declared.grant.Ownership.{Ownership}
 use Rattle.grants_core.specs.Owners.{owner_of, with_owner}
 use Rattle.grants_core.specs.History.{owners_with, owners_after}
 use Rattle.base_core.proofs.SameLemmas.{same_name-true}
-use Rattle.grants_core.proofs.OwnersLemmas.{owner_of-with_owner, owner_of-marked}
+use Rattle.grants_core.proofs.OwnersLemmas.{owner_of-with_owner, owner_of-noted}
 use Rattle.monitor_core.specs.Verdict.{atoms_at}
 use Rattle.system_core.specs.declared.machine.event.Entry.{Entry}
 use Rattle.system_core.specs.Journal.{tables_at, tables_after, change_of, changes, rights_at, state_of, IsLawfulFrom, IsLawful}
@@ -67,7 +67,7 @@ module _ (os : List Ownership) (tables : List (Name × Table)) (h : OwnersAre os
   owners-after user (statements.Insert table values) is_new = λ name. changed (λ o. owner_of os name ≡ option_map (λ t. t.owner) o) tables table (with_row (record { values = values })) name (λ e. e ∙ sym (same_owner _ (λ t. refl) (table_of tables name))) (h name)
   owners-after user (statements.Delete table filter) is_new = λ name. changed (λ o. owner_of os name ≡ option_map (λ t. t.owner) o) tables table (without_chosen_rows filter) name (λ e. e ∙ sym (same_owner _ (λ t. refl) (table_of tables name))) (h name)
   owners-after user (statements.Update table sets filter) is_new = λ name. changed (λ o. owner_of os name ≡ option_map (λ t. t.owner) o) tables table (with_updated_rows sets filter) name (λ e. e ∙ sym (same_owner _ (λ t. refl) (table_of tables name))) (h name)
-  owners-after user (statements.Grant privileges table users option) is_new = λ name. owner_of-marked (atoms_at tables table privileges) os name ∙ h name
+  owners-after user (statements.Grant privileges table users option) is_new = λ name. owner_of-noted (atoms_at tables table privileges) os name ∙ h name
   owners-after user _ is_new = h
 
 owners-more : (journal : List Entry) (e : Entry) → IsNew (tables_at journal) e.statement → OwnersStand journal → OwnersStand (journal ++ e ∷ [])

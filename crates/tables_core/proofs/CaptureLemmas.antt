@@ -13,19 +13,19 @@ use Rattle.base_core.specs.declared.name.Name.{Name}
 use Rattle.base_core.specs.declared.value.Row.{Row}
 use Rattle.tables_core.specs.declared.walk.Walk.{Walk}
 use Rattle.tables_core.specs.Contents.{Table, Moves, all_rows}
-use Rattle.tables_core.specs.Capture.{StoredTable, KeepsDue, IsWalk, MarksUpTo, due_for, named_due, rest_in, shown_tables}
+use Rattle.tables_core.specs.Capture.{StoredTable, KeepsDue, IsWalk, CapturesUpTo, due_for, named_due, rest_in, shown_tables}
 
 -- a table that was found is the one there
 some-same : {A : Type 0} (x y : A) → Some x ≡ Some y → x ≡ y
 some-same x y e = cc
 
 -- a table whose own capture was begun for this one
-pub due-joined : (n : ℕ) (t : StoredTable) → t.mark ≡ n → due_for n t ≡ t.due
-due-joined n t q = rw (eq-eqb t.mark n q)
+pub due-joined : (n : ℕ) (t : StoredTable) → t.capture ≡ n → due_for n t ≡ t.due
+due-joined n t q = rw (eq-eqb t.capture n q)
 
 -- a table whose own capture was begun for an earlier one
-due-new : (n : ℕ) (t : StoredTable) → t.mark ≤ n → due_for (n + 1) t ≡ t.contents.rows
-due-new n t le = let ne : t.mark ≢ n + 1 = λ q. absurd (omega arith) in rw (ne_eqb t.mark (n + 1) ne)
+due-new : (n : ℕ) (t : StoredTable) → t.capture ≤ n → due_for (n + 1) t ≡ t.contents.rows
+due-new n t le = let ne : t.capture ≢ n + 1 = λ q. absurd (omega arith) in rw (ne_eqb t.capture (n + 1) ne)
 
 -- the table at the first place gives first
 rest-head_suc : (n at to : ℕ) (ts : List (Name × StoredTable)) (t : Name × StoredTable) → at < to → slice_get ts at ≡ Some t → rest_in n at to ts ≡ named_due n t ++ rest_in n (suc at) to ts
@@ -53,10 +53,10 @@ module _ (n : ℕ) (t : Name × StoredTable) (y : StoredTable) where
   rest-put zero (suc to) (x ∷ ts) (suc i) is h = ap (λ l. named_due n x ++ l) (rest-put zero to ts i is (λ a b. h (omega arith) (omega arith)))
   rest-put (suc c) (suc to) (x ∷ ts) (suc i) is h = rest-put c to ts i is (λ a b. h (omega arith) (omega arith))
 
-  pub marks-put : (ts : List (Name × StoredTable)) (i : ℕ) → y.mark ≤ n → MarksUpTo n ts → MarksUpTo n (set_value_at ts i y)
-  marks-put [] i le h = h
-  marks-put (x ∷ ts) zero le h = (le, h.1)
-  marks-put (x ∷ ts) (suc i) le h = (h.0, marks-put ts i le h.1)
+  pub captures-put : (ts : List (Name × StoredTable)) (i : ℕ) → y.capture ≤ n → CapturesUpTo n ts → CapturesUpTo n (set_value_at ts i y)
+  captures-put [] i le h = h
+  captures-put (x ∷ ts) zero le h = (le, h.1)
+  captures-put (x ∷ ts) (suc i) le h = (h.0, captures-put ts i le h.1)
 
   pub shown-put : (ts : List (Name × StoredTable)) (i : ℕ) → slice_get ts i ≡ Some t → y.contents ≡ t.1.contents → shown_tables (set_value_at ts i y) ≡ shown_tables ts
   shown-put [] i is e = refl
@@ -64,11 +64,11 @@ module _ (n : ℕ) (t : Name × StoredTable) (y : StoredTable) where
   shown-put (x ∷ ts) (suc i) is e = ap (λ l. (x.0, x.1.contents) ∷ l) (shown-put ts i is e)
 
   -- a table that was joined and gave nothing
-  pub rest-joined : (c to : ℕ) (ts : List (Name × StoredTable)) (i : ℕ) → slice_get ts i ≡ Some t → y.mark ≡ n → y.due ≡ due_for n t.1 → rest_in n c to (set_value_at ts i y) ≡ rest_in n c to ts
+  pub rest-joined : (c to : ℕ) (ts : List (Name × StoredTable)) (i : ℕ) → slice_get ts i ≡ Some t → y.capture ≡ n → y.due ≡ due_for n t.1 → rest_in n c to (set_value_at ts i y) ≡ rest_in n c to ts
   rest-joined c to ts i is q u = rest-put c to ts i is (λ a b. due-joined n y q ∙ u)
 
   -- after the table at the walk's place gave its first k rows
-  pub rest-stepped : (at to k : ℕ) (ts : List (Name × StoredTable)) → at < to → slice_get ts at ≡ Some t → y.mark ≡ n → y.due ≡ drop k (due_for n t.1) → rest_in n at to ts ≡ map (λ numbered. (t.0, numbered)) (take k (due_for n t.1)) ++ rest_in n at to (set_value_at ts at y)
+  pub rest-stepped : (at to k : ℕ) (ts : List (Name × StoredTable)) → at < to → slice_get ts at ≡ Some t → y.capture ≡ n → y.due ≡ drop k (due_for n t.1) → rest_in n at to ts ≡ map (λ numbered. (t.0, numbered)) (take k (due_for n t.1)) ++ rest_in n at to (set_value_at ts at y)
   rest-stepped at to k ts lt is q u =
       let name : ℕ × Row → Name × (ℕ × Row) = λ numbered. (t.0, numbered) in
       let given = due_for n t.1 in
@@ -78,10 +78,10 @@ module _ (n : ℕ) (t : Name × StoredTable) (y : StoredTable) where
       rest-head n at to ts t lt is ∙ ap (λ l. l ++ rest_in n (at + 1) to ts) parts ∙ append_assoc (map name (take k given)) (map name (drop k given)) (rest_in n (at + 1) to ts) ∙ ap (λ l. map name (take k given) ++ l) (sym after)
 
   -- a table with nothing left to give is passed
-  pub rest-passed : (at to : ℕ) (ts : List (Name × StoredTable)) → at < to → slice_get ts at ≡ Some t → y.mark ≡ n → y.due ≡ [] → rest_in n at to (set_value_at ts at y) ≡ rest_in n (at + 1) to (set_value_at ts at y)
+  pub rest-passed : (at to : ℕ) (ts : List (Name × StoredTable)) → at < to → slice_get ts at ≡ Some t → y.capture ≡ n → y.due ≡ [] → rest_in n at to (set_value_at ts at y) ≡ rest_in n (at + 1) to (set_value_at ts at y)
   rest-passed at to ts lt is q u = rest-head n at to (set_value_at ts at y) (t.0, y) lt (slice-put ts at is) ∙ ap (λ l. map (λ numbered. (t.0, numbered)) l ++ rest_in n (at + 1) to (set_value_at ts at y)) (due-joined n y q ∙ u)
 
-  pub turn-length : (at to k more : ℕ) (ts : List (Name × StoredTable)) → at < to → slice_get ts at ≡ Some t → y.mark ≡ n → y.due ≡ drop k (due_for n t.1) → more ≡ min k (length (due_for n t.1)) → more + length (rest_in n at to (set_value_at ts at y)) ≡ length (rest_in n at to ts)
+  pub turn-length : (at to k more : ℕ) (ts : List (Name × StoredTable)) → at < to → slice_get ts at ≡ Some t → y.capture ≡ n → y.due ≡ drop k (due_for n t.1) → more ≡ min k (length (due_for n t.1)) → more + length (rest_in n at to (set_value_at ts at y)) ≡ length (rest_in n at to ts)
   turn-length at to k more ts lt is q u g =
       let name : ℕ × Row → Name × (ℕ × Row) = λ numbered. (t.0, numbered) in
       let s = ap length (rest-stepped at to k ts lt is q u) ∙ length-append (map name (take k (due_for n t.1))) (rest_in n at to (set_value_at ts at y)) in
@@ -105,25 +105,25 @@ rest-stands n place to zero ts e =
 rest-stands n place to (suc left) ts e = ap (λ b. rest_in n (cond b to place) to ts) (ne_eqb (suc left) 0 (λ q. absurd (omega arith)))
 
 -- for a new capture each table has all its rows to give
-pub rest-new : (n : ℕ) (ts : List (Name × StoredTable)) → MarksUpTo n ts → rest_in (n + 1) 0 (length ts) ts ≡ all_rows (shown_tables ts)
+pub rest-new : (n : ℕ) (ts : List (Name × StoredTable)) → CapturesUpTo n ts → rest_in (n + 1) 0 (length ts) ts ≡ all_rows (shown_tables ts)
 rest-new n ts h = ap (λ (l : List (Name × StoredTable)). flat_map (named_due (n + 1)) l) (take_all (length ts) ts (omega arith)) ∙ each ts h
   where
-    each : (ts : List (Name × StoredTable)) → MarksUpTo n ts → flat_map (named_due (n + 1)) ts ≡ all_rows (shown_tables ts)
+    each : (ts : List (Name × StoredTable)) → CapturesUpTo n ts → flat_map (named_due (n + 1)) ts ≡ all_rows (shown_tables ts)
     each [] h = refl
     each (t ∷ ts) h = ap (λ l. map (λ numbered. (t.0, numbered)) l ++ flat_map (named_due (n + 1)) ts) (due-new n t.1 h.0) ∙ ap (λ l. map (λ numbered. (t.0, numbered)) t.1.contents.rows ++ l) (each ts h.1)
 
-pub marks-more : (n : ℕ) (ts : List (Name × StoredTable)) → MarksUpTo n ts → MarksUpTo (n + 1) ts
-marks-more n [] h = tt
-marks-more n (t ∷ ts) h = (let k = h.0 in omega arith, marks-more n ts h.1)
+pub captures-more : (n : ℕ) (ts : List (Name × StoredTable)) → CapturesUpTo n ts → CapturesUpTo (n + 1) ts
+captures-more n [] h = tt
+captures-more n (t ∷ ts) h = (let k = h.0 in omega arith, captures-more n ts h.1)
 
--- one more table without a mark
-marks-take_suc : (t : Name × StoredTable) (y : StoredTable) (ts : List (Name × StoredTable)) (i : ℕ) → slice_get ts i ≡ Some t → y.mark ≤ 0 → MarksUpTo 0 (take i ts) → MarksUpTo 0 (take (suc i) (set_value_at ts i y))
-marks-take_suc t y [] i is le h = let no : ⊥ = cc in absurd no
-marks-take_suc t y (x ∷ ts) zero is le h = (le, tt)
-marks-take_suc t y (x ∷ ts) (suc i) is le h = (h.0, marks-take_suc t y ts i is le h.1)
+-- one more table without a capture
+captures-take_suc : (t : Name × StoredTable) (y : StoredTable) (ts : List (Name × StoredTable)) (i : ℕ) → slice_get ts i ≡ Some t → y.capture ≤ 0 → CapturesUpTo 0 (take i ts) → CapturesUpTo 0 (take (suc i) (set_value_at ts i y))
+captures-take_suc t y [] i is le h = let no : ⊥ = cc in absurd no
+captures-take_suc t y (x ∷ ts) zero is le h = (le, tt)
+captures-take_suc t y (x ∷ ts) (suc i) is le h = (h.0, captures-take_suc t y ts i is le h.1)
 
-pub marks-take : (t : Name × StoredTable) (y : StoredTable) (ts : List (Name × StoredTable)) (i : ℕ) → slice_get ts i ≡ Some t → y.mark ≤ 0 → MarksUpTo 0 (take i ts) → MarksUpTo 0 (take (i + 1) (set_value_at ts i y))
-marks-take t y ts i is le h = rw add-one (marks-take_suc t y ts i is le h)
+pub captures-take : (t : Name × StoredTable) (y : StoredTable) (ts : List (Name × StoredTable)) (i : ℕ) → slice_get ts i ≡ Some t → y.capture ≤ 0 → CapturesUpTo 0 (take i ts) → CapturesUpTo 0 (take (i + 1) (set_value_at ts i y))
+captures-take t y ts i is le h = rw add-one (captures-take_suc t y ts i is le h)
 
 -- a table is written under its name
 module _ (test : Name → Bool) where
@@ -135,19 +135,19 @@ module _ (test : Name → Bool) where
       by true h = refl
       by false h = ap (λ l. (t.0, t.1.contents) ∷ l) h
 
-  marks-found : (n : ℕ) (ts : List (Name × StoredTable)) (x : StoredTable) → lookup test ts ≡ Some x → MarksUpTo n ts → x.mark ≤ n
-  marks-found n [] x is h = let no : ⊥ = cc in absurd no
-  marks-found n (t ∷ ts) x is h = by (test t.0) is (λ e. marks-found n ts x e h.1)
+  captures-found : (n : ℕ) (ts : List (Name × StoredTable)) (x : StoredTable) → lookup test ts ≡ Some x → CapturesUpTo n ts → x.capture ≤ n
+  captures-found n [] x is h = let no : ⊥ = cc in absurd no
+  captures-found n (t ∷ ts) x is h = by (test t.0) is (λ e. captures-found n ts x e h.1)
     where
-      by : (b : Bool) → cond b (Some t.1) (lookup test ts) ≡ Some x → (lookup test ts ≡ Some x → x.mark ≤ n) → x.mark ≤ n
-      by true e later = subst (λ (s : StoredTable). s.mark ≤ n) (some-same t.1 x e) h.0
+      by : (b : Bool) → cond b (Some t.1) (lookup test ts) ≡ Some x → (lookup test ts ≡ Some x → x.capture ≤ n) → x.capture ≤ n
+      by true e later = subst (λ (s : StoredTable). s.capture ≤ n) (some-same t.1 x e) h.0
       by false e later = later e
 
-  marks-named : (n : ℕ) (ts : List (Name × StoredTable)) (y : StoredTable) → y.mark ≤ n → MarksUpTo n ts → MarksUpTo n (set_value test ts y)
-  marks-named n [] y le h = h
-  marks-named n (t ∷ ts) y le h = by (test t.0) (marks-named n ts y le h.1)
+  captures-named : (n : ℕ) (ts : List (Name × StoredTable)) (y : StoredTable) → y.capture ≤ n → CapturesUpTo n ts → CapturesUpTo n (set_value test ts y)
+  captures-named n [] y le h = h
+  captures-named n (t ∷ ts) y le h = by (test t.0) (captures-named n ts y le h.1)
     where
-      by : (b : Bool) → MarksUpTo n (set_value test ts y) → MarksUpTo n (cond b ((t.0, y) ∷ ts) (t ∷ set_value test ts y))
+      by : (b : Bool) → CapturesUpTo n (set_value test ts y) → CapturesUpTo n (cond b ((t.0, y) ∷ ts) (t ∷ set_value test ts y))
       by true later = (le, h.1)
       by false later = (h.0, later)
 
@@ -200,7 +200,7 @@ module _ (test : Name → Bool) (ts : List (Name × StoredTable)) (w : Walk) (x 
 
   pub walk-kept : (total more : ℕ) → IsWalk ts w total → more ≡ length (all_rows (shown_tables (set_value test ts y))) % 2 ^ 64 → IsWalk (set_value test ts y) w more
   walk-kept total more s t = record {
-    marks = marks-named test w.number ts y (kept.mark (marks-found test w.number ts x there s.marks)) s.marks;
+    captures = captures-named test w.number ts y (kept.capture (captures-found test w.number ts x there s.captures)) s.captures;
     ordered = s.ordered;
     within = let k = length-set_value test ts y in let o = s.within in omega arith;
     left_is = s.left_is ∙ ap length (sym rest-kept);
@@ -213,9 +213,9 @@ stands-within true place to le = omega arith
 stands-within false place to le = le
 
 -- a walk that comes to another place, at its end where nothing is left
-pub walk-stands : (ts : List (Name × StoredTable)) (n place to left total : ℕ) → MarksUpTo n ts → place ≤ to → to ≤ length ts → left ≡ length (rest_in n place to ts) → total ≡ length (all_rows (shown_tables ts)) % 2 ^ 64 → IsWalk ts (record { number = n; cursor = cond (eqb left 0) to place; end = to; left = left }) total
-walk-stands ts n place to left total marks le within l t = record {
-  marks = marks;
+pub walk-stands : (ts : List (Name × StoredTable)) (n place to left total : ℕ) → CapturesUpTo n ts → place ≤ to → to ≤ length ts → left ≡ length (rest_in n place to ts) → total ≡ length (all_rows (shown_tables ts)) % 2 ^ 64 → IsWalk ts (record { number = n; cursor = cond (eqb left 0) to place; end = to; left = left }) total
+walk-stands ts n place to left total captures le within l t = record {
+  captures = captures;
   ordered = stands-within (eqb left 0) place to le;
   within = within;
   left_is = l ∙ ap length (sym (rest-stands n place to left ts l));
@@ -227,10 +227,10 @@ pub total-few : (total long : ℕ) → total ≡ long % 2 ^ 64 → long < 2 ^ 63
 total-few total long t few = omega arith
 
 -- a capture of which a part was given
-pub walk-stepped : (ts us : List (Name × StoredTable)) (w : Walk) (place given total : ℕ) → IsWalk ts w total → shown_tables us ≡ shown_tables ts → MarksUpTo w.number us → place ≤ w.end → given + length (rest_in w.number place w.end us) ≡ length (rest_in w.number w.cursor w.end ts) → IsWalk us (record { number = w.number; cursor = cond (eqb (w.left - given) 0) w.end place; end = w.end; left = w.left - given }) total
-walk-stepped ts us w place given total s same marks le gone =
+pub walk-stepped : (ts us : List (Name × StoredTable)) (w : Walk) (place given total : ℕ) → IsWalk ts w total → shown_tables us ≡ shown_tables ts → CapturesUpTo w.number us → place ≤ w.end → given + length (rest_in w.number place w.end us) ≡ length (rest_in w.number w.cursor w.end ts) → IsWalk us (record { number = w.number; cursor = cond (eqb (w.left - given) 0) w.end place; end = w.end; left = w.left - given }) total
+walk-stepped ts us w place given total s same captures le gone =
     let show : Name × StoredTable → Name × Table = λ t. (t.0, t.1.contents) in
     let long : length us ≡ length ts = sym (length-map us show) ∙ (ap length same ∙ length-map ts show) in
     let within : w.end ≤ length us = let k = s.within in omega arith in
     let left : w.left - given ≡ length (rest_in w.number place w.end us) = let k = s.left_is in omega arith in
-    walk-stands us w.number place w.end (w.left - given) total marks le within left (s.total_is ∙ ap (λ l. length (all_rows l) % 2 ^ 64) (sym same))
+    walk-stands us w.number place w.end (w.left - given) total captures le within left (s.total_is ∙ ap (λ l. length (all_rows l) % 2 ^ 64) (sym same))

@@ -14,7 +14,7 @@ use Rattle.base_core.specs.declared.value.Column.{Column}
 use Rattle.base_core.specs.declared.value.Row.{Row}
 use Rattle.tables_core.specs.declared.walk.Walk.{Walk}
 use Rattle.tables_core.specs.Contents.{Table, all_rows, empty_table, table_of, with_change, with_row}
-use Rattle.tables_core.specs.Capture.{StoredTable, KeepsDue, IsWalk, MarksUpTo, named_due, rest_in, shown_tables}
+use Rattle.tables_core.specs.Capture.{StoredTable, KeepsDue, IsWalk, CapturesUpTo, named_due, rest_in, shown_tables}
 use Rattle.tables_core.proofs.CaptureLemmas.{all_rows-changed, rest-kept, shown-named, walk-kept}
 use Rattle.tables_core.proofs.ContentsLemmas.{with_change-some, with_change-none}
 
@@ -57,9 +57,9 @@ module _ (ts : List (Name × StoredTable)) (name : Name) (t : StoredTable) (w : 
   pub rest-added : w.end ≤ length ts → rest_in w.number w.cursor w.end (ts ++ (name, t) ∷ []) ≡ rest_in w.number w.cursor w.end ts
   rest-added within = ap (λ l. flat_map (named_due w.number) (drop w.cursor l)) (take-append-le w.end ts ((name, t) ∷ []) within)
 
-  marks-added : (n : ℕ) (us : List (Name × StoredTable)) → t.mark ≤ n → MarksUpTo n us → MarksUpTo n (us ++ (name, t) ∷ [])
-  marks-added n [] le h = (le, tt)
-  marks-added n (u ∷ us) le h = (h.0, marks-added n us le h.1)
+  captures-added : (n : ℕ) (us : List (Name × StoredTable)) → t.capture ≤ n → CapturesUpTo n us → CapturesUpTo n (us ++ (name, t) ∷ [])
+  captures-added n [] le h = (le, tt)
+  captures-added n (u ∷ us) le h = (h.0, captures-added n us le h.1)
 
   rows-added : t.contents.rows ≡ [] → all_rows (shown_tables (ts ++ (name, t) ∷ [])) ≡ all_rows (shown_tables ts)
   rows-added empty =
@@ -69,9 +69,9 @@ module _ (ts : List (Name × StoredTable)) (name : Name) (t : StoredTable) (w : 
       ∙ ap (λ rows. all_rows (shown_tables ts) ++ (map (λ numbered. (name, numbered)) rows ++ [])) empty
       ∙ append-nil (all_rows (shown_tables ts))
 
-  pub walk-added : (total : ℕ) → t.mark ≡ w.number → t.contents.rows ≡ [] → IsWalk ts w total → IsWalk (ts ++ (name, t) ∷ []) w total
-  walk-added total mark empty s = record {
-    marks = marks-added w.number ts (omega arith) s.marks;
+  pub walk-added : (total : ℕ) → t.capture ≡ w.number → t.contents.rows ≡ [] → IsWalk ts w total → IsWalk (ts ++ (name, t) ∷ []) w total
+  walk-added total capture empty s = record {
+    captures = captures-added w.number ts (omega arith) s.captures;
     ordered = s.ordered;
     within = let long = length-append ts ((name, t) ∷ []) in let k = s.within in omega arith;
     left_is = s.left_is ∙ ap length (sym (rest-added s.within));

@@ -5,24 +5,24 @@ use Rattle.base_core.specs.declared.name.Name.{Name}
 use Rattle.base_core.specs.declared.value.Row.{Row}
 use Rattle.tables_core.specs.Contents.{Table, all_rows}
 use Rattle.copyup_core.specs.Holding.{due}
-use Rattle.tables_core.specs.declared.marked.Marked.{Marked}
+use Rattle.tables_core.specs.declared.captured.Captured.{Captured}
 use Rattle.tables_core.specs.declared.walk.Walk.{Walk}
 
 -- a table; the number of the last capture that its own was begun for; and what its own has still to
 -- give
 pub record StoredTable : Type 0 where
   pub contents : Table
-  pub mark : ℕ
+  pub capture : ℕ
   pub due : List (ℕ × Row)
 
 -- what a table has to give for the capture of this number: where its own was begun for that one,
 -- what is due of it; else nothing was changed since, and all its rows
 abbrev pub due_for : ℕ → StoredTable → List (ℕ × Row)
-due_for number t = if t.mark == number then t.due else t.contents.rows
+due_for number t = if t.capture == number then t.due else t.contents.rows
 
 -- the same of a table's rows by themselves
-abbrev pub rows_due_for : ℕ → Marked → List (ℕ × Row)
-rows_due_for number m = if m.mark == number then due m.store else m.store.contents
+abbrev pub rows_due_for : ℕ → Captured → List (ℕ × Row)
+rows_due_for number m = if m.capture == number then due m.store else m.store.contents
 
 -- what a table has to give, each row with the name of the table
 abbrev pub named_due : ℕ → Name × StoredTable → List (Name × (ℕ × Row))
@@ -33,8 +33,8 @@ abbrev pub rest_in : ℕ → ℕ → ℕ → List (Name × StoredTable) → List
 rest_in number from to ts = flat_map (named_due number) (drop from (take to ts))
 
 -- no table's own capture was begun for a later one than this
-abbrev pub MarksUpTo : ℕ → List (Name × StoredTable) → Type 0
-MarksUpTo number ts = AllByRecursion (λ t. t.1.mark ≤ number) ts
+abbrev pub CapturesUpTo : ℕ → List (Name × StoredTable) → Type 0
+CapturesUpTo number ts = AllByRecursion (λ t. t.1.capture ≤ number) ts
 
 -- the tables as callers see them
 abbrev pub shown_tables : List (Name × StoredTable) → List (Name × Table)
@@ -42,13 +42,13 @@ shown_tables ts = map (λ t. (t.0, t.1.contents)) ts
 
 -- a change to a table leaves what it has to give for a capture that still walks
 pub record KeepsDue (w : Walk) (old new : StoredTable) : Type 0 where
-  pub mark : old.mark ≤ w.number → new.mark ≤ w.number
+  pub capture : old.capture ≤ w.number → new.capture ≤ w.number
   pub due : w.cursor < w.end → due_for w.number new ≡ due_for w.number old
 
 -- the capture has come to a table among those that it covers; what is left of it is counted, and so
 -- are all rows, modulo 2^64
 pub record IsWalk (ts : List (Name × StoredTable)) (w : Walk) (total : ℕ) : Type 0 where
-  pub marks : MarksUpTo w.number ts
+  pub captures : CapturesUpTo w.number ts
   pub ordered : w.cursor ≤ w.end
   pub within : w.end ≤ length ts
   pub left_is : w.left ≡ length (rest_in w.number w.cursor w.end ts)

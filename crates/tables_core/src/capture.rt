@@ -1,7 +1,7 @@
 //! A capture of all tables: its number, and its steps.
 ghost use Rattle.std.specs.Prelude.{◌≡◌, ◌+◌, ◌≤◌, ◌⊎◌, length, map, false};
 ghost use Rattle.std.specs.List.{flat_map};
-ghost use Rattle.tables_core.specs.Capture.{MarksUpTo, rest_in, shown_tables};
+ghost use Rattle.tables_core.specs.Capture.{CapturesUpTo, rest_in, shown_tables};
 ghost use Rattle.tables_core.specs.Contents.{Moves, all_rows};
 
 use crate::rows::NumberedRow;
@@ -12,28 +12,28 @@ use indexmap::IndexMap;
 use std::alloc::Global;
 
 /// Lets no table's own capture bear a number.
-fn unmark(tables: &mut IndexMap<Name, Table>)
+fn release(tables: &mut IndexMap<Name, Table>)
     ensures shown { shown_tables tables.new.entries ≡ shown_tables tables.old.entries }
-    ensures marks { MarksUpTo 0 tables.new.entries }
+    ensures captures { CapturesUpTo 0 tables.new.entries }
 {
     for place in 0..tables.len() {
         let (_, table) = tables.pair_mut(place);
-        table.unmark();
+        table.release();
     }
 }
 
 /// The number of the next capture, for which no table's own was begun.
 pub fn next_number(tables: &mut IndexMap<Name, Table>, number: u64) -> u64
-    requires { MarksUpTo number tables.old.entries }
+    requires { CapturesUpTo number tables.old.entries }
     ensures shown { shown_tables tables.new.entries ≡ shown_tables tables.old.entries }
-    ensures marks { MarksUpTo result tables.new.entries }
+    ensures captures { CapturesUpTo result tables.new.entries }
     ensures rest { rest_in result 0 (length tables.new.entries) tables.new.entries
         ≡ all_rows (shown_tables tables.new.entries) }
 {
     if number < u64::MAX {
         return number + 1;
     }
-    unmark(tables);
+    release(tables);
     1
 }
 
@@ -56,10 +56,10 @@ pub fn walk_on(
     count: usize,
 ) -> Stop
     requires within { walk.cursor ≤ walk.end × walk.end ≤ length tables.old.entries }
-    requires marks { MarksUpTo walk.number tables.old.entries }
+    requires captures { CapturesUpTo walk.number tables.old.entries }
     ensures place { (walk.cursor ≤ result.place) × (result.place ≤ walk.end) }
     ensures shown { shown_tables tables.new.entries ≡ shown_tables tables.old.entries }
-    ensures marks { MarksUpTo walk.number tables.new.entries }
+    ensures captures { CapturesUpTo walk.number tables.new.entries }
     ensures moves { Moves (rest_in walk.number walk.cursor walk.end tables.old.entries)
         (rest_in walk.number result.place walk.end tables.new.entries)
         out.old.items

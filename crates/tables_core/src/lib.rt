@@ -110,13 +110,13 @@
 
 mod bounds;
 mod capture;
+mod captured;
 mod column_index;
 mod columns;
 mod filter;
 mod indexes;
 mod laws;
 mod listed;
-mod marked;
 mod resolved;
 mod rows;
 mod scan;

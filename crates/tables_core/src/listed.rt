@@ -42,7 +42,7 @@ pub fn keep_chosen(conditions: &Resolved<'_, Condition>, rows: &Store<Row>, numb
 }
 
 /// The named columns of the rows of these numbers.
-pub fn select_listed(
+pub fn rows_listed(
     alloc: Global,
     names: &Resolved<'_, Name>,
     rows: &Store<Row>,

@@ -114,7 +114,7 @@ pub fn cut_or_shared(
 }
 
 /// The named columns of the rows that the filter chooses.
-pub fn select_chosen(
+pub fn rows_scanned(
     alloc: Global,
     names: &Resolved<'_, Name>,
     conditions: &Resolved<'_, Condition>,
@@ -157,7 +157,7 @@ impl Sieve<Row> for Unchosen<'_> {
 }
 
 /// Drops the rows that the filter chooses.
-fn drop_each(rows: &mut Store<Row>, indexes: &Indexes, conditions: &Resolved<'_, Condition>)
+fn drop_found(rows: &mut Store<Row>, indexes: &Indexes, conditions: &Resolved<'_, Condition>)
     requires { ListAll indexes.now.kept.items rows.old.contents }
     ensures contents { rows.new.contents
         ≡ filter (λ r. not (satisfies conditions.now.columns.now conditions.now.items.now r))
@@ -189,6 +189,6 @@ pub fn drop_chosen(
 {
     let before = rows.len();
     let filter = Resolved::new(columns, conditions);
-    drop_each(rows, indexes, &filter);
+    drop_found(rows, indexes, &filter);
     before - rows.len()
 }

@@ -4,9 +4,9 @@ ghost use Rattle.tables_core.specs.Capture.{KeepsDue, due_for};
 ghost use Rattle.tables_core.specs.Contents.{empty_table, with_row, without_chosen_rows, with_updated_rows, selected_rows};
 ghost use Rattle.tables_core.specs.Fitting.{ColumnsDiffer, ValuesFit, AssignmentsFit, IsWellTyped};
 
+use crate::captured::Captured;
 use crate::indexes::Indexes;
-use crate::listed::select_listed;
-use crate::marked::Marked;
+use crate::listed::rows_listed;
 use crate::resolved::Resolved;
 use crate::rows::{self, NumberedRow};
 use crate::update::update_chosen;
@@ -22,7 +22,7 @@ pub struct Table {
     owner: User,
     columns: Sequence<Column>,
     inserted: u64,
-    rows: Marked,
+    rows: Captured,
     indexes: Indexes,
 }
 
@@ -40,7 +40,7 @@ impl Model for Table {
         inserted = t.inserted;
         rows = t.rows.store.contents;
       };
-      mark = t.rows.mark;
+      capture = t.rows.capture;
       due = due t.rows.store;
     } };
 
@@ -68,16 +68,16 @@ impl Table {
     ) -> Table
         requires { ColumnsDiffer columns }
         ensures contents { result.contents ≡ empty_table owner columns }
-        ensures mark { result.mark ≡ number }
+        ensures capture { result.capture ≡ number }
         ensures due { result.due ≡ [] }
     {
         Table {
             owner,
             columns,
             inserted: 0,
-            rows: Marked {
+            rows: Captured {
                 store: Store::new(alloc),
-                mark: number,
+                capture: number,
             },
             indexes: Indexes::new(alloc, least),
         }
@@ -171,8 +171,8 @@ impl Table {
         let names = Resolved::new(columns, names);
         let conditions = Resolved::new(columns, filter);
         match self.indexes.find(&conditions, &self.rows.store) {
-            Some(numbers) => select_listed(alloc, &names, &self.rows.store, numbers),
-            None => rows::select_chosen(alloc, &names, &conditions, &self.rows.store),
+            Some(numbers) => rows_listed(alloc, &names, &self.rows.store, numbers),
+            None => rows::rows_scanned(alloc, &names, &conditions, &self.rows.store),
         }
     }
 
@@ -218,11 +218,11 @@ impl Table {
     }
 
     /// Lets the table's own capture bear no number.
-    pub fn unmark(&mut self)
+    pub fn release(&mut self)
         ensures contents { self.new.contents ≡ self.old.contents }
-        ensures mark { self.new.mark ≡ 0 }
+        ensures capture { self.new.capture ≡ 0 }
     {
-        self.rows.mark = 0;
+        self.rows.capture = 0;
     }
 
     /// Appends to `out` the next `count` rows, or all, that the table has to give for the capture
@@ -235,7 +235,7 @@ impl Table {
         out: &mut Vec<(Name, NumberedRow)>,
         count: usize,
     ) -> Result<usize, NoMemory>
-        ensures mark { self.new.mark ≡ number }
+        ensures capture { self.new.capture ≡ number }
         ensures contents { self.new.contents ≡ self.old.contents }
         ensures given { IfOk result
             (λ given. given ≡ min count (length (due_for number self.old))) }

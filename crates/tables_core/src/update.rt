@@ -8,9 +8,9 @@ ghost use Rattle.tables_core.specs.Contents.{assigned_row, assigned_values, sati
 ghost use Rattle.tables_core.specs.Indexing.{ListAll};
 ghost use Rattle.tables_core.specs.Updating.{with_new_rows};
 
+use crate::captured::Captured;
 use crate::indexes::Indexes;
 use crate::listed::new_rows_listed;
-use crate::marked::Marked;
 use crate::resolved::Resolved;
 use crate::rows::NumberedRow;
 use crate::scan::Scan;
@@ -65,7 +65,7 @@ pub fn push_assigned(
 }
 
 /// Each row that the filter chooses, as it is after the assignments, under its number.
-fn new_rows_of(
+fn new_rows_scanned(
     alloc: Global,
     rows: &Store<Row>,
     sets: &Resolved<'_, Assignment>,
@@ -89,7 +89,7 @@ fn new_rows_of(
 }
 
 /// The same, by an index where one serves.
-fn new_rows_found(
+fn new_rows(
     alloc: Global,
     rows: &Store<Row>,
     indexes: &Indexes,
@@ -106,7 +106,7 @@ fn new_rows_found(
 {
     match indexes.find(conditions, rows) {
         Some(numbers) => new_rows_listed(alloc, rows, sets, numbers),
-        None => new_rows_of(alloc, rows, sets, conditions),
+        None => new_rows_scanned(alloc, rows, sets, conditions),
     }
 }
 
@@ -128,7 +128,7 @@ pub fn update_chosen(
     alloc: Global,
     walk: Walk,
     columns: &[Column],
-    rows: &mut Marked,
+    rows: &mut Captured,
     indexes: &mut Indexes,
     sets: &[Assignment],
     filter: &[Condition],
@@ -140,7 +140,7 @@ pub fn update_chosen(
         ≡ map (updated_row columns.now sets.now filter.now) rows.old.store.contents) }
     ensures no_memory { OnErr result (rows.new.store.contents ≡ rows.old.store.contents) }
     ensures next { rows.new.store.next ≡ rows.old.store.next }
-    ensures mark { rows.old.mark ≤ walk.number → rows.new.mark ≤ walk.number }
+    ensures capture { rows.old.capture ≤ walk.number → rows.new.capture ≤ walk.number }
     ensures due { walk.cursor < walk.end
         → rows_due_for walk.number rows.new ≡ rows_due_for walk.number rows.old }
 {
@@ -148,7 +148,7 @@ pub fn update_chosen(
     let count = rows.store.len();
     let conditions = Resolved::new(columns, filter);
     let changes = Resolved::new(columns, sets);
-    let new_rows = new_rows_found(alloc, &rows.store, indexes, &changes, &conditions)?;
+    let new_rows = new_rows(alloc, &rows.store, indexes, &changes, &conditions)?;
     indexes.note_changed(columns, sets, new_rows.as_slice(), count);
     rows.prepare(walk);
     set_new_rows(&mut rows.store, new_rows);

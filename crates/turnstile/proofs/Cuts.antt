@@ -10,7 +10,7 @@ use Rattle.turnstile.specs.declared.view.View.{View}
 use Rattle.turnstile.specs.declared.view.Terms.{Terms}
 use Rattle.turnstile.specs.Logs.{StartsWith}
 use Rattle.turnstile.specs.Rule.{total, pass_count, turn_count, tickets, ticket_count, Apart, PassFits, ViewFits, Out, Turns, dealer}
-use Rattle.turnstile.specs.Steps.{first_known, first_pass, other_passes, dealt, dealt_one, noted, spent_view, heard, gathered}
+use Rattle.turnstile.specs.Steps.{first_known, first_pass, other_passes, dealt, dealt_one, note_of, spent_view, heard, gathered}
 use Rattle.turnstile.proofs.Lists.{total_set, total-append, total_snoc, seats_stay, starts_here, put, put_here, put_else, at_both, moved, moved_here, moved_else}
 use Rattle.turnstile.proofs.Keeps.{at_one, slot_stays, later}
 
@@ -108,8 +108,8 @@ module _ {O E F : Type 0} (log : O → List E) (by : E → ℕ) (mark : O → �
       (λ i. (ap other_passes (sym has) i, ap first_pass (sym has) i)) (deals_goes id v k ks has un)
 
   -- a pass gives a note
-  pub notes_goes : (id : ℕ) (v : SeatView) (k : Known E) → v.passes ≡ k ∷ [] → Splits Rule id v v (noted v)
-  notes_goes id v k only s r at = forks s r id v v (noted v) r.owner at refl (omega arith) (omega arith) (omega arith) (λ p j e other. e) (λ f. f)
+  pub notes_goes : (id : ℕ) (v : SeatView) (k : Known E) → v.passes ≡ k ∷ [] → Splits Rule id v v (note_of v)
+  notes_goes id v k only s r at = forks s r id v v (note_of v) r.owner at refl (omega arith) (omega arith) (omega arith) (λ p j e other. e) (λ f. f)
       (λ f. let p = f.passes 0 k (ap (λ z. get_elem? z 0) only) in let is : k ≡ first_known v.passes = sym (ap first_known only) in record {
         passes = λ m l e. absurd (some-ne-none l (sym e));
         apart = tt;

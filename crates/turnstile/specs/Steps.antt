@@ -99,8 +99,8 @@ module _ {O E F : Type 0} where
   dealt_one v = dealer (first_pass v.passes) v.terms
 
   -- a note of what the seat's pass knows
-  abbrev pub noted : View O E F → View O E F
-  noted v =
+  abbrev pub note_of : View O E F → View O E F
+  note_of v =
       record {
         passes = [];
         told = (first_known v.passes).seen;

@@ -1,5 +1,5 @@
 //! What each step tells the seat that makes it. These types are for the proofs alone.
-ghost use Rattle.turnstile.specs.Steps.{counts, draws, called, ends, dealt, dealt_one, noted, spent_view, heard, gathered, learns};
+ghost use Rattle.turnstile.specs.Steps.{counts, draws, called, ends, dealt, dealt_one, note_of, spent_view, heard, gathered, learns};
 
 use crate::object::Object;
 use crate::view::View;
@@ -55,7 +55,7 @@ pub struct Tell;
 impl<O, E, F> Split<View<O, E, F>> for Tell {
     ghost left = { λ v. v };
 
-    ghost right = { noted };
+    ghost right = { note_of };
 }
 
 /// A seat takes over what another was told.

@@ -1,16 +1,16 @@
 use Rattle.std.proofs.Common.{sym, subst, refl, List}
 use Rattle.grants_core.specs.declared.grant.Grant.{Grant}
-use Rattle.graph_core.proofs.MarkedLemmas.{AreMarked}
-use Rattle.graph_core.proofs.SoundLemmas.{AreMarked-revoked, same_content}
+use Rattle.graph_core.proofs.NotedLemmas.{AreNoted}
+use Rattle.graph_core.proofs.SoundLemmas.{AreNoted-revoked, same_content}
 use Rattle.graph_core.proofs.graph.GraphAuthority.revoke.Goals as goal
 
 pub invariant_of-self : goal.invariant_of-self
 invariant_of-self c =
-    let Marked : List Grant → Type 0 = λ k. AreMarked c.self.inside.owners k in
+    let Noted : List Grant → Type 0 = λ k. AreNoted c.self.inside.owners k in
     record {
       in_order = c.revoke.ensures.in_order;
       supported = c.revoke.ensures.supported;
-      marked = subst Marked (sym c.revoke.ensures.valid) (AreMarked-revoked c.self.inside.owners c.self.inside.edges.edges c.args.by c.args.atoms.now c.args.whom.now c.self.invariant.marked);
+      noted = subst Noted (sym c.revoke.ensures.valid) (AreNoted-revoked c.self.inside.owners c.self.inside.edges.edges c.args.by c.args.atoms.now c.args.whom.now c.self.invariant.noted);
     }
 
 pub returns-clause-content : goal.returns-clause-content

@@ -16,7 +16,7 @@ invariant_of-self c =
     let whole : rest_in c.next_number-number.result 0 c.len.result us ≡ all_rows (shown_tables us) = rw c.len.ensures.len e.rest in
     let all = total-few s.total (length (all_rows (shown_tables us))) counted few in
     subst (λ (w : Walk). IsWalk us w s.total) (sym c.standing_at-self-inside.ensures)
-    (walk-stands us c.next_number-number.result 0 c.len.result s.total s.total e.marks (omega arith) (omega (arith, c.len.ensures.len)) (all ∙ ap length (sym whole)) counted)
+    (walk-stands us c.next_number-number.result 0 c.len.result s.total s.total e.captures (omega arith) (omega (arith, c.len.ensures.len)) (all ∙ ap length (sym whole)) counted)
 
 pub returns : goal.returns
 returns c =

@@ -10,7 +10,7 @@ invariant_of-self c =
     let e = c.walk_on-stop.ensures in
     let us = c.walk_on-stop.new.tables.entries in
     subst (λ (w : Walk). IsWalk us w s.total) (sym c.standing_at-self-inside.ensures)
-    (walk-stepped s.tables.entries us s.walk c.walk_on-stop.result.place c.walk_on-stop.result.given s.total c.self.invariant e.shown e.marks e.place.1 e.left)
+    (walk-stepped s.tables.entries us s.walk c.walk_on-stop.result.place c.walk_on-stop.result.given s.total c.self.invariant e.shown e.captures e.place.1 e.left)
 
 pub invariant_of-self-2 : goal.invariant_of-self-2
 invariant_of-self-2 c =
@@ -18,4 +18,4 @@ invariant_of-self-2 c =
     let e = c.walk_on-stop.ensures in
     let us = c.walk_on-stop.new.tables.entries in
     subst (λ (w : Walk). IsWalk us w s.total) (sym c.standing_at-self-inside.ensures)
-    (walk-stepped s.tables.entries us s.walk c.walk_on-stop.result.place c.walk_on-stop.result.given s.total c.self.invariant e.shown e.marks e.place.1 e.left)
+    (walk-stepped s.tables.entries us s.walk c.walk_on-stop.result.place c.walk_on-stop.result.given s.total c.self.invariant e.shown e.captures e.place.1 e.left)

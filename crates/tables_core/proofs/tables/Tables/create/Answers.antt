@@ -22,7 +22,7 @@ invariant_of-self-2 c =
     let ts = c.self.inside.tables.entries in
     let absent = none-there c.args.name ts (rw (← c.self.view_is) at c.requires.new) in
     let entries = c.in_ok-insert.ensures.entries ∙ insert_entry-new same_name c.self.inside.tables c.args.name c.new-table.result absent in
-    subst (λ l. IsWalk l w c.self.inside.total) (sym entries) (walk-added ts c.args.name c.new-table.result w c.self.inside.total c.new-table.ensures.mark (ap (λ (k : Table). k.rows) c.new-table.ensures.contents) c.self.invariant)
+    subst (λ l. IsWalk l w c.self.inside.total) (sym entries) (walk-added ts c.args.name c.new-table.result w c.self.inside.total c.new-table.ensures.capture (ap (λ (k : Table). k.rows) c.new-table.ensures.contents) c.self.invariant)
 
 pub returns-clause-ok : goal.returns-clause-ok
 returns-clause-ok c =

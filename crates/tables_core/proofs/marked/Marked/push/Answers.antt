@@ -1,5 +1,0 @@
-use Rattle.std.proofs.Common.{rules}
-use Rattle.tables_core.proofs.marked.Marked.push.Goals as goal
-
-pub returns-clause-due : goal.returns-clause-due
-returns-clause-due c = search rules
