@@ -154,7 +154,23 @@ def waits_for_the_last(program, check):
     check("behind the last who waited", ended == (0, b"served 2\n", []), ended)
 
 
-TESTS = (idle_workers, sessions_that_run, waits_for_a_worker, idle_sessions, last_session, waits_for_the_last)
+def no_last_session(program, check):
+    """Where nobody says how many sessions there are to be, a server goes on behind as many as it once ended with."""
+    server = Server(program, None, workers=4)
+    welcomed = 0
+    for _ in range(10050):
+        with server.connect() as client:
+            client.sendall(b"USER ann\n")
+            welcomed += client.recv(100) == b"welcome ann\n"
+    check("many short sessions", welcomed == 10050, welcomed)
+    ann = Session(server, "ann")
+    said = [ann.welcome, ann.ask("CHECKPOINTS"), ann.end()]
+    check("one behind many", said == ["welcome ann\n", "checkpoints 0 @0\n", ""], said)
+    check("it serves on", server.child.poll() is None, server.child.poll())
+
+
+TESTS = (idle_workers, sessions_that_run, waits_for_a_worker, idle_sessions, last_session, waits_for_the_last,
+    no_last_session)
 
 
 def played(program, check):

@@ -116,7 +116,7 @@ def faults(explained):
         (["why", "a", "SELECT"], "<TABLE>"),
         (["whence"], "unrecognized subcommand 'whence'"),
         (["rights", "t"], "unexpected argument 't'"),
-        (["--at", "1000001", "rights"], "1000001 is not in 0..=1000000"),
+        (["--at", "1000000001", "rights"], "1000000001 is not in 0..=1000000000"),
         (["--at", "-1", "rights"], "-1"),
         (["--format", "pdf", "rights"], "possible values: text, csv, dot"),
     ):

@@ -156,6 +156,10 @@ def missing(files):
     refused(files, "that does not load", ("--load", bad, "--journal", "behind"),
         "sysr: bad: line 2: denied @1: table t exists\n")
     files.is_missing("that does not load", "behind")
+    two = files.made("two", LINES)
+    refused(files, "of more changes than may be", ("--changes", "1", "--load", two, "--journal", "behind"),
+        "sysr: two: line 2: refused @1: full: changes\n")
+    files.is_missing("of more changes than may be", "behind")
 
 
 def named_twice(files):

@@ -117,6 +117,15 @@ def large_streams():
     return given, wanted + [f"row,{a},{b},{c}" for a, b, c in texts] + ["audit ok 0"]
 
 
+def most_changes():
+    """As many changes as the words of the command line say: then each is refused, and queries go on."""
+    given = ["ann: CREATE TABLE t (x INTEGER)", *4 * ["ann: INSERT INTO t VALUES (1)"], "ann: SELECT * FROM t"]
+    for most in (1, 2, 4, 1000000000):
+        done = min(most, 5)
+        wanted = [f"done @{m}" for m in range(1, done + 1)] + (5 - done) * [f"refused @{most}: full: changes"]
+        yield ["--changes", str(most)], given, [*wanted, f"rows {done - 1} @{done}", *(done - 1) * ["row,1"]]
+
+
 def chunks():
     """What is left of 200 records behind the first step, by the words of the command line."""
     given = ["ann: CREATE TABLE t (x INTEGER)", *200 * ["ann: INSERT INTO t VALUES (1)"]]

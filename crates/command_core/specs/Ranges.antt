@@ -1,5 +1,7 @@
 -- The numbers of a command line.
 use Rattle.std.specs.Prelude.{ℕ, ◌<◌, ◌≤◌, Option, IfSome}
+use Rattle.base_core.specs.Full.{IsFullBut}
+use Rattle.base_core.specs.declared.limits.Limits.{Limits}
 use Rattle.command_core.specs.declared.command_line.CommandLine.{CommandLine}
 use Rattle.command_core.specs.declared.command_line.CommandLine.TheVariants as asked
 
@@ -7,23 +9,28 @@ use Rattle.command_core.specs.declared.command_line.CommandLine.TheVariants as a
 abbrev pub IsChunk : ℕ → Type 0
 IsChunk chunk = (0 < chunk) × (chunk ≤ 64)
 
+-- full limits, but of changes as many as are asked for, of which there is one at least
+abbrev pub AreAsked : Limits → Type 0
+AreAsked limits = IsFullBut limits.changes limits × (0 < limits.changes)
+
 -- the seconds after which an idle session ends, if they are given
 abbrev pub IsIdle : Option ℕ → Type 0
 IsIdle idle = IfSome idle (λ seconds. (0 < seconds) × (seconds ≤ 86400))
 
 -- the moment that is asked for, if one is
 abbrev pub IsMoment : Option ℕ → Type 0
-IsMoment at = IfSome at (λ m. m ≤ 1000000)
+IsMoment at = IfSome at (λ m. m ≤ 1000000000)
 
 -- each number that is asked for is in its range
 abbrev pub IsInRange : CommandLine → Type 0
-IsInRange (asked.Run r) = IsChunk r.chunk
-IsInRange (asked.Journal reading) = Unit {0}
-IsInRange (asked.Dump load reading) = Unit {0}
+IsInRange (asked.Run r) = IsChunk r.chunk × AreAsked r.limits
+IsInRange (asked.Journal reading) = AreAsked reading.limits
+IsInRange (asked.Dump load reading) = AreAsked reading.limits
 IsInRange (asked.Serve s) =
     ((0 < s.port) × (s.port ≤ 65535))
     × ((0 < s.workers) × (s.workers ≤ 16))
-    × ((0 < s.sessions) × (s.sessions ≤ 10000))
+    × (0 < s.sessions)
     × IsChunk s.chunk
+    × AreAsked s.limits
     × IsIdle s.idle
-IsInRange (asked.Explain e) = IsMoment e.at
+IsInRange (asked.Explain e) = IsMoment e.at × AreAsked e.reading.limits

@@ -1,9 +1,10 @@
 //! What the command line says.
 ghost use Rattle.std.specs.Prelude.{◌<◌, ◌≤◌, IfOk};
-ghost use Rattle.command_core.specs.Ranges.{IsChunk, IsIdle, IsMoment, IsInRange};
+ghost use Rattle.command_core.specs.Ranges.{AreAsked, IsChunk, IsIdle, IsMoment, IsInRange};
 
 use crate::commands::program;
-use crate::reading::{Reading, reading_of};
+use crate::reading::{Reading, limits_of, reading_of};
+use base_core::Limits;
 use clap::error::ErrorKind;
 use clap::{ArgMatches, Error};
 use explain_text::Question;
@@ -21,13 +22,11 @@ const WORKERS: u8 = 4;
 
 const MAX_WORKERS: u8 = 16;
 
-const SESSIONS: u16 = 10_000;
-
-const MAX_SESSIONS: u16 = 10_000;
+const MAX_SESSIONS: u32 = 1_000_000_000;
 
 const MAX_IDLE: u32 = 86_400;
 
-const MAX_MOMENT: u32 = 1_000_000;
+const MAX_MOMENT: u32 = 1_000_000_000;
 
 /// What the command line asks for.
 #[derive(Clone, Copy)]
@@ -47,27 +46,30 @@ pub enum CommandLine<'a> {
     Explain(Explaining<'a>),
 }
 
-/// How lines are answered: how many records a step of the checkpointer takes, from which file the
-/// first changes come, to which each change is written, and whether to audit at the end.
+/// How lines are answered: how many records a step of the checkpointer takes, how much there may be,
+/// from which file the first changes come, to which each change is written, and whether to audit at
+/// the end.
 #[derive(Clone, Copy)]
 pub struct Running<'a> {
     pub chunk: usize,
+    pub limits: Limits,
     pub load: Option<&'a str>,
     pub journal: Option<&'a str>,
     pub audit: bool,
 }
 
 /// The sessions that are asked for: at which port of this machine, how many, by how many threads,
-/// how many records a step of the checkpointer takes, for how many seconds a session waits for its
-/// client, if not for ever, and whether it is told where sessions begin and end; from which file the
-/// first changes come, to which each change is written, to which the state is written at the end,
-/// and whether to audit then.
+/// how many records a step of the checkpointer takes, how much there may be, for how many seconds a
+/// session waits for its client, if not for ever, and whether it is told where sessions begin and
+/// end; from which file the first changes come, to which each change is written, to which the state
+/// is written at the end, and whether to audit then.
 #[derive(Clone, Copy)]
 pub struct Serving<'a> {
     pub port: u16,
     pub workers: usize,
     pub sessions: u64,
     pub chunk: usize,
+    pub limits: Limits,
     pub idle: Option<u64>,
     pub log: bool,
     pub load: Option<&'a str>,
@@ -104,6 +106,17 @@ fn idle_of(matches: &ArgMatches<'_>) -> Option<u64>
     Some(seconds.clamp(1, MAX_IDLE) as u64)
 }
 
+// clap has refused a number out of range. Without one there is no end to them: 64 bits count all that
+// a server will ever take.
+fn sessions_of(matches: &ArgMatches<'_>) -> u64
+    ensures { 0 < result }
+{
+    match matches.get_one::<u32>("sessions") {
+        Some(sessions) => sessions.clamp(1, MAX_SESSIONS) as u64,
+        None => u64::MAX,
+    }
+}
+
 // clap has refused a command line without a port, and a number out of range: so none of the numbers
 // for that case is ever taken.
 fn serving_of<'a>(matches: &ArgMatches<'a>) -> Serving<'a>
@@ -111,12 +124,12 @@ fn serving_of<'a>(matches: &ArgMatches<'a>) -> Serving<'a>
 {
     let port = matches.get_one::<u16>("port").unwrap_or(1).max(1);
     let workers = matches.get_one::<u8>("workers").unwrap_or(WORKERS);
-    let sessions = matches.get_one::<u16>("sessions").unwrap_or(SESSIONS);
     Serving {
         port,
         workers: workers.clamp(1, MAX_WORKERS) as usize,
-        sessions: sessions.clamp(1, MAX_SESSIONS) as u64,
+        sessions: sessions_of(matches),
         chunk: chunk_of(matches),
+        limits: limits_of(matches),
         idle: idle_of(matches),
         log: matches.get_flag("log"),
         load: matches.get_str("load"),
@@ -131,6 +144,7 @@ fn running_of<'a>(matches: &ArgMatches<'a>) -> Running<'a>
 {
     Running {
         chunk: chunk_of(matches),
+        limits: limits_of(matches),
         load: matches.get_str("load"),
         journal: matches.get_str("journal"),
         audit: matches.get_flag("audit"),
@@ -214,9 +228,10 @@ fn explaining_of<'a>(matches: &ArgMatches<'a>) -> Explaining<'a>
 
 /// Reads the words of a command line, of which the first is the name of the program. Each number is
 /// in its range: the chunk from 1 to 64, and 16 where none is given; the port from 1 to 65,535; the
-/// workers from 1 to 16, and 4 where none are given; the sessions from 1 to 10,000, and 10,000
-/// where none are given; the seconds of an idle session, if they are given, from 1 to 86,400; the
-/// moment of an explanation, if it is given, from 0 to 1,000,000. An error is clap's: the words
+/// workers from 1 to 16, and 4 where none are given; the sessions from 1 to 1,000,000,000, and 2^64 - 1
+/// where none are given, so that there is no end to them; the changes from 1 to 1,000,000,000, and 1,000,000 where none are given; the
+/// seconds of an idle session, if they are given, from 1 to 86,400; the moment of an explanation, if
+/// it is given, from 0 to 1,000,000,000. An error is clap's: the words
 /// were refused, help or the version was asked for, or there was no memory.
 pub fn options<'a, S: AsStr>(alloc: Global, words: &'a [S]) -> Result<CommandLine<'a>, Error>
     ensures { IfOk result IsInRange }

@@ -81,6 +81,16 @@ fn chunk_arg<'a>(alloc: Global) -> Arg<'a> {
     )
 }
 
+pub(crate) fn changes_arg<'a>(alloc: Global) -> Arg<'a> {
+    let help =
+        "Changes that are accepted at most, from 1 to 1,000,000,000; 1,000,000 where it is not \
+        given";
+    taking(
+        value_arg(alloc, "changes", "n", help),
+        clap::value_parser!(u32).range(1..=1000000000),
+    )
+}
+
 fn audit_arg<'a>(alloc: Global) -> Arg<'a> {
     let help = "At the end compares the rights in force with a replay of the journal";
     flag_arg(alloc, "audit", help)
@@ -108,6 +118,7 @@ fn run_command<'a>(alloc: Global) -> Made<'a> {
     let about = "Answers the lines of standard input on standard output";
     let made = command(alloc, "run", about, FORM_OF_A_LINE);
     let made = with(made, chunk_arg(alloc));
+    let made = with(made, changes_arg(alloc));
     let made = with(made, load_arg(alloc));
     let made = with(made, journal_arg(alloc));
     with(made, audit_arg(alloc))
@@ -145,10 +156,11 @@ fn workers_arg<'a>(alloc: Global) -> Arg<'a> {
 
 fn sessions_arg<'a>(alloc: Global) -> Arg<'a> {
     let help =
-        "Sessions that are served before it ends, from 1 to 10,000; 10,000 where it is not given";
+        "Sessions that are served before it ends, from 1 to 1,000,000,000; it serves on where \
+        it is not given";
     taking(
         value_arg(alloc, "sessions", "k", help),
-        clap::value_parser!(u16).range(1..=10000),
+        clap::value_parser!(u32).range(1..=1000000000),
     )
 }
 
@@ -177,6 +189,7 @@ fn serve_command<'a>(alloc: Global) -> Made<'a> {
     let made = with(made, workers_arg(alloc));
     let made = with(made, sessions_arg(alloc));
     let made = with(made, chunk_arg(alloc));
+    let made = with(made, changes_arg(alloc));
     let made = with(made, idle_arg(alloc));
     let made = with(made, log_arg(alloc));
     let made = with(made, load_arg(alloc));

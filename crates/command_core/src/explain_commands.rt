@@ -44,10 +44,10 @@ sysr explain cut eve SELECT pay < pay.journal
 writes lines that take it from eve, as few as that takes.";
 
 fn at_arg<'a>(alloc: Global) -> Arg<'a> {
-    let help = "Answers as of the moment behind the m-th change, from 0 to 1,000,000";
+    let help = "Answers as of the moment behind the m-th change, from 0 to 1,000,000,000";
     let arg = taking(
         value_arg(alloc, "at", "m", help),
-        clap::value_parser!(u32).range(0..=1000000),
+        clap::value_parser!(u32).range(0..=1000000000),
     );
     arg.global(true)
 }

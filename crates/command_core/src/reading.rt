@@ -1,7 +1,13 @@
 //! How a command reads standard input.
+ghost use Rattle.command_core.specs.Ranges.{AreAsked};
 
+use base_core::Limits;
 use clap::ArgMatches;
 use load_core::{CutLine, Form};
+
+const CHANGES: u32 = 1_000_000;
+
+const MAX_CHANGES: u32 = 1_000_000_000;
 
 /// How a command reads standard input, and with which status it ends.
 #[derive(Clone, Copy, PartialEq, Eq)]
@@ -12,6 +18,8 @@ pub struct Reading {
     pub cut_line: CutLine,
     /// Whether the status is 1 where lines were left out or the last line was cut off.
     pub strict: bool,
+    /// How much there may be.
+    pub limits: Limits,
 }
 
 // clap has refused another word.
@@ -30,11 +38,22 @@ fn form_of(matches: &ArgMatches<'_>) -> Form {
     }
 }
 
+/// How much there may be. clap has refused a number out of range.
+pub(crate) fn limits_of(matches: &ArgMatches<'_>) -> Limits
+    ensures { AreAsked result }
+{
+    let changes = matches.get_one::<u32>("changes").unwrap_or(CHANGES);
+    Limits::with_changes(changes.clamp(1, MAX_CHANGES) as u64)
+}
+
 /// What the words of a command say of the reading.
-pub(crate) fn reading_of(matches: &ArgMatches<'_>) -> Reading {
+pub(crate) fn reading_of(matches: &ArgMatches<'_>) -> Reading
+    ensures { AreAsked result.limits }
+{
     Reading {
         form: form_of(matches),
         cut_line: cut_line_of(matches),
         strict: matches.get_flag("strict"),
+        limits: limits_of(matches),
     }
 }

@@ -1,6 +1,6 @@
 //! The flags of the commands that read a journal or a script.
 
-use crate::commands::{Made, flag_arg, value_arg, with};
+use crate::commands::{Made, changes_arg, flag_arg, value_arg, with};
 use clap::Arg;
 use std::alloc::Global;
 
@@ -30,5 +30,6 @@ fn strict_arg<'a>(alloc: Global) -> Arg<'a> {
 pub fn with_reading<'a>(alloc: Global, command: Made<'a>, is_global: bool) -> Made<'a> {
     let command = with(command, script_arg(alloc).global(is_global));
     let command = with(command, cut_line_arg(alloc).global(is_global));
-    with(command, strict_arg(alloc).global(is_global))
+    let command = with(command, strict_arg(alloc).global(is_global));
+    with(command, changes_arg(alloc).global(is_global))
 }

@@ -2,6 +2,7 @@
 
 use crate::command_line::{CommandLine, options};
 use crate::reading::Reading;
+use base_core::Limits;
 use clap::Error;
 use clap::error::ErrorKind;
 use load_core::{CutLine, Form};
@@ -9,11 +10,14 @@ use std::alloc::Global;
 use std::process::Abort;
 use std::test::Fail;
 
-const OF_A_JOURNAL: Reading = Reading {
-    form: Form::Journal,
-    cut_line: CutLine::Refuse,
-    strict: false,
-};
+fn of_a_journal() -> Reading {
+    Reading {
+        form: Form::Journal,
+        cut_line: CutLine::Refuse,
+        strict: false,
+        limits: Limits::full(),
+    }
+}
 
 // How the command that these words name reads standard input, if it reads a journal or a script.
 fn read(alloc: Global, words: &[&str]) -> Result<Option<Reading>, Error> {
@@ -63,7 +67,7 @@ fn journals_are_read_without_a_flag(rt: HostRuntime) -> Result<(), Fail> {
         "sysr explain rights",
         "sysr explain --cut-line refuse fell",
     ];
-    all_read(&rt, rt.alloc(), &lines, OF_A_JOURNAL)
+    all_read(&rt, rt.alloc(), &lines, of_a_journal())
 }
 
 #[test]
@@ -76,7 +80,7 @@ fn scripts_are_read(rt: HostRuntime) -> Result<(), Fail> {
     ];
     let wanted = Reading {
         form: Form::Script,
-        ..OF_A_JOURNAL
+        ..of_a_journal()
     };
     all_read(&rt, rt.alloc(), &lines, wanted)
 }
@@ -91,7 +95,7 @@ fn cut_lines_are_dropped(rt: HostRuntime) -> Result<(), Fail> {
     ];
     let wanted = Reading {
         cut_line: CutLine::Drop,
-        ..OF_A_JOURNAL
+        ..of_a_journal()
     };
     all_read(&rt, rt.alloc(), &lines, wanted)
 }
@@ -106,9 +110,30 @@ fn readings_are_strict(rt: HostRuntime) -> Result<(), Fail> {
     ];
     let wanted = Reading {
         strict: true,
-        ..OF_A_JOURNAL
+        ..of_a_journal()
     };
     all_read(&rt, rt.alloc(), &lines, wanted)
+}
+
+#[test]
+fn changes_are_counted_up_to_a_number(rt: HostRuntime) -> Result<(), Fail> {
+    let lines = [
+        "sysr journal --changes 50000000",
+        "sysr dump --changes 50000000",
+        "sysr explain --changes 50000000 rights",
+        "sysr explain rights --changes 50000000",
+    ];
+    let wanted = Reading {
+        limits: Limits::with_changes(50_000_000),
+        ..of_a_journal()
+    };
+    all_read(&rt, rt.alloc(), &lines, wanted)?;
+    let out_of_range = [
+        "sysr run --changes 0",
+        "sysr run --changes 1000000001",
+        "sysr serve --port 7878 --changes 0",
+    ];
+    all_refused(&rt, rt.alloc(), &out_of_range, ErrorKind::ValueValidation)
 }
 
 #[test]

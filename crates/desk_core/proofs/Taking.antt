@@ -3,8 +3,6 @@ use Rattle.std.proofs.Common.{◌≡◌, ◌≤◌, ◌<◌, ◌+◌, ◌^◌, �
 use Rattle.std.specs.Prelude.{Result, Ok, Err, IfOk, OnOk, OnErr, MatchResult}
 use Rattle.std.proofs.lemmas.List.{drop_at}
 use Rattle.std.proofs.lemmas.List.Elements.{All-weaker}
-use Rattle.base_core.specs.Full.{IsFull}
-use Rattle.base_core.specs.declared.limits.Limits.{Limits}
 use Rattle.turnstile.specs.Logs.{gained}
 use Rattle.turnstile.specs.Passes.{mine}
 use Rattle.turnstile.specs.Turned.{Turned}
@@ -42,12 +40,12 @@ module _ {K : Type 0} (rules : Ghosts K) where
 
   -- what the core stands for stays in order
   pub act_stands : (old new : World) (event : Event) (acted : Acted) (origin : Origin K) (k k' : K)
-      → (old.chunk ≡ origin.chunk) × IsFull old.limits × (origin.front ≤ length old.journal) × HasKept rules origin old.journal k
+      → (old.chunk ≡ origin.chunk) × (old.limits ≡ origin.limits) × (origin.front ≤ length old.journal) × HasKept rules origin old.journal k
       → StepsKept rules (with_keeper old k) event acted.reply acted.told (with_keeper new k')
-      → (new.chunk ≡ origin.chunk) × IsFull new.limits × (origin.front ≤ length new.journal) × HasKept rules origin new.journal k'
-  act_stands old new event acted origin k k' (is, full, low, had) steps = let m = step_enters old new event acted.reply steps.step in (
+      → (new.chunk ≡ origin.chunk) × (new.limits ≡ origin.limits) × (origin.front ≤ length new.journal) × HasKept rules origin new.journal k'
+  act_stands old new event acted origin k k' (is, within, low, had) steps = let m = step_enters old new event acted.reply steps.step in (
     m.chunk ∙ is,
-    subst (λ (l : Limits). IsFull l) (sym m.limits) full,
+    m.limits ∙ within,
     (let long = ap length m.journal ∙ length-append old.journal (entered event acted.reply) in omega arith),
     keeps_on rules origin old.journal (entered event acted.reply) new.journal k k' acted.told low m.journal had steps.keeping,
   )
@@ -61,8 +59,8 @@ module _ {K : Type 0} (rules : Ghosts K) where
           before = t.before.world;
           after = t.after.world;
           lawful = t.acted.lawful;
-          full = t.acted.full;
           chunk = ap (λ (s : Snapshot (Origin K)). s.value.chunk) t.fixed_is;
+          limits = ap (λ (s : Snapshot (Origin K)). s.value.limits) t.fixed_is;
           seen_before = t.seen_before;
           mark_before = t.mark_before;
           step = t.acted.steps.step;
@@ -86,13 +84,12 @@ module _ {K : Type 0} (rules : Ghosts K) where
         }
 
   -- the core that comes out of the turn lock
-  pub closed_ended : (desk : DeskLock K) (passes : List (DeskPass K)) (core : CoreState K) (w : World) → core.world ≡ w → IsLawfulWorld w → IsFull w.limits
+  pub closed_ended : (desk : DeskLock K) (passes : List (DeskPass K)) (core : CoreState K) (w : World) → core.world ≡ w → IsLawfulWorld w
       → Closed {O = CoreState K} (λ c. c.world.journal) asked_by (λ c. c.world.begun) basis desk passes core → Ended desk passes w
-  closed_ended desk passes core w is lawful full c = record {
+  closed_ended desk passes core w is lawful c = record {
     lawful = lawful;
-    full = full;
     closed = subst (Closed journal_of asked_by begun_of (basis_of (origin_of desk)) desk passes) is record {
-      fixed_is = ap (λ (s : Snapshot (Origin K)). snapshot (record (origin_of desk) { chunk = s.value.chunk })) c.fixed_is;
+      fixed_is = ap (λ (s : Snapshot (Origin K)). snapshot (record (origin_of desk) { chunk = s.value.chunk; limits = s.value.limits })) c.fixed_is;
       bears = c.bears;
       kept = All-weaker (Kept {O = CoreState K} (λ c. c.world.journal) asked_by (λ c. c.world.begun) core) (Kept journal_of asked_by begun_of core.world)
           (λ p k. record { seen = k.seen; made = k.made; marked = k.marked }) passes c.kept;

@@ -2,7 +2,6 @@
 use Rattle.std.specs.Prelude.{ℕ, ◌≡◌, Bool}
 use Rattle.std.proofs.Common.{inl, ◌∙◌, append-nil}
 use Rattle.std.specs.declared.snapshot.Snapshot.{Snapshot}
-use Rattle.base_core.specs.Full.{IsFull}
 use Rattle.turnstile.specs.Logs.{Grown}
 use Rattle.desk_core.specs.declared.object.Ask.{Ask}
 use Rattle.desk_core.specs.declared.object.Ask.TheVariants as asks
@@ -23,18 +22,17 @@ event_of pass (asks.Say said) = events.Say pass said.user said.statement
 event_of pass asks.Step = events.Step
 event_of pass asks.Abandon = events.Abandon
 
--- what no act changes: what the desk was built on, whose chunk the core still has
+-- what no act changes: what the desk was built on, whose chunk and limits the core still has
 abbrev pub basis : {K : Type 0} → CoreState K → Snapshot (Origin K)
-basis c = snapshot (record c.origin { chunk = c.world.chunk })
+basis c = snapshot (record c.origin { chunk = c.world.chunk; limits = c.world.limits })
 
 module _ {K : Type 0} (rules : Ghosts K) where
-  -- A step of the machine from a lawful world with full limits, asked through a pass. What it entered
-  -- is kept before the reply may be told.
+  -- A step of the machine from a lawful world, asked through a pass. What it entered is kept before the
+  -- reply may be told.
   pub record Acts
       (old : CoreState K) (pass : ℕ) (ask : Ask) (answer : Acted) (new : CoreState K)
       : Type 0 where
     pub lawful : IsLawfulWorld old.world
-    pub full : IsFull old.world.limits
     pub steps : StepsKept rules (with_keeper old.world old.keeper)
         (event_of pass ask) answer.reply answer.told (with_keeper new.world new.keeper)
     pub origin : new.origin ≡ old.origin
@@ -56,19 +54,19 @@ module _ {K : Type 0} (rules : Ghosts K) where
             one_at_most pass said.user said.statement answer.reply old.world.journal
             new.world.journal m.journal;
         rises = m.begun;
-        stays = (λ i. snapshot (record (h.origin i) { chunk = m.chunk i }));
+        stays = (λ i. snapshot (record (h.origin i) { chunk = m.chunk i; limits = m.limits i }));
       }
   acts_grow old pass asks.Step answer new h =
       let m = step_enters old.world new.world events.Step answer.reply h.steps.step in
       record {
         adds = inl (m.journal ∙ append-nil old.world.journal);
         rises = m.begun;
-        stays = (λ i. snapshot (record (h.origin i) { chunk = m.chunk i }));
+        stays = (λ i. snapshot (record (h.origin i) { chunk = m.chunk i; limits = m.limits i }));
       }
   acts_grow old pass asks.Abandon answer new h =
       let m = step_enters old.world new.world events.Abandon answer.reply h.steps.step in
       record {
         adds = inl (m.journal ∙ append-nil old.world.journal);
         rises = m.begun;
-        stays = (λ i. snapshot (record (h.origin i) { chunk = m.chunk i }));
+        stays = (λ i. snapshot (record (h.origin i) { chunk = m.chunk i; limits = m.limits i }));
       }

@@ -1,16 +1,23 @@
 -- What contracts see of the core as threads share it, and of a desk with its passes.
-use Rattle.std.specs.Prelude.{ℕ}
+use Rattle.std.specs.Prelude.{ℕ, length}
 use Rattle.std.specs.declared.snapshot.Snapshot.{Snapshot}
+use Rattle.base_core.specs.declared.limits.Limits.{Limits}
 use Rattle.turnstile.specs.Passes.{TurnstileState, PassState, Told}
 use Rattle.system_core.specs.World.{World}
 use Rattle.system_core.specs.declared.machine.event.Entry.{Entry}
 
--- What a desk was built on: the chunk of its core, how many entries the journal had, and the keeper of
--- the changes from then on, as it was handed in.
+-- What a desk was built on: the chunk and the limits of its core, how many entries the journal had, and
+-- the keeper of the changes from then on, as it was handed in.
 pub record Origin (K : Type 0) : Type 0 where
   pub chunk : ℕ
+  pub limits : Limits
   pub front : ℕ
   pub keeper : K
+
+-- a desk that is built on this world and this keeper
+abbrev pub origin_at : {K : Type 0} → World → K → Origin K
+origin_at w keeper =
+    record { chunk = w.chunk; limits = w.limits; front = length w.journal; keeper = keeper }
 
 -- A world, what its desk was built on, and the keeper of its changes as it is now.
 pub record CoreState (K : Type 0) : Type 0 where

@@ -1,7 +1,6 @@
 -- What comes of a turn at a desk, and what is known when it is closed.
 use Rattle.std.specs.Prelude.{ℕ, ◌≡◌, ◌+◌, ◌^◌, ◌<◌, ◌≤◌, List, ◌++◌}
 use Rattle.std.specs.declared.snapshot.Snapshot.{Snapshot}
-use Rattle.base_core.specs.Full.{IsFull}
 use Rattle.base_core.specs.declared.lack.Lack.TheVariants as lacks
 use Rattle.turnstile.specs.Logs.{StartsWith}
 use Rattle.turnstile.specs.Passes.{mine}
@@ -26,9 +25,9 @@ journal_of w = w.journal
 abbrev pub begun_of : World → ℕ
 begun_of w = w.begun
 
--- what no turn changes: what the desk was built on, whose chunk the world still has
+-- what no turn changes: what the desk was built on, whose chunk and limits the world still has
 abbrev pub basis_of : {K : Type 0} → Origin K → World → Snapshot (Origin K)
-basis_of origin w = snapshot (record origin { chunk = w.chunk })
+basis_of origin w = snapshot (record origin { chunk = w.chunk; limits = w.limits })
 
 -- the answer where all turns are drawn, which no step of the machine gives
 abbrev pub worn : Reply
@@ -42,8 +41,8 @@ pub record Took {K : Type 0} (desk : DeskLock K) (ask : Ask) (reply : Reply) (ol
   pub before : World
   pub after : World
   pub lawful : IsLawfulWorld before
-  pub full : IsFull before.limits
   pub chunk : before.chunk ≡ (origin_of desk).chunk
+  pub limits : before.limits ≡ (origin_of desk).limits
   pub seen_before : StartsWith before.journal old.seen
   pub mark_before : old.mark ≤ before.begun
   pub step : Step before (event_of old.number ask) reply after
@@ -63,5 +62,4 @@ pub data Answered {K : Type 0} (desk : DeskLock K) (ask : Ask) (reply : Reply)
 pub record Ended {K : Type 0} (desk : DeskLock K) (passes : List (DeskPass K)) (w : World)
     : Type 0 where
   pub lawful : IsLawfulWorld w
-  pub full : IsFull w.limits
   pub closed : Closed journal_of asked_by begun_of (basis_of (origin_of desk)) desk passes w

@@ -4,9 +4,8 @@ ghost use Rattle.turnstile.specs.Logs.{StartsWith};
 ghost use Rattle.turnstile.specs.Passes.{IsSamePass, mine, new_passes};
 ghost use Rattle.turnstile.specs.Closed.{AreAll};
 ghost use Rattle.desk_core.specs.declared.object.Ask.TheVariants as asks;
-ghost use Rattle.base_core.specs.Full.{IsFull};
 ghost use Rattle.reader_core.specs.Language.{Spells};
-ghost use Rattle.desk_core.specs.Guarded.{origin_of};
+ghost use Rattle.desk_core.specs.Guarded.{origin_of, origin_at};
 ghost use Rattle.desk_core.specs.Kept.{HasKept, IsKept};
 ghost use Rattle.desk_core.specs.Turns.{asked_by, Took, Answered, Ended};
 
@@ -27,8 +26,8 @@ pub type Pass<K> = turnstile::Pass<Core<K>>;
 pub type Note<K> = turnstile::Note<Core<K>>;
 
 /// A core that threads share by turns, with what keeps its changes. Contracts see the turn lock: how
-/// many passes it has, and what it was built on (`origin_of`): the chunk of its core, how many entries
-/// the journal had, and the keeper as it was handed in.
+/// many passes it has, and what it was built on (`origin_of`): the chunk and the limits of its core,
+/// how many entries the journal had, and the keeper as it was handed in.
 #[derive(Drop)]
 pub struct Desk<K: Keeper + Drop> {
     turnstile: Turnstile<Core<K>>,
@@ -43,11 +42,10 @@ impl<K: Keeper + Drop> Model for Desk<K> {
 }
 
 impl<K: Keeper + Drop> Desk<K> {
-    /// A desk with `count` passes, from 1 to 64, and this system, which has full limits and no
-    /// checkpoint that was begun. Each entry of its journal bears the number of a pass. The keeper,
-    /// which has not failed, keeps what is entered from now on. Turns are counted from 0. The passes
-    /// are numbered from 0 and have seen the journal. `NoMemory` where a request for memory was
-    /// refused.
+    /// A desk with `count` passes, from 1 to 64, and this system, of which no checkpoint was begun.
+    /// Each entry of its journal bears the number of a pass. The keeper, which has not failed, keeps
+    /// what is entered from now on. Turns are counted from 0. The passes are numbered from 0 and have
+    /// seen the journal. `NoMemory` where a request for memory was refused.
     pub fn build(
         alloc: Global,
         system: System,
@@ -55,13 +53,11 @@ impl<K: Keeper + Drop> Desk<K> {
         count: usize,
     ) -> Result<(Desk<K>, Vec<Pass<K>>), NoMemory>
         requires counts { (0 < count) × (count ≤ 64) }
-        requires full { IsFull system.limits }
         requires unbegun { system.begun ≡ 0 }
         requires bears { All (λ e. e.pass < count) system.journal }
         requires works { K.failed keeper ≡ false }
         ensures desk { IfOk result (λ b. (b.0.count ≡ count) × (b.0.start ≡ 0)) }
-        ensures origin { IfOk result (λ b. origin_of b.0
-            ≡ record { chunk = system.chunk; front = length system.journal; keeper = keeper }) }
+        ensures origin { IfOk result (λ b. origin_of b.0 ≡ origin_at system keeper) }
         ensures passes { IfOk result (λ b. b.1.items ≡ new_passes system.journal b.0) }
     {
         Desk::build_at(alloc, system, keeper, count, 0)
@@ -76,14 +72,12 @@ impl<K: Keeper + Drop> Desk<K> {
         start: u64,
     ) -> Result<(Desk<K>, Vec<Pass<K>>), NoMemory>
         requires counts { (0 < count) × (count ≤ 64) }
-        requires full { IsFull system.limits }
         requires unbegun { system.begun ≡ 0 }
         requires bears { All (λ e. e.pass < count) system.journal }
         requires works { K.failed keeper ≡ false }
         requires start { start ≤ 2 ^ 62 }
         ensures desk { IfOk result (λ b. (b.0.count ≡ count) × (b.0.start ≡ start)) }
-        ensures origin { IfOk result (λ b. origin_of b.0
-            ≡ record { chunk = system.chunk; front = length system.journal; keeper = keeper }) }
+        ensures origin { IfOk result (λ b. origin_of b.0 ≡ origin_at system keeper) }
         ensures passes { IfOk result (λ b. b.1.items ≡ new_passes system.journal b.0) }
     {
         let core = Core::new(alloc, system, keeper)?;

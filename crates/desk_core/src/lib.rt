@@ -1,8 +1,8 @@
 //! The desk: a core that threads share.
 //!
-//! A [`Desk`] is a core behind a turn lock, with a keeper of its changes. It is made of any core
-//! with full limits in which no checkpoint was begun, with all its [`Pass`]es, one for each thread,
-//! and stands for how many they are, with the chunk of its core and the number of entries that its
+//! A [`Desk`] is a core behind a turn lock, with a keeper of its changes. It is made of any core in
+//! which no checkpoint was begun, with all its [`Pass`]es, one for each thread, and stands for how
+//! many they are, with the chunk and the limits of its core and the number of entries that its
 //! journal had at first. A pass stands for what its holder knows: his number, the beginning of the
 //! journal that he has seen, and how many checkpoints he knows to be begun. At first that is the
 //! journal of the core. What he made are the entries there that bear his number.

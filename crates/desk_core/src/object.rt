@@ -1,9 +1,9 @@
 //! The core as what a turn lock guards.
 ghost use Rattle.std.specs.Prelude.{◌≡◌, ℕ, List, length, true, false, IfOk, MatchResult};
-ghost use Rattle.base_core.specs.Full.{IsFull};
 ghost use Rattle.reader_core.specs.Language.{Spells};
 ghost use Rattle.journal_core.specs.Recorder.{IsSpelledEvent};
 ghost use Rattle.desk_core.specs.Acting.{event_of};
+ghost use Rattle.desk_core.specs.Guarded.{origin_at};
 
 use base_core::{NoMemory, User};
 use journal_core::{Acted, Keeper, Unkept, act};
@@ -103,25 +103,24 @@ impl Answer {
     }
 }
 
-/// What a desk was built on, which no turn changes: the number of records in a step of the
-/// checkpointer, the number of entries that the journal had, and the keeper as it was handed in.
+/// What a desk was built on, which no turn changes: the core and the keeper as they were handed in. It
+/// takes no memory, since contracts alone see it.
 #[derive(Drop)]
 pub struct Basis<K> {
-    chunk: usize,
-    front: usize,
-    begun: Snapshot<K>,
+    system: Snapshot<System>,
+    keeper: Snapshot<K>,
 }
 
 impl<K> Model for Basis<K> {
-    ghost use Rattle.desk_core.specs.Guarded.{Origin};
+    ghost use Rattle.desk_core.specs.Guarded.{Origin, origin_at};
 
     ghost Value = { Origin K };
 
-    ghost view = { λ b. record { chunk = b.chunk; front = b.front; keeper = b.begun.value } };
+    ghost view = { λ b. origin_at b.system.value b.keeper.value };
 }
 
-/// A core with full limits, and what keeps its changes. Contracts see its world, what its desk was
-/// built on, and the keeper.
+/// A core, and what keeps its changes. Contracts see its world, what its desk was built on, and the
+/// keeper.
 #[derive(Drop)]
 pub struct Core<K: Keeper> {
     pub basis: Basis<K>,
@@ -131,7 +130,6 @@ pub struct Core<K: Keeper> {
 
 impl<K: Keeper> Model for Core<K> {
     ghost use Rattle.std.specs.Prelude.{◌≡◌, ◌≤◌, length};
-    ghost use Rattle.base_core.specs.Full.{IsFull};
     ghost use Rattle.desk_core.specs.Guarded.{CoreState};
     ghost use Rattle.desk_core.specs.Kept.{HasKept};
 
@@ -144,7 +142,7 @@ impl<K: Keeper> Model for Core<K> {
     } };
 
     ghost invariant = { λ c. (c.system.value.chunk ≡ c.basis.chunk)
-        × IsFull c.system.value.limits
+        × (c.system.value.limits ≡ c.basis.limits)
         × (c.basis.front ≤ length c.system.value.journal)
         × HasKept K.Keeper c.basis c.system.value.journal c.keeper };
 }
@@ -153,17 +151,17 @@ impl<K: Keeper + Drop> Core<K> {
     /// This system, whose changes from now on the keeper keeps. `NoMemory` where a request for
     /// memory was refused.
     pub fn new(alloc: Global, system: System, keeper: K) -> Result<Core<K>, NoMemory>
-        requires full { IsFull system.limits }
         ensures { IfOk result (λ c. c ≡ record {
           world = system;
-          origin = record { chunk = system.chunk; front = length system.journal; keeper = keeper };
+          origin = origin_at system keeper;
           keeper = keeper;
         }) }
     {
+        let built = Snapshot::of(&system);
+        let begun = Snapshot::of(&keeper);
         let basis = Basis {
-            chunk: system.chunk(),
-            front: system.journal().len(),
-            begun: Snapshot::of(&keeper),
+            system: built,
+            keeper: begun,
         };
         let system = Box::new(alloc, system)?;
         Ok(Core {

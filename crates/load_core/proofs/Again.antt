@@ -64,9 +64,9 @@ loaded_passes limits before after (line ∷ ls) (e, says, more) p = loaded_passe
     appended [] h = (says.says.pass, tt)
     appended (x ∷ xs) h = (h.0, appended xs h.1)
 
-pub ends_passes : (chunk : ℕ) (result : Result World LoadFault) (left left' : Option (List ℕ)) → EndsLoad chunk result left left' → IfOk result (λ w. All (λ e. e.pass ≡ 0) w.journal)
-ends_passes chunk (Ok new) left left' h = All-from_recursion (λ (e : Entry). e.pass ≡ 0) new.journal (loaded_passes h.0 [] new.journal (lines_unmarked (lines h.1)) h.6 tt)
-ends_passes chunk (Err fault) left left' h = tt
+pub ends_passes : (chunk : ℕ) (limits : Limits) (result : Result World LoadFault) (left left' : Option (List ℕ)) → EndsLoad chunk limits result left left' → IfOk result (λ w. All (λ e. e.pass ≡ 0) w.journal)
+ends_passes chunk limits (Ok new) left left' h = All-from_recursion (λ (e : Entry). e.pass ≡ 0) new.journal (loaded_passes limits [] new.journal (lines_unmarked (lines h.0)) h.4 tt)
+ends_passes chunk limits (Err fault) left left' h = tt
 
 -- what is loaded was said by a line
 pub loaded_said : (limits : Limits) (before after : List Entry) (ls : List (List ℕ)) → Loads limits before ls after → AllByRecursion WasSaid before → AllByRecursion WasSaid after
@@ -75,6 +75,6 @@ loaded_said limits before after (line ∷ ls) (e, says, more) said =
     let read : WasRead e = record { line = drop says.says.asks.start line; spelled = says.says.asks.spelled; name = speaker_named LONGEST_LINE line e.user says.says.asks.start says.says.asks.speaker } in
     loaded_said limits (before ++ e ∷ []) after ls more (AllByRecursion-append WasSaid before (e ∷ []) said ((read, says.says.pass), tt))
 
-pub ends_read : (chunk : ℕ) (result : Result World LoadFault) (left left' : Option (List ℕ)) → EndsLoad chunk result left left' → IfOk result (λ w. AllByRecursion WasRead w.journal)
-ends_read chunk (Ok new) left left' h = were_read new.journal (loaded_said h.0 [] new.journal (lines_unmarked (lines h.1)) h.6 tt)
-ends_read chunk (Err fault) left left' h = tt
+pub ends_read : (chunk : ℕ) (limits : Limits) (result : Result World LoadFault) (left left' : Option (List ℕ)) → EndsLoad chunk limits result left left' → IfOk result (λ w. AllByRecursion WasRead w.journal)
+ends_read chunk limits (Ok new) left left' h = were_read new.journal (loaded_said limits [] new.journal (lines_unmarked (lines h.0)) h.4 tt)
+ends_read chunk limits (Err fault) left left' h = tt

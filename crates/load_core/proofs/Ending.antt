@@ -2,7 +2,6 @@
 use Rattle.std.proofs.Common.{◌≡◌, ℕ, ◌+◌, ◌<◌, ◌≤◌, ◌^◌, true, false, Option, Some, None, Ok, Err, List, [], ◌∷◌, length, refl, sym, ap, subst, ◌∙◌, arith, length-append}
 use Rattle.std.specs.Option.{is_some}
 use Rattle.std.specs.Str.Lines.{lines}
-use Rattle.base_core.specs.Full.{IsFull}
 use Rattle.base_core.specs.declared.limits.Limits.{Limits}
 use Rattle.lines_core.specs.Lines.{whole_lines}
 use Rattle.lines_core.specs.Serving.{AnswersAll, EndsTold, traffic_of}
@@ -18,7 +17,7 @@ use Rattle.load_core.proofs.Lines.{lines_unmarked-length, same_behind}
 use Rattle.load_core.proofs.Coming.{Comes, Stops, comes}
 use Rattle.load_core.proofs.Room.{Loads-few, Loads-count}
 
-module _ (chunk : ℕ) (limits : Limits) (full : IsFull limits) (left left' : Option (List ℕ)) (taken taken' : Option (List ℕ)) where
+module _ (chunk : ℕ) (limits : Limits) (left left' : Option (List ℕ)) (taken taken' : Option (List ℕ)) where
   abbrev pub start : LoaderState
   start = record { world = opening chunk limits; stop = None }
 
@@ -36,19 +35,19 @@ module _ (chunk : ℕ) (limits : Limits) (full : IsFull limits) (left left' : Op
   }
 
   -- by the lines of an input, of which each has its line feed
-  ends_whole : (stop : Option Undone) (w : World) → EndsTold GoesOn has_stopped (Ok endings.Whole) start (record { world = w; stop = stop }) (traffic_of left left' taken taken') → EndsLoad chunk (outcome_of w stop) left left'
+  ends_whole : (stop : Option Undone) (w : World) → EndsTold GoesOn has_stopped (Ok endings.Whole) start (record { world = w; stop = stop }) (traffic_of left left' taken taken') → EndsLoad chunk limits (outcome_of w stop) left left'
   ends_whole None w (bytes, run, end, open_then, whole, same) =
       let c = comes (lines bytes) (opening chunk limits) run.text (record { world = w; stop = None }) run.answered in
-      (limits, bytes, full, run.read, end, whole, c.0, c.1)
+      (bytes, run.read, end, whole, c.0, c.1)
   ends_whole (Some why) w (bytes, run, end, open_then, whole, same) =
       let c = comes (lines bytes) (opening chunk limits) run.text (record { world = w; stop = Some why }) run.answered in
-      (limits, bytes, full, run.read, stops_at (lines_unmarked (whole_lines bytes)) why w (subst (λ (ls : List (List ℕ)). Stops (opening chunk limits) (lines_unmarked ls) why w) same c))
+      (bytes, run.read, stops_at (lines_unmarked (whole_lines bytes)) why w (subst (λ (ls : List (List ℕ)). Stops (opening chunk limits) (lines_unmarked ls) why w) same c))
 
   -- before its end, where a line stopped it
-  ends_over : (stop : Option Undone) (w : World) → EndsTold GoesOn has_stopped (Ok endings.Over) start (record { world = w; stop = stop }) (traffic_of left left' taken taken') → EndsLoad chunk (outcome_of w stop) left left'
+  ends_over : (stop : Option Undone) (w : World) → EndsTold GoesOn has_stopped (Ok endings.Over) start (record { world = w; stop = stop }) (traffic_of left left' taken taken') → EndsLoad chunk limits (outcome_of w stop) left left'
   ends_over None w (bytes, run, over) = let never : false ≡ true = over in cc
   ends_over (Some why) w (bytes, run, over) =
-      (limits, bytes, full, run.read, stops_at (lines_unmarked (whole_lines bytes)) why w (comes (whole_lines bytes) (opening chunk limits) run.text (record { world = w; stop = Some why }) run.answered))
+      (bytes, run.read, stops_at (lines_unmarked (whole_lines bytes)) why w (comes (whole_lines bytes) (opening chunk limits) run.text (record { world = w; stop = Some why }) run.answered))
 
   -- ---- a last line without a line feed
   entered_all : (ls : List (List ℕ)) (stop : Option Undone) (w : World) → is_some stop ≡ false → Comes (opening chunk limits) ls stop w → Loads limits [] ls w.journal
@@ -65,7 +64,7 @@ module _ (chunk : ℕ) (limits : Limits) (full : IsFull limits) (left left' : Op
       subst (λ (q : LoaderState). number_of q.world q.stop ≡ length w.journal + 1) (sym behind.1) (number_by w (line_at w.journal line) mid.stop mid.world answered.1)
   next_number (Some why) w line text new open_then a = cc
 
-  ends_cut : (new : LoaderState) → EndsTold GoesOn has_stopped (Ok endings.CutOff) start new (traffic_of left left' taken taken') → EndsLoad chunk (Err (faults.CutOff (number_of new.world new.stop))) left left'
+  ends_cut : (new : LoaderState) → EndsTold GoesOn has_stopped (Ok endings.CutOff) start new (traffic_of left left' taken taken') → EndsLoad chunk limits (Err (faults.CutOff (number_of new.world new.stop))) left left'
   ends_cut new (bytes, run, end, was, cut) =
       let between = was.between in
       let last : was.last ≡ cut.last ∷ [] = same_behind (whole_lines bytes) was.last (cut.last ∷ []) (sym was.lines_are ∙ cut.lines_are) in
@@ -73,9 +72,7 @@ module _ (chunk : ℕ) (limits : Limits) (full : IsFull limits) (left left' : Op
       let loads = entered_all (lines_unmarked (whole_lines bytes)) between.stop between.world (was.open_then refl) (comes (whole_lines bytes) (opening chunk limits) was.first_text between was.answered) in
       let number = next_number between.stop between.world cut.last was.last_text new (was.open_then refl) behind in
       let count = Loads-count limits [] (lines_unmarked (whole_lines bytes)) between.world.journal loads in (
-        limits,
         bytes,
-        full,
         run.read,
         end,
         record {
@@ -107,12 +104,12 @@ module _ (chunk : ℕ) (limits : Limits) (full : IsFull limits) (left left' : Op
         subst (λ (stop : Option Undone). From (opening chunk limits) stop) none (subst (λ (w : World). From w old.stop) here ends)
 
     pub number_is_small : length new.world.journal + 1 < 2 ^ 64
-    number_is_small = omega (arith, full.changes, few ending new from_opening)
+    number_is_small = omega (arith, limits.changes_within, few ending new from_opening)
 
-  by_ending : (ending : Ending) (new : LoaderState) → EndsTold GoesOn has_stopped (Ok ending) start new (traffic_of left left' taken taken') → EndsLoad chunk (outcome_at ending new.world new.stop) left left'
+  by_ending : (ending : Ending) (new : LoaderState) → EndsTold GoesOn has_stopped (Ok ending) start new (traffic_of left left' taken taken') → EndsLoad chunk limits (outcome_at ending new.world new.stop) left left'
   by_ending endings.Whole new ends = ends_whole new.stop new.world ends
   by_ending endings.CutOff new ends = ends_cut new ends
   by_ending endings.Over new ends = ends_over new.stop new.world ends
 
-  pub ends_so : (ending : Ending) (old new : LoaderState) → old.world ≡ opening chunk limits → old.stop ≡ None → EndsTold GoesOn has_stopped (Ok ending) old new (traffic_of left left' taken taken') → EndsLoad chunk (outcome_at ending new.world new.stop) left left'
+  pub ends_so : (ending : Ending) (old new : LoaderState) → old.world ≡ opening chunk limits → old.stop ≡ None → EndsTold GoesOn has_stopped (Ok ending) old new (traffic_of left left' taken taken') → EndsLoad chunk limits (outcome_at ending new.world new.stop) left left'
   ends_so ending old new here none ends = by_ending ending new (from_opening ending old new here none ends)

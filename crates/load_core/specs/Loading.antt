@@ -4,7 +4,6 @@ use Rattle.std.specs.Prelude.{◌≡◌, ◌+◌, ◌^◌, ℕ, Bool, true, fals
 use Rattle.std.specs.List.{starts_with}
 use Rattle.std.specs.Str.Lines.{lines}
 use Rattle.std.specs.Io.KnownBytes.{Consumes, Keeps, IsAtEnd}
-use Rattle.base_core.specs.Full.{IsFull}
 use Rattle.base_core.specs.declared.limits.Limits.{Limits}
 use Rattle.monitor_core.specs.Verdict.{is_change}
 use Rattle.lines_core.specs.Lines.{whole_lines, IsWhole, IsCutOff}
@@ -106,33 +105,30 @@ pub record CutsOff (limits : Limits) (bytes : List ℕ) (number : ℕ) : Type 0 
   pub number_is : number ≡ length (whole_lines bytes) + 1
   pub loads : Loads limits [] (lines_unmarked (whole_lines bytes)) journal
 
--- How the loading of what a reader has left ends. Ok: all of it was read, it is empty or ends with a
+-- How the loading of what a reader has left ends, of a core with these limits. Ok: all of it was read, it is empty or ends with a
 -- line feed, and its lines load the journal of the world, which has nothing else. A last line that has
 -- no line feed is refused, whatever it says: it may be the front of another.
-abbrev pub EndsLoad : ℕ → Result World LoadFault → Option (List ℕ) → Option (List ℕ) → Type 0
-EndsLoad chunk (Ok new) left left' =
-    (limits : Limits) × (bytes : List ℕ)
-    × IsFull limits
+abbrev pub EndsLoad : ℕ → Limits → Result World LoadFault → (left left' : Option (List ℕ)) → Type 0
+EndsLoad chunk limits (Ok new) left left' =
+    (bytes : List ℕ)
     × Consumes left left' bytes
     × IsAtEnd left'
     × IsWhole bytes
     × Loads limits [] (lines_unmarked (lines bytes)) new.journal
     × (new ≡ world_with chunk limits new.journal)
-EndsLoad chunk (Err (faults.Line number why)) left left' =
-    (limits : Limits) × (bytes : List ℕ)
-    × IsFull limits
+EndsLoad chunk limits (Err (faults.Line number why)) left left' =
+    (bytes : List ℕ)
     × Consumes left left' bytes
     × StopsAt chunk limits (lines_unmarked (whole_lines bytes)) number why
-EndsLoad chunk (Err (faults.CutOff number)) left left' =
-    (limits : Limits) × (bytes : List ℕ)
-    × IsFull limits
+EndsLoad chunk limits (Err (faults.CutOff number)) left left' =
+    (bytes : List ℕ)
     × Consumes left left' bytes
     × IsAtEnd left'
     × CutsOff limits bytes number
-EndsLoad chunk (Err faults.Read) left left' = (bytes : List ℕ) × Consumes left left' bytes
-EndsLoad chunk (Err faults.Bound) left left' =
+EndsLoad chunk limits (Err faults.Read) left left' = (bytes : List ℕ) × Consumes left left' bytes
+EndsLoad chunk limits (Err faults.Bound) left left' =
     (bytes : List ℕ) × Consumes left left' bytes × (length bytes ≡ 2 ^ 32)
-EndsLoad chunk (Err faults.NoMemory) left left' = Keeps left left'
+EndsLoad chunk limits (Err faults.NoMemory) left left' = Keeps left left'
 
 -- ---- a journal that was written
 -- the entry as a line says it, which names no pass

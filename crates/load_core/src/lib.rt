@@ -11,7 +11,8 @@
 //! and says so at once.
 //!
 //! ```text
-//! let system = load(alloc, &mut reader, 16)?;    // ann: CREATE TABLE pay (name TEXT)
+//! let system = load(alloc, &mut reader, 16, Limits::full())?;
+//!                                                // ann: CREATE TABLE pay (name TEXT)
 //!                                                // bob: SELECT * FROM pay
 //!                                                // Err(Line { number: 2, why: NoChange })
 //! ```

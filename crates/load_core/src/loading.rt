@@ -11,7 +11,7 @@ use crate::fault::LoadFault;
 use crate::fault_text::load_fault_text;
 use crate::loader::Loader;
 use crate::silence::Silence;
-use base_core::{NoMemory, Source};
+use base_core::{Limits, NoMemory, Source};
 use lines_core::{SessionFault, serve_told};
 use std::alloc::Global;
 use system_core::System;
@@ -38,17 +38,22 @@ fn load_fault(fault: SessionFault) -> LoadFault
 /// why. A last line that has no line feed is refused, whatever it says, as a write that was cut off
 /// leaves it: `CutOff`, with its number. `Read` is answered exactly where the reader has failed,
 /// `Bound` where 2^32 bytes were read and the end had not come, and `NoMemory` before the first
-/// read. The chunk is that of [`System::new`], from 1 to 64.
-pub fn load<S: Source>(alloc: Global, reader: &mut S, chunk: usize) -> Result<System, LoadFault>
+/// read. The chunk and the limits are those of [`System::with_limits`], the chunk from 1 to 64.
+pub fn load<S: Source>(
+    alloc: Global,
+    reader: &mut S,
+    chunk: usize,
+    limits: Limits,
+) -> Result<System, LoadFault>
     requires some { 0 < chunk }
     requires small { chunk ≤ 64 }
     requires source { S.failed reader.old ≡ false }
     ensures read { IsErrOf result LoadFault.Read ↔ (S.failed reader.new ≡ true) }
-    ensures ends { EndsLoad chunk result (S.left reader.old) (S.left reader.new) }
+    ensures ends { EndsLoad chunk limits result (S.left reader.old) (S.left reader.new) }
     ensures passes { IfOk result (λ system. All (λ e. e.pass ≡ 0) system.journal) }
     ensures entries { IfOk result (λ system. AllByRecursion WasRead system.journal) }
 {
-    let Ok(system) = System::new(alloc, chunk) else {
+    let Ok(system) = System::with_limits(alloc, chunk, limits) else {
         return Err(LoadFault::NoMemory);
     };
     let mut loader = Loader::new(alloc, system);
@@ -67,20 +72,21 @@ pub fn load_or_text<S: Source>(
     alloc: Global,
     reader: &mut S,
     chunk: usize,
+    limits: Limits,
 ) -> Result<System, Result<Vec<u8>, NoMemory>>
     requires some { 0 < chunk }
     requires small { chunk ≤ 64 }
     requires source { S.failed reader.old ≡ false }
     ensures ok { IfOk result
-        (λ system. EndsLoad chunk (Ok system) (S.left reader.old) (S.left reader.new)) }
+        (λ system. EndsLoad chunk limits (Ok system) (S.left reader.old) (S.left reader.new)) }
     ensures err { IfErr result (λ told. (fault : load_fault)
-        × EndsLoad chunk (Err fault) (S.left reader.old) (S.left reader.new)
+        × EndsLoad chunk limits (Err fault) (S.left reader.old) (S.left reader.new)
         × ((fault ≡ LoadFault.Read) ↔ (S.failed reader.new ≡ true))
         × IfOk told (λ text. text.items ≡ load_fault_text fault)) }
     ensures passes { IfOk result (λ system. All (λ e. e.pass ≡ 0) system.journal) }
     ensures entries { IfOk result (λ system. AllByRecursion WasRead system.journal) }
 {
-    match load(alloc, reader, chunk) {
+    match load(alloc, reader, chunk, limits) {
         Ok(system) => Ok(system),
         Err(fault) => {
             let told = load_fault_text(alloc, &fault);

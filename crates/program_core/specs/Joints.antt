@@ -23,11 +23,13 @@ abbrev pub status_behind : Reading → ReplayedState → ℕ
 status_behind reading leavings =
     status_if (reading.strict && (is_some leavings.first_left_out || is_some leavings.dropped))
 
--- from a core on, which is empty where no file is loaded, all lines were replayed, and left this
+-- from a core on with the limits that are asked for, which is empty where no file is loaded, all lines
+-- were replayed, and left this
 pub record ReplaysAll {A : Type 0} (load : Option A) (reading : Reading)
     (left left' : Option (List ℕ)) : Type 0 where
   pub begins : World
   pub leavings : ReplayedState
+  pub limits_are : begins.limits ≡ reading.limits
   pub empty : load ≡ None → begins.journal ≡ []
   pub replays : EndsReplay (to_the_end reading) begins (Ok leavings) left left'
 

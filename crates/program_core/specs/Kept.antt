@@ -1,5 +1,5 @@
 -- What lines or sessions leave, and where their changes are kept.
-use Rattle.std.specs.Prelude.{◌≡◌, ℕ, Bool, true, false, List, Option, None, Some, Ok, length}
+use Rattle.std.specs.Prelude.{◌≡◌, ℕ, Bool, true, false, List, Option, None, Some, Ok}
 use Rattle.std.specs.Option.{is_some}
 use Rattle.lines_core.specs.Serving.{Traffic}
 use Rattle.system_core.specs.World.{World}
@@ -7,6 +7,7 @@ use Rattle.system_core.specs.declared.machine.event.Entry.{Entry}
 use Rattle.journal_core.specs.Keeping.{line_rules, no_rules}
 use Rattle.journal_core.specs.declared.keeper.NoKeeper.{NoKeeper}
 use Rattle.script_core.specs.Keeping.{EndsKeptFrom}
+use Rattle.desk_core.specs.Guarded.{origin_at}
 use Rattle.desk_core.specs.Kept.{HasKept}
 use Rattle.server_core.specs.Sessions.{Leaves}
 use Rattle.program_core.specs.declared.loading.Start.{Start}
@@ -53,8 +54,7 @@ module _ {W : Type 0} (taken handed_on : W → Option (List ℕ)) (failed : W �
       (sink : W)
       × (start.journal ≡ Some sink)
       × Leaves workers sessions sink start.system ended.system
-      × HasKept (line_rules taken handed_on failed)
-      (record { chunk = start.system.chunk; front = length start.system.journal; keeper = sink })
+      × HasKept (line_rules taken handed_on failed) (origin_at start.system sink)
       ended.system.journal ended.keeper
 
   -- the same from some start, which has a journal exactly where one is named

@@ -36,7 +36,7 @@ fn give_up_question(rt: &HostRuntime, question: &Question<'_>, fault: &ExplainFa
 /// What the lines of standard input make, up to the moment that is asked for. The error is the
 /// status, where they cannot be read, or end before it, which is told.
 fn replayed_to(rt: &HostRuntime, asked: &Explaining<'_>) -> Result<Replayed, ExitCode> {
-    let begins = loaded_or_empty(rt, None, CHUNK)?;
+    let begins = loaded_or_empty(rt, None, CHUNK, asked.reading.limits)?;
     let manner = manner_of(asked.reading, asked.at.unwrap_or(u64::MAX));
     let replayed = replayed(rt, &mut input(rt), begins, manner)?;
     let end = replayed.system.moment().0;

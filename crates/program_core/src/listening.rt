@@ -1,7 +1,8 @@
 //! Sessions over TCP.
-ghost use Rattle.std.specs.Prelude.{◌≡◌, false, length, IfOk, IfSome};
+ghost use Rattle.std.specs.Prelude.{◌≡◌, false, IfOk, IfSome};
 ghost use Rattle.command_core.specs.Ranges.{IsInRange};
 ghost use Rattle.command_core.specs.declared.command_line.CommandLine.TheVariants.{Serve};
+ghost use Rattle.desk_core.specs.Guarded.{origin_at};
 ghost use Rattle.desk_core.specs.Kept.{HasKept};
 ghost use Rattle.server_core.specs.Sessions.{Leaves};
 ghost use Rattle.load_core.specs.Ready.{IsReady};
@@ -63,12 +64,11 @@ where
     R: Threads + Wait + Clock + Sync,
     K: Keeper + Drop + Send,
     requires range { IsInRange (Serve asked) }
-    requires ready { IsReady asked.chunk system }
+    requires ready { IsReady system }
     requires works { K.failed keeper ≡ false }
     ensures leaves { IfOk result
         (λ left. Leaves asked.entry.workers asked.entry.sessions keeper system left.system) }
-    ensures kept { IfOk result (λ left. HasKept K.Keeper
-        (record { chunk = system.chunk; front = length system.journal; keeper = keeper })
+    ensures kept { IfOk result (λ left. HasKept K.Keeper (origin_at system keeper)
         left.system.journal left.keeper) }
 {
     let manners = Manners {
@@ -109,7 +109,7 @@ where
     R: Threads + Wait + Clock + Sync,
     W: Sink + Drop + Send,
     requires range { IsInRange (Serve asked) }
-    requires ready { IsReady asked.chunk begun.system }
+    requires ready { IsReady begun.system }
     requires works { IfSome begun.journal (λ sink. W.failed sink ≡ false) }
     ensures { IfOk result (IsServed W.taken W.handed_on W.failed
         asked.entry.workers asked.entry.sessions begun) }
@@ -193,7 +193,7 @@ where
     R: Threads + Wait + Clock + Sync,
     W: Sink + Drop + Send,
     requires range { IsInRange (Serve asked) }
-    requires ready { IsReady asked.chunk begun.system }
+    requires ready { IsReady begun.system }
     requires works { IfSome begun.journal (λ sink. W.failed sink ≡ false) }
     requires dump { IfSome dump (λ sink. sink.failed ≡ false) }
     ensures { IfOk result (λ ended. IsServed W.taken W.handed_on W.failed
@@ -234,7 +234,7 @@ where
         dump: asked.dump,
     };
     apart_from_each_other(host, named)?;
-    let begun = begun(host, named, asked.chunk)?;
+    let begun = begun(host, named, asked.chunk, asked.limits)?;
     match dump_of(host, named) {
         Ok(dump) => listen_and_serve(host, rt, asked, begun, dump),
         Err(status) => {

@@ -8,7 +8,7 @@ ghost use Rattle.load_core.specs.Ready.{IsReady};
 
 use crate::files::{JournalSink, give_up_on, journal_file, journal_gone_on, reader_of};
 use crate::naming::Named;
-use base_core::NoMemory;
+use base_core::{Limits, NoMemory};
 use lines_core::{NO_MEMORY, SessionFault, fault_text, give_up};
 use load_core::load_or_text;
 use std::mem::forget;
@@ -17,53 +17,62 @@ use system_core::System;
 
 /// The core that the changes of the file make. The error is the status, where the file cannot be
 /// read or a line of it says no change that is done, which is told.
-fn loaded(rt: &HostRuntime, path: &str, chunk: usize) -> Result<System, ExitCode>
+fn loaded(rt: &HostRuntime, path: &str, chunk: usize, limits: Limits) -> Result<System, ExitCode>
     requires some { 0 < chunk }
     requires small { chunk ≤ 64 }
-    ensures ready { IfOk result (IsReady chunk) }
+    ensures ready { IfOk result IsReady }
+    ensures asked { IfOk result (λ s. (s.chunk ≡ chunk) × (s.limits ≡ limits)) }
     ensures entries { IfOk result (λ system. AllByRecursion WasRead system.journal) }
     ensures err { IfErr result (λ status. exit_status status ≡ 1) }
 {
     let mut reader = reader_of(rt, path)?;
-    match load_or_text(rt.alloc(), &mut reader, chunk) {
+    match load_or_text(rt.alloc(), &mut reader, chunk, limits) {
         Ok(system) => Ok(system),
         Err(Ok(text)) => Err(give_up_on(rt, path, text.as_slice())),
         Err(Err(NoMemory)) => Err(give_up(rt, NO_MEMORY)),
     }
 }
 
-/// The core that the file makes, or an empty one, if no file is named. The error is the status, as of
+/// The core with these limits that the file makes, or an empty one, if no file is named. The error is the status, as of
 /// [`loaded`].
 pub fn loaded_or_empty(
     rt: &HostRuntime,
     load: Option<&str>,
     chunk: usize,
+    limits: Limits,
 ) -> Result<System, ExitCode>
     requires some { 0 < chunk }
     requires small { chunk ≤ 64 }
-    ensures ready { IfOk result (IsReady chunk) }
+    ensures ready { IfOk result IsReady }
+    ensures asked { IfOk result (λ s. (s.chunk ≡ chunk) × (s.limits ≡ limits)) }
     ensures empty { load.entry ≡ None → IfOk result (λ system. system.journal ≡ []) }
     ensures entries { IfOk result (λ system. AllByRecursion WasRead system.journal) }
     ensures err { IfErr result (λ status. exit_status status ≡ 1) }
 {
     let Some(path) = load else {
-        return match System::new(rt.alloc(), chunk) {
+        return match System::with_limits(rt.alloc(), chunk, limits) {
             Ok(system) => Ok(system),
             Err(NoMemory) => Err(give_up(rt, NO_MEMORY)),
         };
     };
-    loaded(rt, path, chunk)
+    loaded(rt, path, chunk, limits)
 }
 
 /// As [`loaded_or_empty`], after it was said how many changes the file says. The error is the status,
 /// also where that could not be said.
-fn loaded_and_told(rt: &HostRuntime, load: Option<&str>, chunk: usize) -> Result<System, ExitCode>
+fn loaded_and_told(
+    rt: &HostRuntime,
+    load: Option<&str>,
+    chunk: usize,
+    limits: Limits,
+) -> Result<System, ExitCode>
     requires some { 0 < chunk }
     requires small { chunk ≤ 64 }
-    ensures ready { IfOk result (IsReady chunk) }
+    ensures ready { IfOk result IsReady }
+    ensures asked { IfOk result (λ s. (s.chunk ≡ chunk) × (s.limits ≡ limits)) }
     ensures empty { load.entry ≡ None → IfOk result (λ system. system.journal ≡ []) }
 {
-    let system = loaded_or_empty(rt, load, chunk)?;
+    let system = loaded_or_empty(rt, load, chunk, limits)?;
     if load.is_some() && println!(rt; "loaded {} changes", system.moment().0).is_err() {
         forget(system);
         return Err(give_up(rt, fault_text(SessionFault::Write)));
@@ -91,15 +100,22 @@ fn journal_of(rt: &HostRuntime, path: Option<&str>) -> Result<Option<JournalSink
 
 /// What a program begins with where the file that is loaded is gone on with: it is held before it is
 /// read, so that no other program writes to it behind what was read.
-fn going_on(rt: &HostRuntime, path: &str, chunk: usize) -> Result<Start<JournalSink>, ExitCode>
+fn going_on(
+    rt: &HostRuntime,
+    path: &str,
+    chunk: usize,
+    limits: Limits,
+) -> Result<Start<JournalSink>, ExitCode>
     requires some { 0 < chunk }
     requires small { chunk ≤ 64 }
-    ensures ready { IfOk result (λ begun. IsReady chunk begun.system) }
+    ensures ready { IfOk result (λ begun. IsReady begun.system) }
+    ensures asked { IfOk result (λ begun. (begun.system.chunk ≡ chunk)
+        × (begun.system.limits ≡ limits)) }
     ensures named { IfOk result (λ begun. is_some begun.journal ≡ true) }
     ensures works { IfOk result (λ begun. IfSome begun.journal (λ sink. sink.failed ≡ false)) }
 {
     let sink = journal_gone_on(rt, path)?;
-    let system = loaded_and_told(rt, Some(path), chunk)?;
+    let system = loaded_and_told(rt, Some(path), chunk, limits)?;
     Ok(Start {
         system,
         journal: Some(sink),
@@ -112,18 +128,21 @@ pub fn begun(
     rt: &HostRuntime,
     named: Named<'_>,
     chunk: usize,
+    limits: Limits,
 ) -> Result<Start<JournalSink>, ExitCode>
     requires some { 0 < chunk }
     requires small { chunk ≤ 64 }
-    ensures ready { IfOk result (λ begun. IsReady chunk begun.system) }
+    ensures ready { IfOk result (λ begun. IsReady begun.system) }
+    ensures asked { IfOk result (λ begun. (begun.system.chunk ≡ chunk)
+        × (begun.system.limits ≡ limits)) }
     ensures empty { named.entry.load ≡ None → IfOk result (λ begun. begun.system.journal ≡ []) }
     ensures named { IfOk result (λ begun. is_some begun.journal ≡ is_some named.entry.journal) }
     ensures works { IfOk result (λ begun. IfSome begun.journal (λ sink. sink.failed ≡ false)) }
 {
     if let Some(path) = named.gone_on() {
-        return going_on(rt, path, chunk);
+        return going_on(rt, path, chunk, limits);
     }
-    let system = loaded_and_told(rt, named.load, chunk)?;
+    let system = loaded_and_told(rt, named.load, chunk, limits)?;
     match journal_of(rt, named.journal) {
         Ok(journal) => Ok(Start { system, journal }),
         Err(status) => {

@@ -52,7 +52,7 @@ pub fn journal<S: Source, W: Sink>(
         (S.left reader.new) (W.taken writer.old) (W.taken writer.new) (exit_status status)) }
     ensures err { IfErr result (λ status. exit_status status ≡ 1) }
 {
-    let begins = loaded_or_empty(rt, None, CHUNK)?;
+    let begins = loaded_or_empty(rt, None, CHUNK, reading.limits)?;
     let replayed = replayed(rt, reader, begins, manner_of(reading, u64::MAX))?;
     let written = journal_to(rt, &replayed.system, writer);
     let told = tell_left_out(rt, &replayed);
@@ -117,7 +117,7 @@ pub fn dump<S: Source, W: Sink>(
         (S.left reader.new) (W.taken writer.old) (W.taken writer.new) (exit_status status)) }
     ensures err { IfErr result (λ status. exit_status status ≡ 1) }
 {
-    let begins = loaded_or_empty(rt, load, CHUNK)?;
+    let begins = loaded_or_empty(rt, load, CHUNK, reading.limits)?;
     let replayed = replayed(rt, reader, begins, manner_of(reading, u64::MAX))?;
     let dumped = dump_to(rt, &replayed.system, writer);
     let told = tell_left_out(rt, &replayed);

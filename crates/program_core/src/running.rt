@@ -63,7 +63,7 @@ pub fn run(rt: &HostRuntime, asked: Running<'_>) -> Result<Ended<JournalSink>, E
     };
     apart_from_each_other(rt, named)?;
     let mut writer = output(rt)?;
-    let begun = begun(rt, named, asked.chunk)?;
+    let begun = begun(rt, named, asked.chunk, asked.limits)?;
     let kept = kept(rt, &mut input(rt), &mut writer, begun)?;
     let status = status_of(rt, kept.system(), asked.audit);
     Ok(Ended { kept, status })

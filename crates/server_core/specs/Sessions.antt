@@ -1,12 +1,12 @@
 -- What becomes of the passes of a server: a worker's goes through sessions, the checkpointer's
 -- through looks at the active checkpoint, and nothing else is done through them.
-use Rattle.std.specs.Prelude.{◌≡◌, ℕ, ◌+◌, List, [], ◌∷◌, ◌++◌, length, map, sum_by, All, Option, Some}
+use Rattle.std.specs.Prelude.{◌≡◌, ℕ, ◌+◌, List, [], ◌∷◌, ◌++◌, map, sum_by, All, Option, Some}
 use Rattle.lines_core.specs.Serving.{Traffic}
 use Rattle.turnstile.specs.Logs.{StartsWith}
 use Rattle.turnstile.specs.Closed.{AreAll}
 use Rattle.system_core.specs.declared.machine.event.Entry.{Entry}
 use Rattle.system_core.specs.World.{World}
-use Rattle.desk_core.specs.Guarded.{DeskLock, DeskPass, origin_of}
+use Rattle.desk_core.specs.Guarded.{DeskLock, DeskPass, origin_of, origin_at}
 use Rattle.desk_core.specs.Turns.{Ended}
 use Rattle.session_core.specs.declared.summary.Summary.{Summary}
 use Rattle.session_core.specs.Checking.{HasChecked}
@@ -89,8 +89,7 @@ pub record Leaves {K : Type 0} (workers sessions : ℕ) (keeper : K) (start worl
   pub passes : List (DeskPass K)
   pub count_is : desk.count ≡ workers + 1
   pub start_is : desk.start ≡ 0
-  pub origin_is : origin_of desk
-      ≡ record { chunk = start.chunk; front = length start.journal; keeper = keeper }
+  pub origin_is : origin_of desk ≡ origin_at start keeper
   pub all : AreAll desk passes
   pub servers : AreServers start.journal desk sessions passes
   pub ended : Ended desk passes world

@@ -2,6 +2,7 @@
 ghost use Rattle.std.specs.Prelude.{◌≡◌, None, Some, Err};
 ghost use Rattle.server_core.specs.Sessions.{IsOf, Attends};
 
+use crate::keepalive::keep_alive;
 use crate::permit::{Counting, Permit, Yielding};
 use crate::permits::Permits;
 use crate::sign::Sign;
@@ -84,6 +85,7 @@ pub(crate) fn attend<K: Keeper + Drop, R: Wait>(
     let _ = stream.set_nodelay(true);
     let _ = stream.set_read_timeout(idle);
     let _ = stream.set_write_timeout(idle);
+    keep_alive(stream);
     let permit = Permit::new(rt, permits);
     let output = Yielding::new(&permit, Timed::new(is_late, Steady::new(stream)));
     let Ok(buffered) = BufWriter::with_capacity(alloc, OUTPUT_BYTES, output) else {

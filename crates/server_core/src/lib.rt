@@ -45,9 +45,9 @@
 //!
 //! A client that sends nothing holds its worker, and so does one that takes nothing of its replies,
 //! for as long as [`Manners`] say. What it takes counts once that makes room in the socket, and
-//! whatever of a reply then goes in begins the time anew. The kernel is not asked to look after
-//! silent peers (std's sockets have no call for that), so a peer that is gone is found by this time
-//! alone.
+//! whatever of a reply then goes in begins the time anew. Of a client that is silent the system asks
+//! whether it is there: one that is gone without a word ends its session by a fault after four
+//! minutes.
 //!
 //! # Cost
 //!
@@ -59,6 +59,7 @@ mod accepting;
 mod attending;
 mod door;
 mod fault;
+mod keepalive;
 mod log;
 mod manners;
 mod permit;

@@ -5,7 +5,7 @@ use Rattle.std.proofs.lemmas.List.Elements.{All-nil, All-cons, All-push, All-pop
 use Rattle.turnstile.specs.Logs.{StartsWith}
 use Rattle.turnstile.specs.Closed.{Kept, AreAll}
 use Rattle.turnstile.specs.Passes.{IsSamePass, passes_from, new_passes}
-use Rattle.desk_core.specs.Guarded.{DeskLock, DeskPass, origin_of}
+use Rattle.desk_core.specs.Guarded.{DeskLock, DeskPass, origin_of, origin_at}
 use Rattle.desk_core.specs.Turns.{asked_by, journal_of, begun_of, Ended}
 use Rattle.system_core.specs.World.{World}
 use Rattle.system_core.specs.declared.machine.event.Entry.{Entry}
@@ -75,15 +75,15 @@ passes_count journal desk first zero = refl
 passes_count journal desk first (suc n) = ap suc (passes_count journal desk (suc first) n)
 
 -- what a server leaves
-pub leaves_of : {K : Type 0} (workers sessions chunk : ℕ) (keeper : K) (start world : World) (desk : DeskLock K) (passes : List (DeskPass K)) → desk.count ≡ workers + 1 → desk.start ≡ 0
-    → origin_of desk ≡ record { chunk = chunk; front = length start.journal; keeper = keeper } → start.chunk ≡ chunk
+pub leaves_of : {K : Type 0} (workers sessions : ℕ) (keeper : K) (start world : World) (desk : DeskLock K) (passes : List (DeskPass K)) → desk.count ≡ workers + 1 → desk.start ≡ 0
+    → origin_of desk ≡ origin_at start keeper
     → AreServers start.journal desk sessions passes → AreAll desk passes → Ended desk passes world → Leaves workers sessions keeper start world
-leaves_of workers sessions chunk keeper start world desk passes count begins origin is servers all ended = record {
+leaves_of workers sessions keeper start world desk passes count begins origin servers all ended = record {
   desk = desk;
   passes = passes;
   count_is = count;
   start_is = begins;
-  origin_is = origin ∙ (λ i. record { chunk = sym is i; front = length start.journal; keeper = keeper });
+  origin_is = origin;
   all = all;
   servers = servers;
   ended = ended;

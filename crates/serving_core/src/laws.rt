@@ -1,10 +1,11 @@
 //! A law of servers, the contract of a function that does nothing.
-ghost use Rattle.std.specs.Prelude.{◌≡◌, ◌++◌, ℕ, List, [], length, map, false};
+ghost use Rattle.std.specs.Prelude.{◌≡◌, ◌++◌, ℕ, List, [], map, false};
 ghost use Rattle.std.specs.Str.Lines.{lines};
 ghost use Rattle.turnstile.specs.Logs.{gained};
 ghost use Rattle.system_core.specs.World.{World};
 ghost use Rattle.lines_core.specs.Lines.{IsWhole};
 ghost use Rattle.journal_core.specs.Keeping.{line_rules};
+ghost use Rattle.desk_core.specs.Guarded.{origin_at};
 ghost use Rattle.desk_core.specs.Kept.{HasKept};
 ghost use Rattle.server_core.specs.Sessions.{Leaves};
 ghost use Rattle.load_core.specs.Kept.{CanBeLoadedBehind};
@@ -16,10 +17,9 @@ use base_core::Sink;
 /// that loads the journal which the server began with, loads with it the journal that the server
 /// left, each new entry but for its pass.
 pub fn gone_on_server_is_kept<W: Sink>()
-    ensures { (workers sessions chunk : ℕ) (start world : World) (old : List ℕ) (begun sink : W)
+    ensures { (workers sessions : ℕ) (start world : World) (old : List ℕ) (begun sink : W)
         → Leaves workers sessions begun start world
-        → HasKept (line_rules W.taken W.handed_on W.failed)
-        (record { chunk = chunk; front = length start.journal; keeper = begun })
+        → HasKept (line_rules W.taken W.handed_on W.failed) (origin_at start begun)
         world.journal sink
         → W.failed sink ≡ false
         → IsWhole old

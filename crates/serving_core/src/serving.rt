@@ -1,7 +1,7 @@
 //! A server, from its first session to its last.
 ghost use Rattle.std.specs.Prelude.{◌≡◌, ◌+◌, ◌<◌, ◌≤◌, length, All, false, IfOk, OnOk};
 ghost use Rattle.turnstile.specs.Closed.{AreAll};
-ghost use Rattle.desk_core.specs.Guarded.{origin_of};
+ghost use Rattle.desk_core.specs.Guarded.{origin_of, origin_at};
 ghost use Rattle.desk_core.specs.Kept.{HasKept};
 ghost use Rattle.desk_core.specs.Turns.{Ended};
 ghost use Rattle.server_core.specs.Sessions.{IsOf, IsNew, AreServers, Leaves};
@@ -138,12 +138,11 @@ where
     requires name { blank.name ≡ L.name }
     requires parts { (blank.parts ≡ L.parts) × (L.parts ≡ workers + 1) }
     requires workers { (0 < workers) × (workers ≤ 16) }
-    requires ready { IsReady system.chunk system }
+    requires ready { IsReady system }
     requires works { K.failed keeper ≡ false }
     ensures count { IfOk result (λ served. served.sessions ≡ sessions) }
     ensures leaves { IfOk result (λ served. Leaves workers sessions keeper system served.system) }
-    ensures kept { IfOk result (λ served. HasKept K.Keeper
-        (record { chunk = system.chunk; front = length system.journal; keeper = keeper })
+    ensures kept { IfOk result (λ served. HasKept K.Keeper (origin_at system keeper)
         served.system.journal served.keeper) }
 {
     let begun = Snapshot::of(&system);
@@ -196,12 +195,11 @@ where
     R: Threads + Wait + Clock + Sync,
     W: Write + Send,
     requires workers { (0 < workers) × (workers ≤ 16) }
-    requires ready { IsReady system.chunk system }
+    requires ready { IsReady system }
     requires works { K.failed keeper ≡ false }
     ensures count { IfOk result (λ served. served.sessions ≡ sessions) }
     ensures leaves { IfOk result (λ served. Leaves workers sessions keeper system served.system) }
-    ensures kept { IfOk result (λ served. HasKept K.Keeper
-        (record { chunk = system.chunk; front = length system.journal; keeper = keeper })
+    ensures kept { IfOk result (λ served. HasKept K.Keeper (origin_at system keeper)
         served.system.journal served.keeper) }
 {
     let log = SharedLog {

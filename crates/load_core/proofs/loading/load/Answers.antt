@@ -5,17 +5,17 @@ use Rattle.load_core.proofs.loading.load.Goals as goal
 
 pub finish-requires : goal.finish-requires
 finish-requires g c =
-    number_is_small c.args.chunk c.in-Ok.system.limits c.in-Ok.ensures.0 _ _ _ _ c.in-Ok-serve_told.ending c.new-loader.result c.serve_told.new.server (c.new-loader.ensures.world ∙ c.in-Ok.ensures.1) c.new-loader.ensures.stop c.in-Ok-serve_told.ensures.ends
+    number_is_small c.args.chunk c.args.limits _ _ _ _ c.in-Ok-serve_told.ending c.new-loader.result c.serve_told.new.server (c.new-loader.ensures.world ∙ c.in-Ok.ensures) c.new-loader.ensures.stop c.in-Ok-serve_told.ensures.ends
 
 pub returns-in-Ok-serve_told-clause-ends : goal.returns-in-Ok-serve_told-clause-ends
 returns-in-Ok-serve_told-clause-ends g c =
-    let ends = ends_so c.args.chunk c.in-Ok.system.limits c.in-Ok.ensures.0 (g.S.Source.left c.args.reader.now) (g.S.Source.left c.serve_told.new.reader) _ _ c.in-Ok-serve_told.ending c.new-loader.result c.serve_told.new.server (c.new-loader.ensures.world ∙ c.in-Ok.ensures.1) c.new-loader.ensures.stop c.in-Ok-serve_told.ensures.ends in
+    let ends = ends_so c.args.chunk c.args.limits (g.S.Source.left c.args.reader.now) (g.S.Source.left c.serve_told.new.reader) _ _ c.in-Ok-serve_told.ending c.new-loader.result c.serve_told.new.server (c.new-loader.ensures.world ∙ c.in-Ok.ensures) c.new-loader.ensures.stop c.in-Ok-serve_told.ensures.ends in
     rw c.finish.ensures ends
 
 pub returns-in-Ok-serve_told-clause-passes : goal.returns-in-Ok-serve_told-clause-passes
 returns-in-Ok-serve_told-clause-passes g c =
-    ends_passes c.args.chunk c.finish.result (g.S.Source.left c.args.reader.now) (g.S.Source.left c.serve_told.new.reader) (returns-in-Ok-serve_told-clause-ends g c)
+    ends_passes c.args.chunk c.args.limits c.finish.result (g.S.Source.left c.args.reader.now) (g.S.Source.left c.serve_told.new.reader) (returns-in-Ok-serve_told-clause-ends g c)
 
 pub returns-in-Ok-serve_told-clause-entries : goal.returns-in-Ok-serve_told-clause-entries
 returns-in-Ok-serve_told-clause-entries g c =
-    ends_read c.args.chunk c.finish.result (g.S.Source.left c.args.reader.now) (g.S.Source.left c.serve_told.new.reader) (returns-in-Ok-serve_told-clause-ends g c)
+    ends_read c.args.chunk c.args.limits c.finish.result (g.S.Source.left c.args.reader.now) (g.S.Source.left c.serve_told.new.reader) (returns-in-Ok-serve_told-clause-ends g c)

@@ -11,6 +11,7 @@ returns-clause-ok g c =
       replayed = record {
         begins = c.in_ok-begins.begins;
         leavings = c.in_ok-replayed.replayed;
+        limits_are = c.in_ok-begins.ensures.asked.1;
         empty = λ _. c.in_ok-begins.ensures.empty refl;
         replays = subst Reads c.manner_of.ensures c.in_ok-replayed.ensures.ends;
       };

@@ -7,7 +7,7 @@ use Rattle.load_core.specs.Loading.{without_pass}
 use Rattle.serving_core.proofs.laws.gone_on_server_is_kept.Goals as goal
 
 pub returns : goal.returns
-returns g c = λ workers sessions chunk start world old begun sink leaves kept works whole loads.
+returns g c = λ workers sessions start world old begun sink leaves kept works whole loads.
     let rest = leaves.begins.0 in
     subst (λ (es : List Entry). CanBeLoadedBehind world.limits old (g.W.Sink.taken begun) (g.W.Sink.taken sink) (start.journal ++ map without_pass es))
     (sym (ap (drop (length start.journal)) leaves.begins.1 ∙ drop_at start.journal rest (length start.journal) refl))

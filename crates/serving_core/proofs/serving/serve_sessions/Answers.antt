@@ -1,4 +1,4 @@
-use Rattle.std.proofs.Common.{◌≡◌, length, refl, sym, ap, ◌∙◌, subst}
+use Rattle.std.proofs.Common.{◌≡◌, length, sym, ap, ◌∙◌, subst}
 use Rattle.turnstile.specs.Closed.{AreAll}
 use Rattle.turnstile.specs.Passes.{new_passes}
 use Rattle.system_core.specs.World.{World}
@@ -26,4 +26,4 @@ returns-in-Ok-clause-leaves g c =
     let begun = subst (λ (w : World). AreServers w.journal desk c.in-Ok.served passes) c.of-begun.ensures c.in-Ok.ensures.servers in
     let servers = subst (λ n. AreServers c.args.system.journal desk n passes) c.in-Ok.ensures.count begun in
     if_ok_with (AreAll desk passes) (λ served. Ended desk passes served.system) (λ served. Leaves c.args.workers c.args.sessions c.args.keeper c.args.system served.system) c.close.result c.close.ensures.all c.close.ensures.ended
-    (λ served all ended. leaves_of c.args.workers c.args.sessions c.args.system.chunk c.args.keeper c.args.system served.system desk passes ensured.desk.0 ensured.desk.1 ensured.origin refl servers all ended)
+    (λ served all ended. leaves_of c.args.workers c.args.sessions c.args.keeper c.args.system served.system desk passes ensured.desk.0 ensured.desk.1 ensured.origin servers all ended)

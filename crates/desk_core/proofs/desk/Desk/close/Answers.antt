@@ -1,6 +1,5 @@
 use Rattle.std.proofs.Common.{ap, sym, subst, ◌∙◌}
 use Rattle.system_core.specs.World.{World, IsLawfulWorld}
-use Rattle.base_core.specs.Full.{IsFull}
 use Rattle.desk_core.specs.Guarded.{CoreState}
 use Rattle.desk_core.proofs.Taking.{closed_ended}
 use Rattle.desk_core.proofs.desk.Desk.close.Goals as goal
@@ -12,5 +11,4 @@ returns-in-Ok-clause-ok g c =
     closed_ended K c.args.self c.args.passes.items c.in-Ok.core c.into_inner.result
     (sym (ap (λ (x : CoreState g.row.K.Denot). x.world) c.core.view_is) ∙ out)
     (subst (λ (w : World). IsLawfulWorld w) (c.deref.ensures ∙ out) c.journal.ensures.lawful)
-    (subst (λ (w : World). IsFull w.limits) out c.core.invariant.1)
     (rw c.self.view_is at c.in-Ok.ensures.ok)

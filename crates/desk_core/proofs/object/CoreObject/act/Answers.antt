@@ -31,7 +31,6 @@ returns g c =
     c.self.view_is
     (record {
       lawful = subst (λ (w : World). IsLawfulWorld w) c.deref.ensures c.journal.ensures.lawful;
-      full = c.self.invariant.1;
       steps = steps;
       origin = refl;
       has_kept = stands.3;
