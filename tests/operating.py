@@ -44,9 +44,9 @@ def without(words, option):
 
 
 def goes_on(program, check, name, words):
-    """A server of these words, but at a free port, is killed. The next one has what was told."""
+    """A server of these words, but at a free port, is killed. The next one has what was told, and is stopped."""
     check(f"{name}: serve", words[0] == "serve", words)
-    more = without(without(words[1:], "--port"), "--workers")
+    more = without(without(without(words[1:], "--port"), "--workers"), "--control") + ["--control", "control"]
     with tempfile.TemporaryDirectory() as folder:
         mended(folder)
         server = Server(program, None, workers=16, more=more, cwd=folder)
@@ -60,9 +60,12 @@ def goes_on(program, check, name, words):
         second = [server.listening, server.child.stdout.readline()]
         ann = Session(server, "ann")
         told += [ann.ask("SELECT * FROM pay"), ann.line()]
-        server.child.kill()
-        server.end()
+        stopped = subprocess.run([program, "stop", "--control", "control"], cwd=folder, capture_output=True,
+            timeout=WAIT)
+        ended = server.end()[:2]
     check(f"{name}: loaded", [first[0], second[0]] == [b"loaded 0 changes\n", b"loaded 2 changes\n"], (first, second))
+    seen = stopped.returncode, stopped.stdout, ended
+    check(f"{name}: stopped", seen == (0, b"", (0, b"served 1\n")), seen)
     check(f"{name}: goes on", told == ["done @1\n", "done @2\n", "rows 1 @2\n", "row,Bo\n"], told)
 
 

@@ -33,4 +33,6 @@ IsInRange (asked.Serve s) =
     × IsChunk s.chunk
     × AreAsked s.limits
     × IsIdle s.idle
+    × (s.grace ≤ 86400)
+IsInRange (asked.Stop control) = Unit {0}
 IsInRange (asked.Explain e) = IsMoment e.at × AreAsked e.reading.limits

@@ -26,6 +26,10 @@ const MAX_SESSIONS: u32 = 1_000_000_000;
 
 const MAX_IDLE: u32 = 86_400;
 
+const GRACE: u32 = 10;
+
+const MAX_GRACE: u32 = 86_400;
+
 const MAX_MOMENT: u32 = 1_000_000_000;
 
 /// What the command line asks for.
@@ -42,6 +46,10 @@ pub enum CommandLine<'a> {
     },
     /// To serve sessions.
     Serve(Serving<'a>),
+    /// To tell the server of this control socket to stop.
+    Stop {
+        control: &'a str,
+    },
     /// To explain the rights that the lines of standard input make.
     Explain(Explaining<'a>),
 }
@@ -62,7 +70,8 @@ pub struct Running<'a> {
 /// how many records a step of the checkpointer takes, how much there may be, for how many seconds a
 /// session waits for its client, if not for ever, and whether it is told where sessions begin and
 /// end; from which file the first changes come, to which each change is written, to which the state
-/// is written at the end, and whether to audit then.
+/// is written at the end, and whether to audit then; at which control socket it may be told to stop,
+/// whether the end of standard input tells it so, and how many seconds sessions then have.
 #[derive(Clone, Copy)]
 pub struct Serving<'a> {
     pub port: u16,
@@ -76,6 +85,9 @@ pub struct Serving<'a> {
     pub journal: Option<&'a str>,
     pub dump: Option<&'a str>,
     pub audit: bool,
+    pub control: Option<&'a str>,
+    pub until_eof: bool,
+    pub grace: u64,
 }
 
 /// What is to be explained of a journal or a script: a question, as of which moment, if not at its
@@ -104,6 +116,14 @@ fn idle_of(matches: &ArgMatches<'_>) -> Option<u64>
 {
     let seconds = matches.get_one::<u32>("idle")?;
     Some(seconds.clamp(1, MAX_IDLE) as u64)
+}
+
+// clap has refused a number out of range.
+fn grace_of(matches: &ArgMatches<'_>) -> u64
+    ensures { result ≤ 86400 }
+{
+    let seconds = matches.get_one::<u32>("grace").unwrap_or(GRACE);
+    seconds.min(MAX_GRACE) as u64
 }
 
 // clap has refused a number out of range. Without one there is no end to them: 64 bits count all that
@@ -136,6 +156,9 @@ fn serving_of<'a>(matches: &ArgMatches<'a>) -> Serving<'a>
         journal: matches.get_str("journal"),
         dump: matches.get_str("dump"),
         audit: matches.get_flag("audit"),
+        control: matches.get_str("control"),
+        until_eof: matches.get_flag("until-eof"),
+        grace: grace_of(matches),
     }
 }
 
@@ -231,7 +254,8 @@ fn explaining_of<'a>(matches: &ArgMatches<'a>) -> Explaining<'a>
 /// workers from 1 to 16, and 4 where none are given; the sessions from 1 to 1,000,000,000, and 2^64 - 1
 /// where none are given, so that there is no end to them; the changes from 1 to 1,000,000,000, and 1,000,000 where none are given; the
 /// seconds of an idle session, if they are given, from 1 to 86,400; the moment of an explanation, if
-/// it is given, from 0 to 1,000,000,000. An error is clap's: the words
+/// it is given, from 0 to 1,000,000,000; the seconds of grace from 0 to 86,400, and 10 where none are
+/// given. An error is clap's: the words
 /// were refused, help or the version was asked for, or there was no memory.
 pub fn options<'a, S: AsStr>(alloc: Global, words: &'a [S]) -> Result<CommandLine<'a>, Error>
     ensures { IfOk result IsInRange }
@@ -247,6 +271,11 @@ pub fn options<'a, S: AsStr>(alloc: Global, words: &'a [S]) -> Result<CommandLin
         return Ok(CommandLine::Dump {
             load: dump.get_str("load"),
             reading: reading_of(dump),
+        });
+    }
+    if let Some(stop) = matches.subcommand_matches("stop") {
+        return Ok(CommandLine::Stop {
+            control: word_of(stop, "control"),
         });
     }
     if let Some(journal) = matches.subcommand_matches("journal") {

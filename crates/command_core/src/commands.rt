@@ -32,6 +32,11 @@ that were denied or refused, or that say no statement, are left out, which it te
 error. The status is 0 if all was written, and 1 if not, or if with --strict something was left
 out.";
 
+const FORM_OF_A_STOP: &str = "\
+The server takes no further session, and each session answers the lines that it was sent, and ends;
+then the server ends. At a second stop, or behind its grace, sessions are cut. The status is 0 once
+the server has ended.";
+
 /// A command under construction. No call here promises what it keeps, so that in a chain of them the
 /// last is as cheap to prove as the first; and none but the two below has an exit at a fault.
 pub type Made<'a> = Result<Command<'a>, AllocError>;
@@ -178,6 +183,32 @@ fn log_arg<'a>(alloc: Global) -> Arg<'a> {
     flag_arg(alloc, "log", help)
 }
 
+fn control_arg<'a>(alloc: Global, help: &'a str) -> Arg<'a> {
+    value_arg(alloc, "control", "FILE", help)
+}
+
+fn until_eof_arg<'a>(alloc: Global) -> Arg<'a> {
+    let help = "Stops at the end of standard input";
+    flag_arg(alloc, "until-eof", help)
+}
+
+fn grace_arg<'a>(alloc: Global) -> Arg<'a> {
+    let help =
+        "Seconds that sessions have to end once it is to stop, from 0 to 86,400; 10 where it is \
+        not given";
+    taking(
+        value_arg(alloc, "grace", "s", help),
+        clap::value_parser!(u32).range(0..=86400),
+    )
+}
+
+fn stop_command<'a>(alloc: Global) -> Made<'a> {
+    let about = "Tells a server to stop, and waits until it has ended";
+    let made = command(alloc, "stop", about, FORM_OF_A_STOP);
+    let help = "The control socket of the server";
+    with(made, control_arg(alloc, help).required(true))
+}
+
 fn serve_command<'a>(alloc: Global) -> Made<'a> {
     let made = command(
         alloc,
@@ -195,7 +226,11 @@ fn serve_command<'a>(alloc: Global) -> Made<'a> {
     let made = with(made, load_arg(alloc));
     let made = with(made, journal_arg(alloc));
     let made = with(made, dump_arg(alloc));
-    with(made, audit_arg(alloc))
+    let made = with(made, audit_arg(alloc));
+    let help = "Makes a control socket at this place, at which `sysr stop` is heard";
+    let made = with(made, control_arg(alloc, help));
+    let made = with(made, until_eof_arg(alloc));
+    with(made, grace_arg(alloc))
 }
 
 // The program without its commands.
@@ -215,5 +250,6 @@ pub fn program<'a>(alloc: Global) -> Made<'a> {
     let made = with_command(made, journal_command(alloc));
     let made = with_command(made, dump_command(alloc));
     let made = with_command(made, serve_command(alloc));
+    let made = with_command(made, stop_command(alloc));
     with_command(made, explain_command(alloc))
 }

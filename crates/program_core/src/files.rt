@@ -84,6 +84,23 @@ fn fresh(rt: &HostRuntime, path: &str) -> Result<File, ExitCode> {
     Ok(file)
 }
 
+/// Has the system put the file on its disk. The error is the status, where it cannot, which is told. What
+/// is no file of a disk stays as it is.
+pub fn sync(rt: &HostRuntime, path: &str) -> Result<(), ExitCode>
+    ensures { IfErr result (λ status. exit_status status ≡ 1) }
+{
+    let opened = OpenOptions::new().append(true).open(rt, path);
+    let synced = match opened {
+        Ok(file) => file.sync_all(),
+        Err(error) => Err(error),
+    };
+    match synced {
+        Ok(()) => Ok(()),
+        Err(error) if error.kind() == ErrorKind::InvalidInput => Ok(()),
+        Err(_) => Err(give_up_on(rt, path, b"cannot be synced")),
+    }
+}
+
 /// A writer to the file of a journal that goes on. The error is the status, as of [`opened`].
 pub fn journal_gone_on(rt: &HostRuntime, path: &str) -> Result<JournalSink, ExitCode>
     ensures { IfOk result (λ writer. writer.failed ≡ false) }

@@ -1,9 +1,9 @@
 //! The commands of the program: what each of them does between files, streams and the core.
 //!
-//! [`run`] answers the lines of standard input, [`serve`] sessions over TCP; [`journal`] and [`dump`]
-//! write again what lines leave, and [`explained`] says why somebody holds a right that they make. A
-//! command gives the status that the process is to end with. Its error is a status too: that of a
-//! fault, which it has told on standard error.
+//! [`run`] answers the lines of standard input, [`serve`] sessions over TCP, which [`stop`] ends;
+//! [`journal`] and [`dump`] write again what lines leave, and [`explained`] says why somebody holds a
+//! right that they make. A command gives the status that the process is to end with. Its error is a
+//! status too: that of a fault, which it has told on standard error.
 //!
 //! A file that is written to is held against other programs, before it is read where it is gone on
 //! with, and no two words of a command line may name one file (`files.rt`, `naming.rt`).
@@ -23,6 +23,8 @@
 //! back with the process, and is not taken apart.
 #![tactic(auto)]
 
+mod controls;
+mod end_of_input;
 mod explaining;
 mod files;
 mod keeping;
@@ -33,6 +35,7 @@ mod recording;
 mod replaying;
 mod running;
 
+pub use controls::stop;
 pub use explaining::explained;
 pub use files::JournalSink;
 pub use keeping::{Ended, Kept};

@@ -8,7 +8,8 @@ ghost use Rattle.server_core.specs.Sessions.{Leaves};
 ghost use Rattle.load_core.specs.Ready.{IsReady};
 ghost use Rattle.program_core.specs.Kept.{IsServed, ServesFrom};
 
-use crate::files::{DumpSink, JournalSink, dump_file};
+use crate::controls::{Controls, controls_of};
+use crate::files::{DumpSink, JournalSink, dump_file, sync};
 use crate::keeping::{Ended, Kept, line_keeper};
 use crate::loading::{Start, begun};
 use crate::naming::{Named, apart_from_each_other};
@@ -18,8 +19,9 @@ use command_core::Serving;
 use journal_core::{Keeper, NoKeeper};
 use lines_core::{NO_MEMORY, SessionFault, fault_text, give_up};
 use run_core::{Left, status_of};
-use server_core::{Manners, ServeFault};
-use serving_core::serve_on;
+use server_core::{Manners, ServeFault, Taken};
+use serving_core::{Served, serve_on};
+use std::fs;
 use std::mem::forget;
 use std::net::TcpListener;
 use std::process::ExitCode;
@@ -50,26 +52,29 @@ fn serve_fault_text(fault: ServeFault) -> &'static str {
 }
 
 /// Serves the sessions that are asked for at the listener, from this core on, whose changes are kept,
-/// and gives what they left. The error is the status, where the server ended by a fault, which is
-/// told.
+/// or until it is told to stop, and gives what they left, and how many they were. The error is the
+/// status, where the server ended by a fault, which is told.
 fn served<R, K>(
     host: &HostRuntime,
     rt: &R,
     asked: Serving<'_>,
     listener: &TcpListener,
+    controls: &Controls,
     system: System,
     keeper: K,
-) -> Result<Left<K>, ExitCode>
+) -> Result<(Left<K>, Taken), ExitCode>
 where
     R: Threads + Wait + Clock + Sync,
     K: Keeper + Drop + Send,
     requires range { IsInRange (Serve asked) }
     requires ready { IsReady system }
     requires works { K.failed keeper ≡ false }
+    ensures count { IfOk result
+        (λ b. b.1.stopped ≡ false → b.1.sessions ≡ asked.entry.sessions) }
     ensures leaves { IfOk result
-        (λ left. Leaves asked.entry.workers asked.entry.sessions keeper system left.system) }
-    ensures kept { IfOk result (λ left. HasKept K.Keeper (origin_at system keeper)
-        left.system.journal left.keeper) }
+        (λ b. Leaves asked.entry.workers b.1.sessions keeper system b.0.system) }
+    ensures kept { IfOk result (λ b. HasKept K.Keeper (origin_at system keeper)
+        b.0.system.journal b.0.keeper) }
 {
     let manners = Manners {
         idle: asked.idle.map(Duration::from_secs),
@@ -86,12 +91,17 @@ where
         keeper,
         manners,
         &mut err,
+        controls,
     );
     match served {
-        Ok(served) => Ok(Left {
-            system: served.system,
-            keeper: served.keeper,
-        }),
+        Ok(served) => {
+            let Served {
+                taken,
+                system,
+                keeper,
+            } = served;
+            Ok((Left { system, keeper }, taken))
+        }
         Err(fault) => Err(give_up(host, serve_fault_text(fault))),
     }
 }
@@ -103,26 +113,29 @@ fn kept<R, W>(
     rt: &R,
     asked: Serving<'_>,
     listener: &TcpListener,
+    controls: &Controls,
     begun: Start<W>,
-) -> Result<Kept<W>, ExitCode>
+) -> Result<(Kept<W>, Taken), ExitCode>
 where
     R: Threads + Wait + Clock + Sync,
     W: Sink + Drop + Send,
     requires range { IsInRange (Serve asked) }
     requires ready { IsReady begun.system }
     requires works { IfSome begun.journal (λ sink. W.failed sink ≡ false) }
-    ensures { IfOk result (IsServed W.taken W.handed_on W.failed
-        asked.entry.workers asked.entry.sessions begun) }
+    ensures count { IfOk result
+        (λ b. b.1.stopped ≡ false → b.1.sessions ≡ asked.entry.sessions) }
+    ensures served { IfOk result (λ b. IsServed W.taken W.handed_on W.failed
+        asked.entry.workers b.1.sessions begun b.0) }
 {
     let Start { system, journal } = begun;
     let Some(sink) = journal else {
-        let left = served(host, rt, asked, listener, system, NoKeeper)?;
-        return Ok(Kept::Nowhere(left));
+        let (left, taken) = served(host, rt, asked, listener, controls, system, NoKeeper)?;
+        return Ok((Kept::Nowhere(left), taken));
     };
     match line_keeper(host, sink) {
         Ok(keeper) => {
-            let left = served(host, rt, asked, listener, system, keeper)?;
-            Ok(Kept::Lines(left))
+            let (left, taken) = served(host, rt, asked, listener, controls, system, keeper)?;
+            Ok((Kept::Lines(left), taken))
         }
         Err(status) => {
             // The process ends here, and its memory goes back as a whole.
@@ -132,17 +145,20 @@ where
     }
 }
 
-/// Says how many sessions were served, writes the dump of what they left, and audits it, each if
-/// that is asked for. The error is the status, where that could not be said or written.
+/// Has the journal on its disk, says how many sessions were served, writes the dump of what they left,
+/// and audits it, each if that is asked for. The error is the status, where that could not be done.
 fn tell_end(
     host: &HostRuntime,
     asked: Serving<'_>,
+    sessions: u64,
     system: &System,
     dump: Option<DumpSink>,
 ) -> Result<ExitCode, ExitCode>
     requires { IfSome dump (λ sink. sink.failed ≡ false) }
 {
-    let sessions = asked.sessions;
+    if let Some(path) = asked.journal {
+        sync(host, path)?;
+    }
     if println!(host; "served {sessions}").is_err() {
         return Err(give_up(host, fault_text(SessionFault::Write)));
     }
@@ -188,7 +204,7 @@ fn listen_and_serve<R, W>(
     asked: Serving<'_>,
     begun: Start<W>,
     dump: Option<DumpSink>,
-) -> Result<Ended<W>, ExitCode>
+) -> Result<(Ended<W>, Taken), ExitCode>
 where
     R: Threads + Wait + Clock + Sync,
     W: Sink + Drop + Send,
@@ -196,37 +212,56 @@ where
     requires ready { IsReady begun.system }
     requires works { IfSome begun.journal (λ sink. W.failed sink ≡ false) }
     requires dump { IfSome dump (λ sink. sink.failed ≡ false) }
-    ensures { IfOk result (λ ended. IsServed W.taken W.handed_on W.failed
-        asked.entry.workers asked.entry.sessions begun ended.kept) }
+    ensures count { IfOk result
+        (λ b. b.1.stopped ≡ false → b.1.sessions ≡ asked.entry.sessions) }
+    ensures served { IfOk result (λ b. IsServed W.taken W.handed_on W.failed
+        asked.entry.workers b.1.sessions begun b.0.kept) }
 {
-    let listener = match listener_at(host, asked.port) {
-        Ok(listener) => listener,
+    let (controls, listener) = match heard_and_served(host, rt, asked) {
+        Ok(opened) => opened,
         Err(status) => {
             // The process ends here, and its memory goes back as a whole.
             forget(begun);
             return Err(status);
         }
     };
-    let kept = kept(host, rt, asked, &listener, begun)?;
-    let status = match tell_end(host, asked, kept.system(), dump) {
+    let (kept, taken) = kept(host, rt, asked, &listener, &controls, begun)?;
+    let status = match tell_end(host, asked, taken.sessions, kept.system(), dump) {
         Ok(status) | Err(status) => status,
     };
-    Ok(Ended { kept, status })
+    if let Some(path) = asked.control {
+        let _ = fs::remove_file(host, path);
+    }
+    Ok((Ended { kept, status }, taken))
 }
 
-/// Serves the sessions that are asked for. It says at which port it listens, and at the end how
-/// many sessions it served, and how an audit ended. What they left is given too.
+/// What listens to who may tell the server to stop, and to its clients. It says at which port.
+fn heard_and_served<R: Threads>(
+    host: &HostRuntime,
+    rt: &R,
+    asked: Serving<'_>,
+) -> Result<(Controls, TcpListener), ExitCode> {
+    let controls = controls_of(host, rt, asked)?;
+    let listener = listener_at(host, asked.port)?;
+    Ok((controls, listener))
+}
+
+/// Serves the sessions that are asked for, or until it is told to stop. It says at which port it
+/// listens, and at the end how many sessions it served, and how an audit ended. What they left is given
+/// too, and how many they were.
 pub fn serve<R>(
     host: &HostRuntime,
     rt: &R,
     asked: Serving<'_>,
-) -> Result<Ended<JournalSink>, ExitCode>
+) -> Result<(Ended<JournalSink>, Taken), ExitCode>
 where
     R: Threads + Wait + Clock + Sync,
     requires { IsInRange (Serve asked) }
-    ensures { IfOk result (λ ended. ServesFrom ⟦<JournalSink as Sink>⟧.taken
+    ensures count { IfOk result
+        (λ b. b.1.stopped ≡ false → b.1.sessions ≡ asked.entry.sessions) }
+    ensures served { IfOk result (λ b. ServesFrom ⟦<JournalSink as Sink>⟧.taken
         ⟦<JournalSink as Sink>⟧.handed_on ⟦<JournalSink as Sink>⟧.failed
-        asked.entry.workers asked.entry.sessions asked.entry.journal ended.kept) }
+        asked.entry.workers b.1.sessions asked.entry.journal b.0.kept) }
 {
     let named = Named {
         load: asked.load,

@@ -7,6 +7,7 @@ use crate::permit::{Counting, Permit, Yielding};
 use crate::permits::Permits;
 use crate::sign::Sign;
 use crate::timed::Timed;
+use crate::until_stopped::UntilStopped;
 use base_core::{StdSink, StdSource};
 use desk_core::{Desk, Pass};
 use journal_core::Keeper;
@@ -63,7 +64,8 @@ fn unserved() -> Summary
 }
 
 /// Serves one session to its end, through the pass and through nothing else. A read or a write that
-/// waits for longer than `idle` is its fault, and is noted as late. Where a reply was withheld, the
+/// waits for longer than `idle` is its fault, and is noted as late; and so is the end of its input
+/// where the server was stopped, which is noted too. Where a reply was withheld, the
 /// listener is closed before the client can see that the session ended. No permit is held before and
 /// behind the call.
 pub(crate) fn attend<K: Keeper + Drop, R: Wait>(
@@ -77,6 +79,7 @@ pub(crate) fn attend<K: Keeper + Drop, R: Wait>(
     permits: &Permits,
     idle: Option<Duration>,
     is_late: &Cell<bool>,
+    was_stopped: &Cell<bool>,
 ) -> Summary
     requires { IsOf desk.now pass.old }
     ensures { Attends desk.now result pass.old pass.new }
@@ -86,17 +89,21 @@ pub(crate) fn attend<K: Keeper + Drop, R: Wait>(
     let _ = stream.set_read_timeout(idle);
     let _ = stream.set_write_timeout(idle);
     keep_alive(stream);
+    sign.enter(rt, stream);
     let permit = Permit::new(rt, permits);
     let output = Yielding::new(&permit, Timed::new(is_late, Steady::new(stream)));
     let Ok(buffered) = BufWriter::with_capacity(alloc, OUTPUT_BYTES, output) else {
+        sign.leave(rt, stream);
         return unserved();
     };
-    let input = Yielding::new(&permit, Timed::new(is_late, Steady::new(stream)));
+    let timed = Timed::new(is_late, Steady::new(stream));
+    let input = Yielding::new(&permit, UntilStopped::new(sign, was_stopped, timed));
     let mut reader = StdSource::new(input);
     let mut writer = StdSink::new(buffered);
     let gate = Counting::new(&permit);
     let summary = serve_session(rt, alloc, desk, pass, &mut reader, &mut writer, &gate);
     permit.rest();
+    sign.leave(rt, stream);
     if let Err(SessionEnd::Journal) = summary.ended {
         sign.close(listener);
     }

@@ -1,9 +1,9 @@
 //! Where sessions come in.
-ghost use Rattle.std.specs.Prelude.{◌≡◌, ◌+◌, ◌<◌, Some, None, IsSome, IfOk, IfSome, IfNone};
+ghost use Rattle.std.specs.Prelude.{◌≡◌, ◌+◌, ◌<◌, Some, None, false, IsSome, IfOk, IfSome, IfNone};
 ghost use Rattle.server_core.specs.Door.{IsOpen};
 
 use crate::accepting::{accept, close};
-use crate::fault::ServeFault;
+use crate::fault::{ServeFault, Shut};
 use crate::sign::Sign;
 use std::marker::Model;
 use std::net::{SocketAddr, TcpListener, TcpStream};
@@ -19,15 +19,21 @@ pub struct Guest {
     pub number: u64,
 }
 
-/// How many sessions were taken, how many are wanted, and the fault for which no more is taken, if
-/// there is one. For each session that is taken it adds one to the token of the worker who serves it:
-/// so the tokens of all workers have as many as were taken. Contracts see the two numbers and the
-/// fault.
+/// How many sessions were taken, and whether no further one was as the server was to stop.
+#[derive(Clone, Copy, Debug, PartialEq, Eq)]
+pub struct Taken {
+    pub sessions: u64,
+    pub stopped: bool,
+}
+
+/// How many sessions were taken, how many are wanted, and why no more is taken, if there is a reason.
+/// For each session that is taken it adds one to the token of the worker who serves it: so the tokens
+/// of all workers have as many as were taken. Contracts see the two numbers and the reason.
 #[derive(Drop)]
 pub struct Door<L: Ledger> {
     taken: u64,
     wanted: u64,
-    fault: Option<ServeFault>,
+    shut: Option<Shut>,
     tokens: Book<L>,
 }
 
@@ -37,7 +43,7 @@ impl<L: Ledger> Model for Door<L> {
 
     ghost Value = { Intake };
 
-    ghost view = { λ d. record { taken = d.taken; wanted = d.wanted; fault = d.fault } };
+    ghost view = { λ d. record { taken = d.taken; wanted = d.wanted; shut = d.shut } };
 
     ghost invariant = { λ d. d.taken ≡ d.tokens.total };
 }
@@ -46,42 +52,55 @@ impl<L: Ledger> Door<L> {
     /// So many sessions are wanted, and none was taken: all tokens together have nothing.
     pub fn new(wanted: u64, tokens: Book<L>) -> Door<L>
         requires { tokens.total ≡ 0 }
-        ensures { result ≡ record { taken = 0; wanted = wanted; fault = None } }
+        ensures { result ≡ record { taken = 0; wanted = wanted; shut = None } }
     {
         Door {
             taken: 0,
             wanted,
-            fault: None,
+            shut: None,
             tokens,
         }
     }
 
     /// No further session is taken, for this fault.
     pub fn shut(&mut self, fault: ServeFault)
-        ensures { self.new ≡ record self.old { fault = Some fault } }
+        ensures { self.new ≡ record self.old { shut = Some (Shut.Fault fault) } }
     {
-        self.fault = Some(fault);
+        self.shut = Some(Shut::Fault(fault));
     }
 
-    /// The number of sessions, where so many were taken as were asked for: just as many as all tokens
-    /// have. Else why not: the fault for which it was shut, or `Accept`.
-    pub fn served(self, asked: u64, all: Share<L>) -> Result<u64, ServeFault>
+    /// No further session is taken, as the server is to stop. One that was shut for a fault stays so.
+    pub fn stop(&mut self)
+        ensures open { self.old.shut ≡ None
+            → self.new ≡ record self.old { shut = Some Shut.Stopped } }
+        ensures shut { IsSome self.old.shut → self.new ≡ self.old }
+    {
+        if self.shut.is_none() {
+            self.shut = Some(Shut::Stopped);
+        }
+    }
+
+    /// The number of sessions that were taken: just as many as all tokens have, and as were asked
+    /// for, unless the server was to stop. Else why there are fewer: the fault for which it was shut,
+    /// or `Accept`.
+    pub fn served(self, asked: u64, all: Share<L>) -> Result<Taken, ServeFault>
         requires { all.parts ≡ L.parts }
-        ensures asked { IfOk result (λ served. served ≡ asked) }
-        ensures tokens { IfOk result (λ served. served ≡ all.amount) }
+        ensures asked { IfOk result (λ t. t.stopped ≡ false → t.sessions ≡ asked) }
+        ensures tokens { IfOk result (λ t. t.sessions ≡ all.amount) }
     {
         let Door {
             taken,
             wanted: _,
-            fault,
+            shut,
             mut tokens,
         } = self;
         let mut all = all;
         tokens.audit(&mut all);
-        match fault {
-            Some(fault) => Err(fault),
-            None if taken == asked => Ok(taken),
-            None => Err(ServeFault::Accept),
+        let (sessions, stopped) = (taken, shut == Some(Shut::Stopped));
+        match shut {
+            Some(Shut::Fault(fault)) => Err(fault),
+            None if taken != asked => Err(ServeFault::Accept),
+            _ => Ok(Taken { sessions, stopped }),
         }
     }
 
@@ -118,11 +137,13 @@ impl<L: Ledger> Door<L> {
         ensures nobody { IfNone result (token.new.amount ≡ token.old.amount) }
         ensures parts { token.new.parts ≡ token.old.parts }
     {
-        if self.fault.is_some() || self.taken >= self.wanted || sign.is_closed() {
+        if self.shut.is_some() || self.taken >= self.wanted || sign.is_closed() {
             return None;
         }
         let Some((stream, peer)) = accept(rt, listener) else {
-            self.shut(ServeFault::Accept);
+            if !sign.is_closed() {
+                self.shut(ServeFault::Accept);
+            }
             return None;
         };
         if sign.is_closed() {

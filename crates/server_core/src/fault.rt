@@ -13,6 +13,15 @@ pub enum ServeFault {
     NoMemory,
 }
 
+/// Why no further session is taken.
+#[derive(Clone, Copy, Debug, PartialEq, Eq)]
+pub enum Shut {
+    /// Somebody said that the server is to stop.
+    Stopped,
+    /// The server can take none.
+    Fault(ServeFault),
+}
+
 impl From<NoMemory> for ServeFault {
     fn from(_refused: NoMemory) -> ServeFault {
         ServeFault::NoMemory

@@ -16,7 +16,7 @@
 //! let worker = work(&rt, alloc, &desk, worker, &listener, &door, &sign, &permits, None, &log);
 //! let (pass, token) = worker.into_parts();
 //! rest.merge(token);
-//! door.into_inner().served(100, rest)?;                          // 100
+//! door.into_inner().served(100, rest)?.sessions                  // 100
 //! ```
 //!
 //! # Mechanism
@@ -26,6 +26,11 @@
 //! socket for each worker. A server keeps the lock until all threads have started: where one can't
 //! be started, no session is taken. An accept that fails is made again after 50 milliseconds; only
 //! where the listener itself is gone no further session is taken.
+//!
+//! A server that is to end is told so by a [`Control`], which [`watch`] asks while workers serve. The
+//! listener is then shut down, and so is each session's connection for reading: it answers the lines
+//! that it was sent by then, and the front of a line that was not sent whole is nothing. A second word,
+//! or the end of the grace, shuts the connections for writing too.
 //!
 //! The door adds one to the token of the worker whom it admits a session, and has counted as many in
 //! its book; once all parts of the token are back, both are compared, by proof.
@@ -57,6 +62,7 @@
 
 mod accepting;
 mod attending;
+mod control;
 mod door;
 mod fault;
 mod keepalive;
@@ -67,10 +73,12 @@ mod permits;
 mod sign;
 mod telling;
 mod timed;
+mod until_stopped;
 mod worker;
 
-pub use door::{Door, Guest};
-pub use fault::ServeFault;
+pub use control::{Control, Order, watch};
+pub use door::{Door, Guest, Taken};
+pub use fault::{ServeFault, Shut};
 pub use log::{Log, SharedLog};
 pub use manners::Manners;
 pub use permits::Permits;

@@ -89,18 +89,31 @@ pub fn work<K: Keeper + Drop, L: Ledger, R: Wait + Clock, G: Log>(
             break;
         };
         log.begun(rt, &guest);
-        let is_late = Cell::new(false);
+        let (is_late, was_stopped) = (Cell::new(false), Cell::new(false));
         let stream = &guest.stream;
         let summary = attend(
-            rt, alloc, desk, &mut pass, stream, listener, sign, permits, idle, &is_late,
+            rt,
+            alloc,
+            desk,
+            &mut pass,
+            stream,
+            listener,
+            sign,
+            permits,
+            idle,
+            &is_late,
+            &was_stopped,
         );
         if let Err(end) = summary.ended {
-            log.fault(rt, &guest, end, is_late.get());
+            if !was_stopped.get() {
+                log.fault(rt, &guest, end, is_late.get());
+            }
             if let SessionEnd::Journal = end {
                 door.lock(rt).shut(ServeFault::Journal);
             }
         }
         log.ended(rt, &guest, &summary);
     }
+    sign.go();
     Worker { pass, token }
 }

@@ -69,6 +69,11 @@ pub if_ok_with : {X Y : Type 0} (A : Type 0) (P Q : X → Type 0) (r : Result X 
 if_ok_with A P Q (Ok x) a p f = f x a p
 if_ok_with A P Q (Err y) a p f = tt
 
+-- two things that it tells of it, together
+pub if_ok_both : {X Y : Type 0} (P Q : X → Type 0) (r : Result X Y) → IfOk r P → IfOk r Q → IfOk r (λ x. P x × Q x)
+if_ok_both P Q (Ok x) p q = (p, q)
+if_ok_both P Q (Err y) p q = tt
+
 -- so many passes of a new desk
 pub passes_count : {K : Type 0} (journal : List Entry) (desk : DeskLock K) (first count : ℕ) → length (passes_from journal desk first count) ≡ count
 passes_count journal desk first zero = refl

@@ -2,13 +2,14 @@
 //!
 //! [`serve_on`] hands the passes of a desk to threads, which take sessions from one listener, and
 //! gives back the core and the keeper that they leave. **The one contract** is its clauses: so many
-//! sessions were served as were asked for; what is left came of these sessions alone, from the core
+//! sessions were served as were asked for, unless it was told to stop; what is left came of these sessions alone, from the core
 //! that was handed in; and the keeper, unless it has failed, kept each change since then, in order and
 //! each once, from the state in which it was handed in.
 //!
 //! ```text
-//! let served = serve_on(&rt, alloc, &listener, 4, 100, system, keeper, manners, &mut err)?;
-//! served.sessions                                                        // 100
+//! let served =
+//!     serve_on(&rt, alloc, &listener, 4, 100, system, keeper, manners, &mut err, &control)?;
+//! served.taken.sessions                                                  // 100
 //! ```
 //!
 //! So a file goes on: what the keeper wrote as lines behind a file that loads what the server began

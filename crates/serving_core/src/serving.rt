@@ -11,7 +11,7 @@ use crate::dealing::{gathered, workers_of};
 use crate::threads::serve_all;
 use desk_core::{Desk, Pass};
 use journal_core::Keeper;
-use server_core::{Door, Log, Manners, Permits, ServeFault, SharedLog, Sign};
+use server_core::{Control, Door, Log, Manners, Permits, ServeFault, SharedLog, Sign, Taken};
 use std::alloc::Global;
 use std::io::Write;
 use std::marker::Brand;
@@ -36,7 +36,7 @@ fn processors<R: Threads>(rt: &R) -> usize {
 
 /// Serves so many sessions of the listener through these passes, of which the last is the
 /// checkpointer's, and gives their number and the passes.
-fn serve_through<K, L, R, G>(
+fn serve_through<K, L, R, G, C>(
     rt: &R,
     alloc: Global,
     blank: Blank,
@@ -48,19 +48,21 @@ fn serve_through<K, L, R, G>(
     sessions: u64,
     idle: Option<Duration>,
     log: &G,
-) -> Result<(u64, Vec<Pass<K>>), ServeFault>
+    control: &C,
+) -> Result<(Taken, Vec<Pass<K>>), ServeFault>
 where
     K: Keeper + Drop + Send,
     L: Ledger + Send + Sync,
     R: Threads + Wait + Clock + Sync,
     G: Log + Sync,
+    C: Control,
     requires name { blank.name ≡ L.name }
     requires parts { (blank.parts ≡ L.parts) × (L.parts ≡ workers + 1) }
     requires new { All (IsNew begun.now.value.journal desk.now) passes.items }
     requires passes { length passes.items ≡ workers + 1 }
-    ensures count { IfOk result (λ b. b.0 ≡ sessions) }
+    ensures count { IfOk result (λ b. b.0.stopped ≡ false → b.0.sessions ≡ sessions) }
     ensures servers { IfOk result
-        (λ b. AreServers begun.now.value.journal desk.now b.0 b.1.items) }
+        (λ b. AreServers begun.now.value.journal desk.now b.0.sessions b.1.items) }
 {
     let mut passes = passes;
     let Some(own) = passes.pop() else {
@@ -68,24 +70,27 @@ where
     };
     let (book, mut rest) = blank.open::<L>();
     let door = Mutex::new(Door::new(sessions, book));
-    let (sign, stop) = (Sign::new(), AtomicBool::new(false));
+    let sign = Sign::new(alloc, workers)?;
+    let stop = AtomicBool::new(false);
     let permits = Permits::new(processors(rt));
     let dealt = workers_of(alloc, desk, begun, passes, &mut rest)?;
     let (back, own) = serve_all(
-        rt, alloc, desk, begun, dealt, own, listener, &door, &sign, &permits, idle, log, &stop,
+        rt, alloc, desk, begun, dealt, own, listener, &door, &sign, &permits, idle, log, control,
+        &stop,
     )?;
     if back.len() != workers {
         return Err(ServeFault::NoMemory);
     }
     let (passes, all) = gathered(alloc, desk, begun, back, own, rest)?;
-    let served = door.into_inner().served(sessions, all)?;
-    Ok((served, passes))
+    let taken = door.into_inner().served(sessions, all)?;
+    Ok((taken, passes))
 }
 
-/// What a server leaves: how many sessions it served, the core, and the keeper of its changes.
+/// What a server leaves: how many sessions it served, and whether it was stopped; the core, and the
+/// keeper of its changes.
 #[derive(Drop)]
 pub struct Served<K> {
-    pub sessions: u64,
+    pub taken: Taken,
     pub system: System,
     pub keeper: K,
 }
@@ -95,18 +100,18 @@ pub struct Served<K> {
 fn close<K: Keeper + Drop>(
     desk: Desk<K>,
     passes: Vec<Pass<K>>,
-    sessions: u64,
+    taken: Taken,
 ) -> Result<Served<K>, ServeFault>
     requires { All (IsOf desk) passes.items }
     ensures all { OnOk result (AreAll desk passes.items) }
-    ensures count { IfOk result (λ served. served.sessions ≡ sessions) }
+    ensures count { IfOk result (λ served. served.taken ≡ taken) }
     ensures ended { IfOk result (λ served. Ended desk passes.items served.system) }
     ensures kept { IfOk result (λ served. HasKept K.Keeper (origin_of desk)
         served.system.journal served.keeper) }
 {
     match desk.close(passes) {
         Ok((system, keeper)) => Ok(Served {
-            sessions,
+            taken,
             system,
             keeper,
         }),
@@ -118,7 +123,7 @@ fn close<K: Keeper + Drop>(
 }
 
 /// As [`serve_on`], with a blank token of one part for each thread.
-fn serve_sessions<K, L, R, G>(
+fn serve_sessions<K, L, R, G, C>(
     rt: &R,
     alloc: Global,
     blank: Blank,
@@ -129,28 +134,32 @@ fn serve_sessions<K, L, R, G>(
     keeper: K,
     idle: Option<Duration>,
     log: &G,
+    control: &C,
 ) -> Result<Served<K>, ServeFault>
 where
     K: Keeper + Drop + Send,
     L: Ledger + Send + Sync,
     R: Threads + Wait + Clock + Sync,
     G: Log + Sync,
+    C: Control,
     requires name { blank.name ≡ L.name }
     requires parts { (blank.parts ≡ L.parts) × (L.parts ≡ workers + 1) }
     requires workers { (0 < workers) × (workers ≤ 16) }
     requires ready { IsReady system }
     requires works { K.failed keeper ≡ false }
-    ensures count { IfOk result (λ served. served.sessions ≡ sessions) }
-    ensures leaves { IfOk result (λ served. Leaves workers sessions keeper system served.system) }
+    ensures count { IfOk result
+        (λ served. served.taken.stopped ≡ false → served.taken.sessions ≡ sessions) }
+    ensures leaves { IfOk result
+        (λ served. Leaves workers served.taken.sessions keeper system served.system) }
     ensures kept { IfOk result (λ served. HasKept K.Keeper (origin_at system keeper)
         served.system.journal served.keeper) }
 {
     let begun = Snapshot::of(&system);
     let (desk, passes) = Desk::build(alloc, system, keeper, workers + 1)?;
-    match serve_through::<K, L, R, G>(
-        rt, alloc, blank, &desk, &begun, passes, workers, listener, sessions, idle, log,
+    match serve_through::<K, L, R, G, C>(
+        rt, alloc, blank, &desk, &begun, passes, workers, listener, sessions, idle, log, control,
     ) {
-        Ok((served, passes)) => close(desk, passes, served),
+        Ok((taken, passes)) => close(desk, passes, taken),
         Err(fault) => {
             // The process ends soon, and its memory goes back as a whole.
             forget(desk);
@@ -164,6 +173,8 @@ where
 /// begin with this core, and the keeper keeps each change before its reply is written. Behind the
 /// last session that is wanted the listener is closed, so that further clients are refused. Then it
 /// closes the desk, and answers the number of sessions, and the core and the keeper that they left.
+/// Where the control says that it is to stop, it takes no further session, those that run answer the
+/// lines that they were sent, and it ends likewise.
 ///
 /// Each session that ends with a fault is told on `err`, as `session fault: read`, or `write`,
 /// `bound`, `journal`, `no memory`. By the manners a session whose client sends nothing for so long
@@ -179,7 +190,7 @@ where
 /// is closed at once, no further session is taken, and those that run end at their next statement.
 /// `NoMemory` where a request for memory was refused or a thread could not be started, before the
 /// first session or behind the last.
-pub fn serve_on<K, R, W>(
+pub fn serve_on<K, R, W, C>(
     rt: &R,
     alloc: Global,
     listener: &TcpListener,
@@ -189,16 +200,20 @@ pub fn serve_on<K, R, W>(
     keeper: K,
     manners: Manners,
     err: &mut W,
+    control: &C,
 ) -> Result<Served<K>, ServeFault>
 where
     K: Keeper + Drop + Send,
     R: Threads + Wait + Clock + Sync,
     W: Write + Send,
+    C: Control,
     requires workers { (0 < workers) × (workers ≤ 16) }
     requires ready { IsReady system }
     requires works { K.failed keeper ≡ false }
-    ensures count { IfOk result (λ served. served.sessions ≡ sessions) }
-    ensures leaves { IfOk result (λ served. Leaves workers sessions keeper system served.system) }
+    ensures count { IfOk result
+        (λ served. served.taken.stopped ≡ false → served.taken.sessions ≡ sessions) }
+    ensures leaves { IfOk result
+        (λ served. Leaves workers served.taken.sessions keeper system served.system) }
     ensures kept { IfOk result (λ served. HasKept K.Keeper (origin_at system keeper)
         served.system.journal served.keeper) }
 {
@@ -208,7 +223,7 @@ where
         sessions: manners.log,
     };
     let blank = Blank::new(workers as u64 + 1);
-    serve_sessions::<K, Brand, R, SharedLog<'_, W>>(
+    serve_sessions::<K, Brand, R, SharedLog<'_, W>, C>(
         rt,
         alloc,
         blank,
@@ -219,5 +234,6 @@ where
         keeper,
         manners.idle,
         &log,
+        control,
     )
 }

@@ -6,7 +6,7 @@ ghost use Rattle.server_core.specs.Sessions.{IsNew, IsNewWorker, IsWorkers, IsCh
 use base_core::NoGate;
 use desk_core::{Desk, Pass};
 use journal_core::Keeper;
-use server_core::{Door, Log, Permits, ServeFault, Sign, Worker, work};
+use server_core::{Control, Door, Log, Permits, ServeFault, Sign, Worker, watch, work};
 use session_core::checkpointer;
 use std::alloc::Global;
 use std::net::TcpListener;
@@ -118,7 +118,7 @@ fn join_all<'a, K: Keeper + Drop, L: Ledger, R: Threads>(
 
 /// Runs all threads to their end, and gives the workers back, and the checkpointer's pass. Where one
 /// could not be started, a worker is missing, and the door is shut.
-pub fn serve_all<K, L, R, G>(
+pub fn serve_all<K, L, R, G, C>(
     rt: &R,
     alloc: Global,
     desk: &Desk<K>,
@@ -131,6 +131,7 @@ pub fn serve_all<K, L, R, G>(
     permits: &Permits,
     idle: Option<Duration>,
     log: &G,
+    control: &C,
     stop: &AtomicBool,
 ) -> Result<(Vec<Worker<K, L>>, Pass<K>), ServeFault>
 where
@@ -138,6 +139,7 @@ where
     L: Ledger + Send + Sync,
     R: Threads + Wait + Clock + Sync,
     G: Log + Sync,
+    C: Control,
     requires workers { All (IsNewWorker begun.now.value.journal desk.now) workers.items }
     requires own { IsNew begun.now.value.journal desk.now own }
     ensures workers { IfOk result
@@ -191,6 +193,7 @@ where
                 }
             }
             drop(closed);
+            watch(rt, listener, door, sign, threads.len() as u64, control);
             let back = join_all(rt, desk, begun, threads);
             stop.store(true, Ordering::SeqCst);
             let last = checks.join(rt);

@@ -1,7 +1,7 @@
 //! `sysr run` answers the lines of standard input on standard output, and `sysr serve` those of
 //! sessions over TCP. `sysr journal` writes the accepted changes of standard input as lines, and
 //! `sysr dump` lines that make what it leaves. `sysr explain` says why somebody holds a right that
-//! these lines make, or how he lost it.
+//! these lines make, or how he lost it. `sysr stop` tells a server to stop.
 //!
 //! Each line of `run` is `user: statement`, and what was read is answered before more is read. What
 //! `journal`, `dump` and `explain` read is a journal, or with `--script` what `run` reads. The exit
@@ -30,7 +30,7 @@ ghost use Rattle.command_core.specs.Ranges.{IsInRange};
 
 use command_core::{CommandLine, Reading, options, refuse};
 use lines_core::{NO_MEMORY, give_up};
-use program_core::{dump, explained, journal, run, serve};
+use program_core::{dump, explained, journal, run, serve, stop};
 use run_core::{fill_closed_streams, input, output};
 use std::mem::forget;
 use std::process::ExitCode;
@@ -65,7 +65,11 @@ where
             journal(host, &mut input(host), &mut output(host)?, reading)
         }
         CommandLine::Dump { load, reading } => dumped(host, load, reading),
-        CommandLine::Serve(asked) => Ok(serve(host, rt, asked)?.into_status()),
+        CommandLine::Serve(asked) => {
+            let (ended, _) = serve(host, rt, asked)?;
+            Ok(ended.into_status())
+        }
+        CommandLine::Stop { control } => Ok(stop(host, control)),
         CommandLine::Explain(asked) => explained(host, asked),
     }
 }
