@@ -7,7 +7,7 @@ use Rattle.base_core.specs.declared.limits.Limits.{Limits}
 use Rattle.printer_core.specs.Printing.{journal_line}
 use Rattle.grants_core.proofs.OwnersLemmas.{AllByRecursion-append}
 use Rattle.lines_core.specs.Serving.{Traffic}
-use Rattle.lines_core.specs.Lines.{IsWhole}
+use Rattle.lines_core.specs.Lines.{IsWhole, whole_lines}
 use Rattle.lines_core.specs.declared.line.TheConstants.{LONGEST_LINE}
 use Rattle.system_core.specs.World.{World, opening, AreSound}
 use Rattle.system_core.specs.declared.machine.event.Entry.{Entry}
@@ -19,7 +19,8 @@ use Rattle.script_core.specs.Keeping.{EndsKept}
 use Rattle.script_core.proofs.KeptLemmas.{journal-kept}
 use Rattle.load_core.specs.Kept.{CanBeLoaded}
 use Rattle.load_core.specs.declared.fault.LoadFault.{LoadFault}
-use Rattle.load_core.specs.Loading.{Loads, lines_unmarked, without_pass, EndsLoad}
+use Rattle.load_core.specs.declared.loading.Loaded.{Loaded}
+use Rattle.load_core.specs.Loading.{Loads, lines_unmarked, without_pass, EndsLoadWhole}
 use Rattle.load_core.proofs.Said.{WasSaid, Said, ends-said, no_pass, were_read, speaker_named}
 use Rattle.load_core.proofs.Text.{lines_are}
 use Rattle.load_core.proofs.Written.{loads, lines_unmarked_is}
@@ -64,8 +65,8 @@ loaded_passes limits before after (line ∷ ls) (e, says, more) p = loaded_passe
     appended [] h = (says.says.pass, tt)
     appended (x ∷ xs) h = (h.0, appended xs h.1)
 
-pub ends_passes : (chunk : ℕ) (limits : Limits) (result : Result World LoadFault) (left left' : Option (List ℕ)) → EndsLoad chunk limits result left left' → IfOk result (λ w. All (λ e. e.pass ≡ 0) w.journal)
-ends_passes chunk limits (Ok new) left left' h = All-from_recursion (λ (e : Entry). e.pass ≡ 0) new.journal (loaded_passes limits [] new.journal (lines_unmarked (lines h.0)) h.4 tt)
+pub ends_passes : (chunk : ℕ) (limits : Limits) (result : Result Loaded LoadFault) (left left' : Option (List ℕ)) → EndsLoadWhole chunk limits result left left' → IfOk result (λ loaded. All (λ e. e.pass ≡ 0) loaded.system.journal)
+ends_passes chunk limits (Ok loaded) left left' h = All-from_recursion (λ (e : Entry). e.pass ≡ 0) loaded.system.journal (loaded_passes limits [] loaded.system.journal (lines_unmarked (whole_lines h.0)) h.4 tt)
 ends_passes chunk limits (Err fault) left left' h = tt
 
 -- what is loaded was said by a line
@@ -75,6 +76,6 @@ loaded_said limits before after (line ∷ ls) (e, says, more) said =
     let read : WasRead e = record { line = drop says.says.asks.start line; spelled = says.says.asks.spelled; name = speaker_named LONGEST_LINE line e.user says.says.asks.start says.says.asks.speaker } in
     loaded_said limits (before ++ e ∷ []) after ls more (AllByRecursion-append WasSaid before (e ∷ []) said ((read, says.says.pass), tt))
 
-pub ends_read : (chunk : ℕ) (limits : Limits) (result : Result World LoadFault) (left left' : Option (List ℕ)) → EndsLoad chunk limits result left left' → IfOk result (λ w. AllByRecursion WasRead w.journal)
-ends_read chunk limits (Ok new) left left' h = were_read new.journal (loaded_said limits [] new.journal (lines_unmarked (lines h.0)) h.4 tt)
+pub ends_read : (chunk : ℕ) (limits : Limits) (result : Result Loaded LoadFault) (left left' : Option (List ℕ)) → EndsLoadWhole chunk limits result left left' → IfOk result (λ loaded. AllByRecursion WasRead loaded.system.journal)
+ends_read chunk limits (Ok loaded) left left' h = were_read loaded.system.journal (loaded_said limits [] loaded.system.journal (lines_unmarked (whole_lines h.0)) h.4 tt)
 ends_read chunk limits (Err fault) left left' h = tt

@@ -2,6 +2,7 @@ pub mod Loading
 pub mod Replaying
 pub mod Replayer
 pub mod Loader
+pub mod Whole
 pub mod FaultTexts
 pub mod Kept
 pub mod Ready

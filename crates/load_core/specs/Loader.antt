@@ -1,11 +1,9 @@
 -- A loader: how it goes on by a line, and what it gives in the end.
 use Rattle.std.specs.Prelude.{◌≡◌, ℕ, ◌+◌, ◌<◌, Bool, true, List, [], ◌∷◌, length, Option, Some, None, Result, Ok, Err, refl}
 use Rattle.std.specs.Option.{is_some}
-use Rattle.std.proofs.Common.{arith, sym, subst}
+use Rattle.std.proofs.Common.{arith, sym, subst, Vec, Global}
 use Rattle.std.proofs.lemmas.Bool.Decides.{nat_tests}
 use Rattle.lines_core.specs.declared.line.TheConstants.{LONGEST_LINE}
-use Rattle.lines_core.specs.declared.serving.Ending.{Ending}
-use Rattle.lines_core.specs.declared.serving.Ending.TheVariants as endings
 use Rattle.lines_core.specs.declared.serving.SessionFault.{SessionFault}
 use Rattle.lines_core.specs.declared.serving.SessionFault.TheVariants as sessions
 use Rattle.monitor_core.specs.Verdict.{is_change}
@@ -15,6 +13,7 @@ use Rattle.system_core.specs.declared.machine.event.Entry.{Entry}
 use Rattle.script_core.specs.TooLong.{asks-too_long, addressed-too_long, fault-too_long}
 use Rattle.load_core.specs.declared.fault.Undone.{Undone}
 use Rattle.load_core.specs.declared.fault.Undone.TheVariants as reasons
+use Rattle.load_core.specs.declared.loading.Loaded.{Loaded}
 use Rattle.load_core.specs.declared.fault.LoadFault.{LoadFault}
 use Rattle.load_core.specs.declared.fault.LoadFault.TheVariants as faults
 use Rattle.load_core.specs.Loading.{SaysEntry, SaysChange, IsUndone, IsUndoneEntry, unmarked}
@@ -67,21 +66,11 @@ IsToldOf sessions.Bound fault = fault ≡ faults.Bound
 IsToldOf sessions.NoMemory fault = fault ≡ faults.NoMemory
 IsToldOf sessions.Write fault = ⊥
 
--- what a loader has come to: the core, or the line at which it stopped
-abbrev pub outcome_of : World → Option Undone → Result World LoadFault
-outcome_of w None = Ok w
-outcome_of w (Some why) = Err (faults.Line (length w.journal + 1) why)
-
--- the number, from 1, of the line that a loader came to last
-abbrev pub number_of : World → Option Undone → ℕ
-number_of w None = length w.journal
-number_of w (Some why) = length w.journal + 1
-
--- what the loading gives that ended so: a last line that was cut off is told, whatever it said
-abbrev pub outcome_at : Ending → World → Option Undone → Result World LoadFault
-outcome_at endings.CutOff w stop = Err (faults.CutOff (number_of w stop))
-outcome_at endings.Whole w stop = outcome_of w stop
-outcome_at endings.Over w stop = outcome_of w stop
+-- what a loader has come to: the core, beside the front of a line that was cut off; or the line at which
+-- it stopped
+abbrev pub loaded_of : World → Option Undone → Option (Vec ℕ Global) → Result Loaded LoadFault
+loaded_of w None cut = Ok (record { system = w; cut = cut })
+loaded_of w (Some why) cut = Err (faults.Line (length w.journal + 1) why)
 
 -- ---- lines that are too long are answered alike
 pub unmarked-too_long : (line : List ℕ) → LONGEST_LINE < length line → unmarked line ≡ line

@@ -1,24 +1,24 @@
 -- What the lines of a file load: a journal, of which each line says a change that is allowed at the
 -- journal before it.
-use Rattle.std.specs.Prelude.{◌≡◌, ◌+◌, ◌^◌, ℕ, Bool, true, false, ◌&&◌, nat_le, nat_eq, List, [], ◌∷◌, ◌++◌, length, drop, if◌then◌else◌, Option, Result, Ok, Err}
+use Rattle.std.specs.Prelude.{◌≡◌, ◌+◌, ◌^◌, ℕ, true, false, ◌&&◌, nat_le, nat_eq, List, [], ◌∷◌, ◌++◌, length, take, drop, if◌then◌else◌, Option, None, Some, Result, Ok, Err}
+use Rattle.std.proofs.Common.{Vec, Global}
 use Rattle.std.specs.List.{starts_with}
 use Rattle.std.specs.Str.Lines.{lines}
 use Rattle.std.specs.Io.KnownBytes.{Consumes, Keeps, IsAtEnd}
 use Rattle.base_core.specs.declared.limits.Limits.{Limits}
 use Rattle.monitor_core.specs.Verdict.{is_change}
 use Rattle.lines_core.specs.Lines.{whole_lines, IsWhole, IsCutOff}
-use Rattle.lines_core.specs.declared.line.TheConstants.{LONGEST_LINE}
+use Rattle.lines_core.specs.declared.line.TheConstants.{KEPT_BYTES, LONGEST_LINE}
 use Rattle.system_core.specs.Journal.{verdict_at}
 use Rattle.system_core.specs.World.{World, opening}
 use Rattle.system_core.specs.Replies.{is_done}
 use Rattle.system_core.specs.Step.{Step}
 use Rattle.system_core.specs.declared.machine.event.Entry.{Entry}
 use Rattle.system_core.specs.declared.machine.event.Event.TheVariants as events
-use Rattle.system_core.specs.declared.machine.event.Reply.{Reply}
-use Rattle.system_core.specs.declared.machine.event.Reply.TheVariants as replies
 use Rattle.script_core.specs.Addressed.{Asks, IsFaulty, IsAddressed}
 use Rattle.load_core.specs.declared.fault.Undone.{Undone}
 use Rattle.load_core.specs.declared.fault.Undone.TheVariants as reasons
+use Rattle.load_core.specs.declared.loading.Loaded.{Loaded}
 use Rattle.load_core.specs.declared.fault.LoadFault.{LoadFault}
 use Rattle.load_core.specs.declared.fault.LoadFault.TheVariants as faults
 
@@ -104,6 +104,35 @@ pub record CutsOff (limits : Limits) (bytes : List ℕ) (number : ℕ) : Type 0 
   pub cut_off : IsCutOff bytes
   pub number_is : number ≡ length (whole_lines bytes) + 1
   pub loads : Loads limits [] (lines_unmarked (whole_lines bytes)) journal
+
+-- what stands behind the lines whose line feed has come: nothing, or a line that was cut off, of which
+-- the front is kept
+abbrev pub IsCutOf : List ℕ → Option (Vec ℕ Global) → Type 0
+IsCutOf bytes None = IsWhole bytes × (lines bytes ≡ whole_lines bytes)
+IsCutOf bytes (Some front) = (cut : IsCutOff bytes) × (front.items ≡ take KEPT_BYTES cut.last)
+
+-- How the loading of the whole lines ends that a reader has left, of a core with these limits. Ok: all
+-- of it was read, and its whole lines load the journal of the world, which has nothing else; a last line
+-- that has no line feed is kept apart, whatever it says, as it may be the front of another.
+abbrev pub EndsLoadWhole : ℕ → Limits → Result Loaded LoadFault → (left left' : Option (List ℕ))
+    → Type 0
+EndsLoadWhole chunk limits (Ok loaded) left left' =
+    (bytes : List ℕ)
+    × Consumes left left' bytes
+    × IsAtEnd left'
+    × IsCutOf bytes loaded.cut
+    × Loads limits [] (lines_unmarked (whole_lines bytes)) loaded.system.journal
+    × (loaded.system ≡ world_with chunk limits loaded.system.journal)
+EndsLoadWhole chunk limits (Err (faults.Line number why)) left left' =
+    (bytes : List ℕ)
+    × Consumes left left' bytes
+    × StopsAt chunk limits (lines_unmarked (whole_lines bytes)) number why
+EndsLoadWhole chunk limits (Err (faults.CutOff number)) left left' = ⊥
+EndsLoadWhole chunk limits (Err faults.Read) left left' =
+    (bytes : List ℕ) × Consumes left left' bytes
+EndsLoadWhole chunk limits (Err faults.Bound) left left' =
+    (bytes : List ℕ) × Consumes left left' bytes × (length bytes ≡ 2 ^ 32)
+EndsLoadWhole chunk limits (Err faults.NoMemory) left left' = Keeps left left'
 
 -- How the loading of what a reader has left ends, of a core with these limits. Ok: all of it was read, it is empty or ends with a
 -- line feed, and its lines load the journal of the world, which has nothing else. A last line that has

@@ -2,11 +2,10 @@
 use Rattle.std.specs.Prelude.{◌≡◌, ◌⊎◌, ℕ, ◌+◌, ◌<◌, ◌^◌, ◌==◌, Bool, true, false, if◌then◌else◌, List, [], ◌∷◌, ◌++◌, length, Option, Some, None, Result, Ok, Err, refl}
 use Rattle.std.specs.Option.{is_some}
 use Rattle.std.proofs.Common.{arith, sym, subst, Vec, Global}
-use Rattle.lines_core.specs.Serving.{Ends, EndsWhole, traffic_of}
+use Rattle.lines_core.specs.Serving.{Ends, traffic_of}
 use Rattle.lines_core.specs.declared.line.TheConstants.{LONGEST_LINE}
 use Rattle.lines_core.specs.declared.serving.SessionFault.{SessionFault}
 use Rattle.lines_core.specs.declared.serving.SessionFault.TheVariants as sessions
-use Rattle.lines_core.specs.declared.serving.WholeEnding.TheVariants as whole_endings
 use Rattle.system_core.specs.World.{World, with_entry}
 use Rattle.system_core.specs.declared.machine.event.Entry.{Entry}
 use Rattle.load_core.specs.declared.fault.Undone.{Undone}
@@ -21,6 +20,7 @@ use Rattle.load_core.specs.declared.replayed.ReplayFault.{ReplayFault}
 use Rattle.load_core.specs.declared.replayed.ReplayFault.TheVariants as faults
 use Rattle.load_core.specs.Loading.{unmarked, IsUndone}
 use Rattle.load_core.specs.Loader.{says-too_long, undone-too_long, unmarked-too_long}
+use Rattle.load_core.specs.Whole.{ReadsWhole}
 use Rattle.load_core.specs.Replaying.{longest, ends_reading, says_no_change, EntersChange, LeavesOut, PassesOver, no_change, behind, StopsReading, DroppedLine, ReplayedState}
 
 -- what a replayer has come to: the world, the numbers of the lines that made a change, how many lines
@@ -120,16 +120,8 @@ has_ended p = is_some p.stop
 abbrev pub ReadsLines : Form → Result (Option (Vec ℕ Global)) SessionFault
     → ReplayerState → ReplayerState
     → Option (List ℕ) → Option (List ℕ) → Type 0
-ReadsLines forms.Journal (Ok None) old new left left' =
-    EndsWhole ReplaysLine has_ended (Ok whole_endings.Whole) old new
-    (traffic_of left left' None None)
-    ⊎ EndsWhole ReplaysLine has_ended (Ok whole_endings.Over) old new
-    (traffic_of left left' None None)
-ReadsLines forms.Journal (Ok (Some front)) old new left left' =
-    EndsWhole ReplaysLine has_ended (Ok (whole_endings.CutOff front)) old new
-    (traffic_of left left' None None)
-ReadsLines forms.Journal (Err fault) old new left left' =
-    EndsWhole ReplaysLine has_ended (Err fault) old new (traffic_of left left' None None)
+ReadsLines forms.Journal result old new left left' =
+    ReadsWhole ReplaysLine has_ended result old new left left'
 ReadsLines forms.Script (Ok None) old new left left' =
     Ends ReplaysLine has_ended (Ok tt) old new (traffic_of left left' None None)
 ReadsLines forms.Script (Ok (Some front)) old new left left' = ⊥

@@ -4,8 +4,6 @@
 use Rattle.std.specs.Prelude.{◌≡◌, ◌⊎◌, ◌+◌, ◌^◌, ◌<◌, ◌≤◌, ℕ, Bool, true, false, not, ◌&&◌, ◌||◌, nat_le, List, [], ◌∷◌, ◌++◌, length, take, Option, Some, None, Result, Ok, Err}
 use Rattle.std.specs.Str.Lines.{lines}
 use Rattle.std.specs.Io.KnownBytes.{Consumes, Keeps, IsAtEnd}
-use Rattle.base_core.specs.declared.lack.Lack.{Lack}
-use Rattle.base_core.specs.declared.lack.Lack.TheVariants as lacks
 use Rattle.lexer_core.specs.declared.fault.Code.TheVariants as codes_of
 use Rattle.lexer_core.specs.declared.lexer.TheConstants.{MAX_LINE}
 use Rattle.lines_core.specs.Lines.{whole_lines, IsWhole, IsCutOff}
@@ -13,8 +11,6 @@ use Rattle.lines_core.specs.declared.line.TheConstants.{KEPT_BYTES, LONGEST_LINE
 use Rattle.system_core.specs.World.{World, with_entry}
 use Rattle.system_core.specs.Replies.{is_refused_memory}
 use Rattle.system_core.specs.declared.machine.event.Entry.{Entry}
-use Rattle.system_core.specs.declared.machine.event.Reply.{Reply}
-use Rattle.system_core.specs.declared.machine.event.Reply.TheVariants as replies
 use Rattle.load_core.specs.declared.fault.Undone.{Undone}
 use Rattle.load_core.specs.declared.fault.Undone.TheVariants as reasons
 use Rattle.load_core.specs.declared.manner.Form.{Form}

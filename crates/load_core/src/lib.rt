@@ -61,6 +61,7 @@ mod replayed;
 mod replayer;
 mod replaying;
 mod silence;
+mod whole;
 
 pub use fault::{LoadFault, Undone};
 pub use fault_text::load_fault_text;
@@ -69,7 +70,7 @@ pub use laws::{
     nothing_allowed_is_left_out, script_is_kept,
 };
 pub use loader::enter_line;
-pub use loading::{load, load_or_text};
+pub use loading::{Loaded, load, load_or_text, load_whole, load_whole_or_text};
 pub use manner::{CutLine, Form, Manner};
 pub use replay_text::{dropped_text, left_out_text, replay_fault_text};
 pub use replayed::{CutFront, LeftOut, ReplayFault, Replayed};

@@ -1,12 +1,13 @@
 //! A core that enters the changes which lines say.
 ghost use Rattle.std.specs.Prelude.{◌≡◌, ◌<◌, ◌+◌, ◌^◌, length, None, Some};
 ghost use Rattle.load_core.specs.Loading.{unmarked};
-ghost use Rattle.load_core.specs.Loader.{line_at, EntersEntry, EntersUpTo, outcome_of, number_of, outcome_at};
+ghost use Rattle.load_core.specs.Loader.{line_at, EntersEntry, EntersUpTo, loaded_of};
 
 use crate::fault::{LoadFault, Undone};
+use crate::loading::Loaded;
 use base_core::{Broken, NoMemory, Sink};
 use lexer_core::{ReadFault, Token};
-use lines_core::{Ending, LONGEST_LINE, LineServer};
+use lines_core::{LONGEST_LINE, LineServer};
 use monitor_core::is_change;
 use script_core::read_addressed;
 use std::alloc::Global;
@@ -49,46 +50,20 @@ impl Loader {
         }
     }
 
-    /// The core, or the line at which the loader stopped.
-    fn outcome(self) -> Result<System, LoadFault>
+    /// The core, beside the front of a line that was cut off; or the line at which the loader stopped.
+    pub fn finish(self, cut: Option<Vec<u8>>) -> Result<Loaded, LoadFault>
         requires { length self.world.journal + 1 < 2 ^ 64 }
-        ensures { result ≡ outcome_of self.world self.stop }
+        ensures { result ≡ loaded_of self.world self.stop cut }
     {
         let Loader { system, stop, .. } = self;
         match stop {
-            None => Ok(system),
+            None => Ok(Loaded { system, cut }),
             Some(why) => {
                 let number = system.moment().0 + 1;
                 system.free();
+                drop(cut);
                 Err(LoadFault::Line { number, why })
             }
-        }
-    }
-
-    /// The fault of an input whose last line has no line feed, be it entered or not.
-    fn cut_off(self) -> LoadFault
-        requires { length self.world.journal + 1 < 2 ^ 64 }
-        ensures { result ≡ LoadFault.CutOff (number_of self.world self.stop) }
-    {
-        let Loader { system, stop, .. } = self;
-        let entered = system.moment().0;
-        system.free();
-        let number = match stop {
-            None => entered,
-            Some(_) => entered + 1,
-        };
-        drop(stop);
-        LoadFault::CutOff { number }
-    }
-
-    /// What the loading gives that ended so.
-    pub fn finish(self, ending: Ending) -> Result<System, LoadFault>
-        requires { length self.world.journal + 1 < 2 ^ 64 }
-        ensures { result ≡ outcome_at ending self.world self.stop }
-    {
-        match ending {
-            Ending::CutOff => Err(self.cut_off()),
-            Ending::Whole | Ending::Over => self.outcome(),
         }
     }
 

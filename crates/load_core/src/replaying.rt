@@ -9,8 +9,9 @@ use crate::manner::{Form, Manner};
 use crate::replayed::{ReplayFault, Replayed};
 use crate::replayer::Replayer;
 use crate::silence::Silence;
+use crate::whole::read_whole;
 use base_core::Source;
-use lines_core::{SessionFault, WholeEnding, serve, serve_whole};
+use lines_core::{SessionFault, serve};
 use std::alloc::Global;
 use system_core::System;
 
@@ -24,25 +25,6 @@ fn reading_fault(fault: SessionFault) -> ReplayFault
         SessionFault::Bound => ReplayFault::Bound,
         SessionFault::NoMemory => ReplayFault::NoMemory,
         SessionFault::Write => unreachable!(),
-    }
-}
-
-/// Reads a journal's lines, and gives the front of the last line, if it was cut off.
-fn read_journal<S: Source>(
-    alloc: Global,
-    replayer: &mut Replayer,
-    reader: &mut S,
-) -> Result<Option<Vec<u8>>, SessionFault>
-    requires { S.failed reader.old ≡ false }
-    ensures read { IsErrOf result SessionFault.Read ↔ (S.failed reader.new ≡ true) }
-    ensures write { result ≡ Err SessionFault.Write → ⊥ }
-    ensures ends { ReadsLines Form.Journal result replayer.old replayer.new
-        (S.left reader.old) (S.left reader.new) }
-{
-    match serve_whole(alloc, replayer, reader, &mut Silence) {
-        Ok(WholeEnding::CutOff(front)) => Ok(Some(front)),
-        Ok(WholeEnding::Whole | WholeEnding::Over) => Ok(None),
-        Err(fault) => Err(fault),
     }
 }
 
@@ -78,7 +60,7 @@ fn read_lines<S: Source>(
         (S.left reader.old) (S.left reader.new) }
 {
     match form {
-        Form::Journal => read_journal(alloc, replayer, reader),
+        Form::Journal => read_whole(alloc, replayer, reader),
         Form::Script => read_script(alloc, replayer, reader),
     }
 }

@@ -6,7 +6,8 @@
 //! status too: that of a fault, which it has told on standard error.
 //!
 //! A file that is written to is held against other programs, before it is read where it is gone on
-//! with, and no two words of a command line may name one file (`files.rt`, `naming.rt`).
+//! with, and no two words of a command line may name one file (`files.rt`, `naming.rt`). A last line
+//! that was cut off is taken off a journal that is gone on with (`mending.rt`).
 //!
 //! The one contract: what the crates below promise of readers and writers is promised of these
 //! commands, each joined with its streams as the words say. Where `journal` and `dump` end without a
@@ -30,6 +31,7 @@ mod files;
 mod keeping;
 mod listening;
 mod loading;
+mod mending;
 mod naming;
 mod recording;
 mod replaying;

@@ -7,10 +7,11 @@ ghost use Rattle.journal_core.specs.Text.{WasRead};
 ghost use Rattle.load_core.specs.Ready.{IsReady};
 
 use crate::files::{JournalSink, give_up_on, journal_file, journal_gone_on, reader_of};
+use crate::mending::mend;
 use crate::naming::Named;
 use base_core::{Limits, NoMemory};
 use lines_core::{NO_MEMORY, SessionFault, fault_text, give_up};
-use load_core::load_or_text;
+use load_core::{Loaded, load_or_text, load_whole_or_text};
 use std::mem::forget;
 use std::process::ExitCode;
 use system_core::System;
@@ -58,6 +59,57 @@ pub fn loaded_or_empty(
     loaded(rt, path, chunk, limits)
 }
 
+/// As [`loaded`], of the file's whole lines: a last line that was cut off is taken off the file, which is
+/// told.
+fn loaded_and_mended(
+    rt: &HostRuntime,
+    path: &str,
+    chunk: usize,
+    limits: Limits,
+) -> Result<System, ExitCode>
+    requires some { 0 < chunk }
+    requires small { chunk ≤ 64 }
+    ensures ready { IfOk result IsReady }
+    ensures asked { IfOk result (λ s. (s.chunk ≡ chunk) × (s.limits ≡ limits)) }
+{
+    let mut reader = reader_of(rt, path)?;
+    match load_whole_or_text(rt.alloc(), &mut reader, chunk, limits) {
+        Ok(loaded) => mended(rt, path, loaded),
+        Err(Ok(text)) => Err(give_up_on(rt, path, text.as_slice())),
+        Err(Err(NoMemory)) => Err(give_up(rt, NO_MEMORY)),
+    }
+}
+
+/// The core that was loaded, where what was cut off could be taken off the file.
+fn mended(rt: &HostRuntime, path: &str, loaded: Loaded) -> Result<System, ExitCode>
+    ensures { IfOk result (λ system. system ≡ loaded.system) }
+{
+    let Loaded { system, cut } = loaded;
+    let Some(cut) = cut else {
+        return Ok(system);
+    };
+    match mend(rt, path, cut.as_slice()) {
+        Ok(()) => Ok(system),
+        Err(status) => {
+            // The process ends here, and its memory goes back as a whole.
+            forget(system);
+            Err(status)
+        }
+    }
+}
+
+/// The core, once it was said how many changes a file said. The error is the status, where that could
+/// not be said.
+fn told(rt: &HostRuntime, system: System) -> Result<System, ExitCode>
+    ensures { IfOk result (λ told. told ≡ system) }
+{
+    if println!(rt; "loaded {} changes", system.moment().0).is_err() {
+        forget(system);
+        return Err(give_up(rt, fault_text(SessionFault::Write)));
+    }
+    Ok(system)
+}
+
 /// As [`loaded_or_empty`], after it was said how many changes the file says. The error is the status,
 /// also where that could not be said.
 fn loaded_and_told(
@@ -73,11 +125,11 @@ fn loaded_and_told(
     ensures empty { load.entry ≡ None → IfOk result (λ system. system.journal ≡ []) }
 {
     let system = loaded_or_empty(rt, load, chunk, limits)?;
-    if load.is_some() && println!(rt; "loaded {} changes", system.moment().0).is_err() {
-        forget(system);
-        return Err(give_up(rt, fault_text(SessionFault::Write)));
+    if load.is_some() {
+        told(rt, system)
+    } else {
+        Ok(system)
     }
-    Ok(system)
 }
 
 /// What a program begins with: a core, and a journal that its changes are kept in, if there is one.
@@ -99,7 +151,8 @@ fn journal_of(rt: &HostRuntime, path: Option<&str>) -> Result<Option<JournalSink
 }
 
 /// What a program begins with where the file that is loaded is gone on with: it is held before it is
-/// read, so that no other program writes to it behind what was read.
+/// read, so that no other program writes to it behind what was read. A last line that was cut off is
+/// taken off it.
 fn going_on(
     rt: &HostRuntime,
     path: &str,
@@ -115,7 +168,7 @@ fn going_on(
     ensures works { IfOk result (λ begun. IfSome begun.journal (λ sink. sink.failed ≡ false)) }
 {
     let sink = journal_gone_on(rt, path)?;
-    let system = loaded_and_told(rt, Some(path), chunk, limits)?;
+    let system = told(rt, loaded_and_mended(rt, path, chunk, limits)?)?;
     Ok(Start {
         system,
         journal: Some(sink),

@@ -1,21 +1,10 @@
-use Rattle.std.proofs.Common.{◌∙◌}
-use Rattle.load_core.proofs.Again.{ends_passes, ends_read}
-use Rattle.load_core.proofs.Ending.{ends_so, number_is_small}
+use Rattle.std.proofs.Common.{◌≡◌, ◌+◌, Some, length, rules}
+use Rattle.load_core.proofs.Ending.{cut_off}
 use Rattle.load_core.proofs.loading.load.Goals as goal
 
-pub finish-requires : goal.finish-requires
-finish-requires g c =
-    number_is_small c.args.chunk c.args.limits _ _ _ _ c.in-Ok-serve_told.ending c.new-loader.result c.serve_told.new.server (c.new-loader.ensures.world ∙ c.in-Ok.ensures) c.new-loader.ensures.stop c.in-Ok-serve_told.ensures.ends
-
-pub returns-in-Ok-serve_told-clause-ends : goal.returns-in-Ok-serve_told-clause-ends
-returns-in-Ok-serve_told-clause-ends g c =
-    let ends = ends_so c.args.chunk c.args.limits (g.S.Source.left c.args.reader.now) (g.S.Source.left c.serve_told.new.reader) _ _ c.in-Ok-serve_told.ending c.new-loader.result c.serve_told.new.server (c.new-loader.ensures.world ∙ c.in-Ok.ensures) c.new-loader.ensures.stop c.in-Ok-serve_told.ensures.ends in
-    rw c.finish.ensures ends
-
-pub returns-in-Ok-serve_told-clause-passes : goal.returns-in-Ok-serve_told-clause-passes
-returns-in-Ok-serve_told-clause-passes g c =
-    ends_passes c.args.chunk c.args.limits c.finish.result (g.S.Source.left c.args.reader.now) (g.S.Source.left c.serve_told.new.reader) (returns-in-Ok-serve_told-clause-ends g c)
-
-pub returns-in-Ok-serve_told-clause-entries : goal.returns-in-Ok-serve_told-clause-entries
-returns-in-Ok-serve_told-clause-entries g c =
-    ends_read c.args.chunk c.args.limits c.finish.result (g.S.Source.left c.args.reader.now) (g.S.Source.left c.serve_told.new.reader) (returns-in-Ok-serve_told-clause-ends g c)
+pub returns-in-Some-clause-ends : goal.returns-in-Some-clause-ends
+returns-in-Some-clause-ends g c =
+    let loaded = c.in_ok-system.field-0 in
+    let is : loaded.cut ≡ Some c.in-Some.front = search rules in
+    let count : c.moment-number.result.0 + 1 ≡ length loaded.system.journal + 1 = search rules in
+    cut_off c.args.chunk c.args.limits (g.S.Source.left c.args.reader.now) (g.S.Source.left c.load_whole.new.reader) loaded c.in-Some.front (c.moment-number.result.0 + 1) is count c.in_ok-system.ensures.ends
