@@ -1,5 +1,6 @@
 """What stands in packaging: the program takes the words of the unit and of the container file, is killed and goes on with
-its journal; journals are mended, on a full disk too; and what a container gets is all that the program needs."""
+its journal, and is stopped; journals that are cut off are mended, on a full disk too; and what a container gets is all
+that the program needs."""
 import contextlib
 import json
 import os
@@ -12,7 +13,6 @@ from served import WAIT, Server, Session, in_time
 ROOT = os.path.dirname(os.path.dirname(os.path.abspath(__file__)))
 PACKAGING = os.path.join(ROOT, "packaging")
 UNIT = os.path.join(PACKAGING, "sysr.service")
-MEND = os.path.join(PACKAGING, "mend-journal")
 
 
 def unit():
@@ -48,14 +48,14 @@ def goes_on(program, check, name, words):
     check(f"{name}: serve", words[0] == "serve", words)
     more = without(without(without(words[1:], "--port"), "--workers"), "--control") + ["--control", "control"]
     with tempfile.TemporaryDirectory() as folder:
-        mended(folder)
+        # (the unit touches it, and the image has it)
+        open(os.path.join(folder, "sysr.journal"), "a").close()
         server = Server(program, None, workers=16, more=more, cwd=folder)
         first = [server.listening, server.child.stdout.readline()]
         ann = Session(server, "ann")
         told = [ann.ask(line) for line in ("CREATE TABLE pay (name TEXT)", "INSERT INTO pay VALUES ('Bo')")]
         server.child.kill()
         server.end()
-        mended(folder)
         server = Server(program, None, workers=16, more=more, cwd=folder)
         second = [server.listening, server.child.stdout.readline()]
         ann = Session(server, "ann")
@@ -69,36 +69,65 @@ def goes_on(program, check, name, words):
     check(f"{name}: goes on", told == ["done @1\n", "done @2\n", "rows 1 @2\n", "row,Bo\n"], told)
 
 
-def mended(folder):
-    return subprocess.run([MEND, "sysr.journal"], cwd=folder, capture_output=True, text=True, timeout=WAIT)
+def mended(program, path, given=b""):
+    """The program goes on with the journal: its status, output and error."""
+    words = [program, "run", "--load", "sysr.journal", "--journal", "sysr.journal"]
+    done = subprocess.run(words, input=given, cwd=os.path.dirname(path), capture_output=True, timeout=WAIT)
+    return done.returncode, done.stdout, done.stderr.decode()
 
 
 def mending(program, check):
-    """Only a line without a line feed is taken away, and kept; all lines before it load."""
+    """Only a line without a line feed is taken away, and put by; all lines before it load. A journal that is only read
+    stays as it is, and so does one that has more than a line behind its last line feed."""
     line = b"ann: CREATE TABLE t (x INTEGER)\n"
+    longest = b"ann: " + 4123 * b"x"
     for given, whole, cut in (
-        (None, b"", None),
         (b"", b"", None),
         (line, line, None),
         (line + b"ann: INS", line, b"ann: INS"),
+        (line + line[:-1], line, line[:-1]),
         (b"ann", b"", b"ann"),
         (line + b"\x00\x00", line, b"\x00\x00"),
+        (line + longest, line, longest),
     ):
         with tempfile.TemporaryDirectory() as folder:
             path = os.path.join(folder, "sysr.journal")
-            if given is not None:
-                with open(path, "wb") as file:
-                    file.write(given)
-            done = mended(folder)
-            seen = [content(path), content(path + ".cut")]
-            check(f"mended: {given}", seen == [whole, cut] and done.returncode == 0, (seen, done))
+            with open(path, "wb") as file:
+                file.write(given)
+            if cut is not None:
+                words = [program, "run", "--load", path]
+                done = subprocess.run(words, stdin=subprocess.DEVNULL, capture_output=True, timeout=WAIT)
+                check(f"only read: {given[:60]}", (done.returncode, content(path)) == (1, given), done)
+            seen = mended(program, path)
             told = "" if cut is None else (
-                f"sysr.journal: its last line was cut off; {len(cut)} bytes were moved to sysr.journal.cut\n")
-            check(f"mended, and told: {given}", done.stderr == told and done.stdout == "", done)
-            words = [program, "run", "--load", path]
-            loaded = subprocess.run(words, stdin=subprocess.DEVNULL, capture_output=True, timeout=WAIT)
-            wanted = b"loaded %d changes\n" % whole.count(b"\n")
-            check(f"mended, and loaded: {given}", loaded.stdout == wanted, loaded)
+                f"sysr: sysr.journal: its last line was cut off; {len(cut)} bytes were moved to sysr.journal.cut\n")
+            wanted = 0, b"loaded %d changes\n" % whole.count(b"\n"), told
+            check(f"mended: {given[:60]}", seen == wanted, seen)
+            left = content(path), content(path + ".cut")
+            check(f"mended, and left: {given[:60]}", left == (whole, cut), left)
+            seen = mended(program, path, b"ann: CREATE TABLE u (x INTEGER)\n")
+            moment = whole.count(b"\n")
+            wanted = 0, b"loaded %d changes\ndone @%d\n" % (moment, moment + 1), ""
+            check(f"mended, and gone on: {given[:60]}", seen == wanted, seen)
+
+
+def mended_twice(program, check):
+    """What is put by stands behind what was put by before; and what is no line is not taken away."""
+    line = b"ann: CREATE TABLE t (x INTEGER)\n"
+    with tempfile.TemporaryDirectory() as folder:
+        path = os.path.join(folder, "sysr.journal")
+        for cut in (b"ann: A", b"ann: B"):
+            with open(path, "wb") as file:
+                file.write(line + cut)
+            mended(program, path)
+        check("put by twice", content(path + ".cut") == b"ann: Aann: B", content(path + ".cut"))
+        given = line + b"ann: " + 4124 * b"x"
+        with open(path, "wb") as file:
+            file.write(given)
+        seen = mended(program, path)
+        told = "sysr: sysr.journal: its last line has no line feed, and is too long for one\n"
+        check("no line that was cut off", seen == (1, b"", told), seen)
+        check("it stays", content(path) == given, len(content(path)))
 
 
 @contextlib.contextmanager
@@ -129,24 +158,19 @@ def mending_a_full_disk(program, check):
     journal."""
     with small_disk(64 << 10) as folder:
         if folder is None:
-            print("no disk could be mounted: mend-journal on a full disk was not tried")
+            print("no disk could be mounted: a journal was not mended on a full one")
             return
-        path, line = os.path.join(folder, "sysr.journal"), b"ann: CREATE TABLE t (x TEXT)\n"
+        path, line, cut = os.path.join(folder, "sysr.journal"), b"ann: CREATE TABLE t (x TEXT)\n", b"ann: INSERT INTO"
         with open(path, "wb") as file:
-            file.write(line + b"ann: INSERT INTO t VALUES ('")
-        cut = fill(path) - len(line)
-        check("a full disk", cut > 50_000, cut)
-        done = mended(folder)
-        told = (f"sysr.journal: its last line was cut off; {cut} bytes were taken away, and could not all be copied to "
-            "sysr.journal.cut\n")
-        check("mended on a full disk, and told", (done.returncode, done.stdout, done.stderr) == (0, "", told), done)
+            file.write(line + cut)
+        filled = os.path.join(folder, "filled")
+        check("a full disk", fill(filled) > 40_000, content(filled)[:10])
+        seen = mended(program, path)
+        told = f"sysr: sysr.journal: its last line was cut off; {len(cut)} bytes were taken away\n"
+        check("mended on a full disk, and told", seen == (0, b"loaded 1 changes\n", told), seen)
         check("mended on a full disk", content(path) == line, content(path)[:100])
-        again = mended(folder)
-        check("mended twice", (again.returncode, again.stdout, again.stderr) == (0, "", ""), again)
-        words = [program, "run", "--load", path, "--journal", path]
-        goes_on = subprocess.run(words, input=b"ann: INSERT INTO t VALUES ('a')\n", capture_output=True, timeout=WAIT)
-        seen = goes_on.returncode, goes_on.stdout, goes_on.stderr
-        check("it goes on", seen == (0, b"loaded 1 changes\ndone @2\n", b""), seen)
+        seen = mended(program, path, b"ann: INSERT INTO t VALUES ('a')\n")
+        check("it goes on", seen == (0, b"loaded 1 changes\ndone @2\n", ""), seen)
 
 
 def content(path):
@@ -164,8 +188,7 @@ def verified(program, check):
     with tempfile.TemporaryDirectory() as folder:
         path = os.path.join(folder, "sysr.service")
         with open(UNIT) as file, open(path, "w") as made:
-            text = file.read().replace("/usr/local/bin/sysr", program)
-            made.write(text.replace("/usr/local/lib/sysr/mend-journal", MEND))
+            made.write(file.read().replace("/usr/local/bin/sysr", program))
         done = subprocess.run(["systemd-analyze", "verify", path], capture_output=True, text=True, timeout=WAIT)
     told = [line for line in (done.stdout + done.stderr).splitlines() if "sysr" in line]
     check("the unit is verified", told == [], told)
@@ -189,5 +212,5 @@ def container(program, check):
 def played(program, check):
     for name, words in (("the unit", words_of_unit()), ("the container", words_of_container())):
         in_time(name, check, lambda: goes_on(program, check, name, words))
-    for test in (mending, mending_a_full_disk, verified, container):
+    for test in (mending, mended_twice, mending_a_full_disk, verified, container):
         in_time(test.__name__, check, lambda: test(program, check))
