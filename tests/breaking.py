@@ -49,7 +49,8 @@ static ssize_t moved(const char *kind, size_t size) {
 int accept4(int socket, struct sockaddr *address, socklen_t *length, int flags) {
     int (*real)(int, struct sockaddr *, socklen_t *, int) = dlsym(RTLD_NEXT, "accept4");
     int taken = real(socket, address, length, flags);
-    accepted++, made = 0;
+    if (taken >= 0)
+        accepted++, made = 0;
     return taken;
 }
 

@@ -1,12 +1,13 @@
-"""How `sysr serve` ends by itself: behind a journal fault, and when the last session that was asked for has been taken."""
+"""What ends `sysr serve`, and what does not: the last session that was asked for, and a full disk."""
 import errno
 import os
 import select
 import socket
 import subprocess
+import tempfile
 import time
 
-from served import Server, Session, in_time
+from served import WAIT, Server, Session, in_time
 
 CREATED = "CREATE TABLE t (x INTEGER)"
 # A server that has to end does so within this time, on a machine that has much to do.
@@ -22,94 +23,30 @@ def ends_soon(server):
     return server.end()
 
 
-def at_the_door(server):
-    """What a further client comes to: it is refused, ended or welcomed, or hears nothing for a while."""
-    try:
-        with socket.create_connection(("127.0.0.1", server.port), timeout=0.3) as client:
-            client.sendall(b"USER eve\n")
-            return "welcomed" if client.recv(100) else "ended"
-    except ConnectionError:
-        return "refused"
-    except TimeoutError:
-        return "not heard"
-
-
-def faulty(program, workers, sessions=9, more=()):
-    """A server whose journal is a full disk, and a session that has met it."""
-    server = Server(program, sessions, workers=workers, more=["--journal", "/dev/full", *more])
-    return server, Session(server, "ann")
-
-
-def has_ended(check, name, server, faults):
-    """It has ended with status 1, and told these faults, and that of the journal last."""
-    seen = ends_soon(server)
-    check(name, seen == (1, b"", [*faults, "sysr: journal fault"]), seen)
-
-
-def idle_workers(program, check):
-    """Behind a journal fault a server ends by itself, though workers wait for clients, and no further client comes."""
+def full_disk(program, check):
+    """A change that the journal's disk has no room for ends its session, and no other: what is no change is answered, and
+    so is a change that is denied; no further change is entered. It is told at the end."""
     if not os.path.exists("/dev/full"):
         return
-    for workers in (1, 2, 4, 16):
-        server, ann = faulty(program, workers)
-        said = ann.ask(CREATED)
-        check(f"a change that cannot be kept, {workers} workers", said == "", said)
-        has_ended(check, f"it ends, {workers} workers", server, ["session fault: journal"])
-        seen = at_the_door(server)
-        check(f"nobody is taken, {workers} workers", seen == "refused", seen)
-        ann.reset()
-
-
-def sessions_that_run(program, check):
-    """Sessions that run end at their next statement, or when they leave, and the program with the last of them. Nobody
-    else is welcomed meanwhile."""
-    if not os.path.exists("/dev/full"):
-        return
-    for name, leave in (("says something", lambda bob: bob.ask("CHECKPOINTS")), ("leaves", Session.end)):
-        server, ann = faulty(program, 4)
-        bob = Session(server, "bob")
-        said = [bob.ask("CHECKPOINTS"), ann.ask(CREATED)]
-        check(f"beside one that {name}", said == ["checkpoints 0 @0\n", ""], said)
-        seen = [at_the_door(server) for _ in range(3)]
-        check(f"nobody is welcomed before one {name}", "welcomed" not in seen, seen)
-        check(f"it goes on until one {name}", server.child.poll() is None, server.child.poll())
-        said = leave(bob)
-        check(f"the one who {name} hears nothing", said == "", said)
-        told = 2 if name == "says something" else 1
-        has_ended(check, f"it ends when one {name}", server, told * ["session fault: journal"])
-        ann.reset()
-
-
-def waits_for_a_worker(program, check):
-    """A client who waits for a worker when the journal fails is not welcomed."""
-    if not os.path.exists("/dev/full"):
-        return
-    server, ann = faulty(program, 1)
-    with server.connect() as waiting:
-        waiting.sendall(b"USER eve\nCHECKPOINTS\n")
-        said = ann.ask(CREATED)
-        check("the fault before one who waits", said == "", said)
-        waiting.settimeout(SOON)
-        try:
-            seen = waiting.recv(100)
-        except ConnectionError:
-            seen = b""
-        check("the one who waits is not welcomed", seen == b"", seen)
-    has_ended(check, "it ends before one who waits", server, ["session fault: journal"])
-    ann.reset()
-
-
-def idle_sessions(program, check):
-    """A session that says nothing more ends as `--idle` says, and the program with it."""
-    if not os.path.exists("/dev/full"):
-        return
-    server, ann = faulty(program, 4, more=["--idle", "1"])
-    bob = Session(server, "bob")
-    said = ann.ask(CREATED)
-    check("beside one who says nothing", said == "", said)
-    has_ended(check, "it ends with one who says nothing", server, ["session fault: journal", "session fault: read"])
-    for session in (ann, bob):
-        session.reset()
+    for workers in (1, 2, 16):
+        with tempfile.TemporaryDirectory() as folder:
+            control = os.path.join(folder, "control")
+            server = Server(program, None, workers=workers, more=["--journal", "/dev/full", "--control", control])
+            ann = Session(server, "ann")
+            said = [ann.ask(CREATED)]
+            bob = Session(server, "bob")
+            said += [bob.ask(line) for line in ("CHECKPOINTS", "SELECT * FROM t", "CREATE TABLE u (x INTEGER)")]
+            eve = Session(server, "eve")
+            said += [eve.ask(line) for line in ("CHECKPOINTS", CREATED, "CHECKPOINT")]
+            wanted = ["", "checkpoints 0 @1\n", "denied @1: bob lacks SELECT(x) on t\n", "", "checkpoints 0 @1\n",
+                "denied @1: table t exists\n", "checkpoint 1 begun @1\n"]
+            check(f"a full disk, {workers} workers", said == wanted, said)
+            subprocess.run([program, "stop", "--control", control], timeout=WAIT)
+            seen = ends_soon(server)
+        told = 2 * ["session fault: journal"] + ["sysr: journal fault"]
+        check(f"stopped with a full disk, {workers} workers", seen == (1, b"served 3\n", told), seen)
+        for session in (ann, bob, eve):
+            session.reset()
 
 
 def refused_within(server, seconds):
@@ -169,8 +106,7 @@ def no_last_session(program, check):
     check("it serves on", server.child.poll() is None, server.child.poll())
 
 
-TESTS = (idle_workers, sessions_that_run, waits_for_a_worker, idle_sessions, last_session, waits_for_the_last,
-    no_last_session)
+TESTS = (full_disk, last_session, waits_for_the_last, no_last_session)
 
 
 def played(program, check):

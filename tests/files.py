@@ -13,7 +13,7 @@ from served import WAIT, Server, Session, free_port, in_time
 
 CREATED, INSERTED = "o: CREATE TABLE t (x INTEGER)", "o: INSERT INTO t VALUES (1)"
 LINES = [CREATED, INSERTED]
-LOADED = re.compile(r"loaded \d+ changes\n")
+LOADED = re.compile(r"loaded \d+ changes\n(read \d+ bytes in \d+ ms\n)?")
 # What is told of a file that another program holds, and of one that two words name.
 IN_USE = "sysr: {path}: in use by another sysr\n"
 ONE_FILE = "error: {first} and {second} name one file: {path}\n"
@@ -74,7 +74,7 @@ class Files:
     def serving(self, *words):
         """A server that begins with a file, what it said of that, and that it listens."""
         server = Server(self.program, None, more=list(words), cwd=self.folder)
-        return server, [server.listening, server.child.stdout.readline()]
+        return server, server.told_first()
 
 
 def to_serve(*words):

@@ -134,7 +134,7 @@ def steps_of_a_server(played):
     for words, chunk in (([], 16), (["--chunk", "61"], 61)):
         server = Server(played.program, 1, more=["--load", played.path, *words])
         loaded = f"loaded {len(long.lines)} changes\n".encode()
-        said = [server.listening, server.child.stdout.readline()]
+        said = server.told_first()
         played.check(f"a server, chunk {chunk}: loaded", said == [loaded, f"listening on {server.port}\n".encode()], said)
         session, listed = Session(server, "o"), []
         for _ in range(10):

@@ -46,26 +46,26 @@ def without(words, option):
 def goes_on(program, check, name, words):
     """A server of these words, but at a free port, is killed. The next one has what was told, and is stopped."""
     check(f"{name}: serve", words[0] == "serve", words)
-    more = without(without(without(words[1:], "--port"), "--workers"), "--control") + ["--control", "control"]
+    more = [word.removeprefix("%t/sysr/") for word in without(without(words[1:], "--port"), "--workers")]
     with tempfile.TemporaryDirectory() as folder:
         # (the unit touches it, and the image has it)
         open(os.path.join(folder, "sysr.journal"), "a").close()
         server = Server(program, None, workers=16, more=more, cwd=folder)
-        first = [server.listening, server.child.stdout.readline()]
+        first = server.told_first()
         ann = Session(server, "ann")
         told = [ann.ask(line) for line in ("CREATE TABLE pay (name TEXT)", "INSERT INTO pay VALUES ('Bo')")]
         server.child.kill()
         server.end()
         server = Server(program, None, workers=16, more=more, cwd=folder)
-        second = [server.listening, server.child.stdout.readline()]
+        second = server.told_first()
         ann = Session(server, "ann")
         told += [ann.ask("SELECT * FROM pay"), ann.line()]
         stopped = subprocess.run([program, "stop", "--control", "control"], cwd=folder, capture_output=True,
             timeout=WAIT)
-        ended = server.end()[:2]
+        status, said, _ = server.end()
     check(f"{name}: loaded", [first[0], second[0]] == [b"loaded 0 changes\n", b"loaded 2 changes\n"], (first, second))
-    seen = stopped.returncode, stopped.stdout, ended
-    check(f"{name}: stopped", seen == (0, b"", (0, b"served 1\n")), seen)
+    seen = stopped.returncode, stopped.stdout, status, said.splitlines()[-1:]
+    check(f"{name}: stopped", seen == (0, b"", 0, [b"served 1"]), seen)
     check(f"{name}: goes on", told == ["done @1\n", "done @2\n", "rows 1 @2\n", "row,Bo\n"], told)
 
 
@@ -180,20 +180,6 @@ def content(path):
         return file.read()
 
 
-def verified(program, check):
-    """systemd reads the unit, with the programs where they are here, and finds nothing to say of it."""
-    if shutil.which("systemd-analyze") is None:
-        print("no systemd-analyze: the unit was not verified")
-        return
-    with tempfile.TemporaryDirectory() as folder:
-        path = os.path.join(folder, "sysr.service")
-        with open(UNIT) as file, open(path, "w") as made:
-            made.write(file.read().replace("/usr/local/bin/sysr", program))
-        done = subprocess.run(["systemd-analyze", "verify", path], capture_output=True, text=True, timeout=WAIT)
-    told = [line for line in (done.stdout + done.stderr).splitlines() if "sysr" in line]
-    check("the unit is verified", told == [], told)
-
-
 def container(program, check):
     """In a root with nothing but what the container gets, the program starts."""
     if shutil.which("ldd") is None or os.geteuid() != 0:
@@ -212,5 +198,5 @@ def container(program, check):
 def played(program, check):
     for name, words in (("the unit", words_of_unit()), ("the container", words_of_container())):
         in_time(name, check, lambda: goes_on(program, check, name, words))
-    for test in (mending, mended_twice, mending_a_full_disk, verified, container):
+    for test in (mending, mended_twice, mending_a_full_disk, container):
         in_time(test.__name__, check, lambda: test(program, check))

@@ -301,9 +301,9 @@ def served(records):
         created, "INSERT INTO t VALUES (1)", "DELETE FROM t", granted)])
     records.is_written("the dump of a server", dump, ["ann: " + created, "ann: GRANT SELECT (x) ON t TO bob"])
     server = Server(records.program, 2, more=["--load", path, "--journal", path, "--audit"])
-    records.check("a server that loads says so", server.listening == b"loaded 4 changes\n", server.listening)
-    listening = server.child.stdout.readline()
-    records.check("and listens", listening == f"listening on {server.port}\n".encode(), listening)
+    said = server.told_first()
+    wanted = [b"loaded 4 changes\n", f"listening on {server.port}\n".encode()]
+    records.check("a server that loads says so, and listens", said == wanted, said)
     for user, line, answer in (("bob", "SELECT * FROM t", "rows 0 @4\n"), ("ann", "INSERT INTO t VALUES (2)", "done @5\n")):
         session = Session(server, user)
         said = session.ask(line)
@@ -316,13 +316,15 @@ def served(records):
 
 
 def served_without_room(records):
-    """A change that cannot be kept is not told: the session ends, no other begins, and the program says why."""
+    """A change that cannot be kept is not told, and its session ends; others are answered, and at its end the program says
+    that it was not kept."""
     if not os.path.exists("/dev/full"):
         return
-    server = Server(records.program, 9, more=["--journal", "/dev/full"])
+    server = Server(records.program, 2, more=["--journal", "/dev/full"])
     first, second = Session(server, "ann"), Session(server, "bob")
     seen = [second.ask("CHECKPOINTS"), first.ask("CREATE TABLE t (x INTEGER)"), second.ask("CHECKPOINTS")]
-    records.check("what cannot be kept is not told", seen == ["checkpoints 0 @0\n", "", ""], seen)
+    records.check("what cannot be kept is not told", seen == ["checkpoints 0 @0\n", "", "checkpoints 0 @1\n"], seen)
+    second.end()
     ended = server.end()
     records.check("a server without room ends", ended[0] == 1 and ended[2][-1:] == ["sysr: journal fault"], ended)
 

@@ -16,6 +16,9 @@ def free_port():
         return taken.getsockname()[1]
 
 
+READ = re.compile(rb"read \d+ bytes in \d+ ms\n")
+
+
 class Server:
     """A server for so many sessions, which listens: at a free port, where none is given."""
 
@@ -37,6 +40,15 @@ class Server:
             self.said = self.child.communicate(timeout=WAIT)[1]
             time.sleep(0.1)
         self.running.append(self.child)
+
+    def told_first(self):
+        """What it says of the file that it loads, but for how long that took, and that it listens."""
+        said = [self.listening]
+        while said[-1] and not said[-1].startswith(b"listening"):
+            line = self.child.stdout.readline()
+            if not READ.fullmatch(line):
+                said.append(line)
+        return said
 
     def connect(self):
         return socket.create_connection(("127.0.0.1", self.port), timeout=WAIT)

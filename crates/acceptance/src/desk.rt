@@ -2,7 +2,7 @@
 ghost use Rattle.std.specs.Prelude.{◌≡◌, Some, []};
 
 use base_core::{Name, NoGate, User};
-use desk_core::{Desk, Pass, Unkept};
+use desk_core::{Desk, Pass};
 use journal_core::NoKeeper;
 use reader_core::read;
 use reply_core::reply_text;
@@ -28,15 +28,14 @@ fn ask<R: Wait + Abort>(
 {
     let ann = User(Name::read(b"ann").expect(rt, "a name"));
     let statement = read(alloc, statement.as_bytes()).expect(rt, "a statement");
-    let told = desk.execute(rt, pass, ann, statement);
-    say(rt, alloc, &told, said);
-    drop(told);
-}
-
-fn say(rt: &impl Abort, alloc: Global, told: &Result<Reply, Unkept>, said: &mut Vec<u8>) {
-    let Ok(reply) = told else {
+    let Ok(reply) = desk.execute(rt, pass, ann, statement) else {
         panic!(rt; "a reply is withheld")
     };
+    say(rt, alloc, &reply, said);
+    drop(reply);
+}
+
+fn say(rt: &impl Abort, alloc: Global, reply: &Reply, said: &mut Vec<u8>) {
     let text = reply_text(alloc, reply).expect(rt, "memory");
     said.extend_from_slice(&text).expect(rt, "memory");
 }

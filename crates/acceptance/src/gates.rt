@@ -6,7 +6,7 @@ use base_core::{Gate, Name, NoGate, User};
 use desk_core::{Desk, Pass};
 use journal_core::NoKeeper;
 use reply_core::ReplyBuffer;
-use session_core::{checkpointer, serve_line};
+use session_core::{Witness, checkpointer, serve_line};
 use std::alloc::Global;
 use std::mem::forget;
 use std::process::Abort;
@@ -47,6 +47,8 @@ impl<'a, R: Clock> Held<'a, R> {
     }
 }
 
+impl<'a, R: Clock> Witness for Held<'a, R> {}
+
 impl<'a, R: Clock> Gate for Held<'a, R> {
     fn before_record(&self, given: u64) {
         if self.holds_exports && given == 1 {
@@ -62,7 +64,7 @@ impl<'a, R: Clock> Gate for Held<'a, R> {
 }
 
 /// What is written for ann's line.
-fn say<R: Wait + Abort, G: Gate>(
+fn say<R: Wait + Abort, G: Witness>(
     rt: &R,
     alloc: Global,
     desk: &Desk<NoKeeper>,

@@ -1,31 +1,32 @@
 //! A desk whose changes are kept as lines.
 ghost use Rattle.std.specs.Prelude.{◌≡◌, Some, false};
 
-use base_core::{Broken, Name, Sink, User};
+use base_core::{Broken, Name, Resume, Sink, User};
 use desk_core::{Desk, Pass};
 use journal_core::LineKeeper;
 use reader_core::read;
 use std::alloc::Global;
+use std::cell::Cell;
 use std::mem::forget;
 use std::process::Abort;
 use std::sync::Wait;
 use system_core::System;
 
-/// Bytes of a test as a writer, which fails at some write.
+/// Bytes of a test as a writer, which has room for so many more.
 #[derive(Drop)]
 struct Paper<'a> {
     bytes: &'a mut Vec<u8>,
-    good_writes: usize,
+    room: &'a Cell<usize>,
     failed: bool,
 }
 
 impl<'a> Paper<'a> {
-    fn new(bytes: &'a mut Vec<u8>, good_writes: usize) -> Paper<'a>
+    fn new(bytes: &'a mut Vec<u8>, room: &'a Cell<usize>) -> Paper<'a>
         ensures { result.failed ≡ false }
     {
         Paper {
             bytes,
-            good_writes,
+            room,
             failed: false,
         }
     }
@@ -43,12 +44,14 @@ impl Sink for Paper<'_> {
     ghost flushed = { λ _. true };
 
     fn write(&mut self, bytes: &[u8]) -> Result<usize, Broken> {
-        if self.good_writes == 0 || self.bytes.extend_from_slice(bytes).is_err() {
+        let room = self.room.get();
+        let count = bytes.len().min(room);
+        if count < bytes.len().min(1) || self.bytes.extend_from_slice(&bytes[..count]).is_err() {
             self.failed = true;
             return Err(Broken);
         }
-        self.good_writes -= 1;
-        Ok(bytes.len())
+        self.room.set(room - count);
+        Ok(count)
     }
 
     fn flush(&mut self) -> Result<(), Broken> {
@@ -56,6 +59,12 @@ impl Sink for Paper<'_> {
     }
 
     ghost flushed_hands_on = { λ _ _. refl };
+}
+
+impl Resume for Paper<'_> {
+    fn resume(&mut self) {
+        self.failed = false;
+    }
 }
 
 type Lines<'a> = LineKeeper<Paper<'a>>;
@@ -80,43 +89,42 @@ fn is_answered<'a, R: Wait + Abort>(
     answered
 }
 
-/// Whether each of these is answered: a change by ann, one by bob, and a look by ann.
+/// Whether each of these is answered where the paper has room for 40 bytes: a change by ann, one by
+/// bob that finds no room, a look by ann and one by bob at what he made, and a change by ann; and then,
+/// where there is room again, another.
 fn are_answered<R: Wait + Abort>(
     rt: &R,
     alloc: Global,
     bytes: &mut Vec<u8>,
-    good_writes: usize,
-) -> (bool, bool, bool) {
+) -> (bool, bool, bool, bool, bool, bool) {
+    let room = Cell::new(40);
     let system = System::new(alloc, 16).expect(rt, "memory");
-    let keeper = LineKeeper::new(alloc, Paper::new(bytes, good_writes)).expect(rt, "memory");
+    let keeper = LineKeeper::new(alloc, Paper::new(bytes, &room)).expect(rt, "memory");
     let (desk, mut passes) = Desk::build(alloc, system, keeper, 2).expect(rt, "memory");
     let mut second = passes.pop().expect(rt, "a pass");
     let mut first = passes.pop().expect(rt, "a pass");
     let (ann, bob) = (&mut first, &mut second);
     let made = is_answered(rt, alloc, &desk, ann, "ann", "CREATE TABLE t (x INTEGER)");
-    let other = is_answered(rt, alloc, &desk, bob, "bob", "create table s (y text);");
+    let owed = is_answered(rt, alloc, &desk, bob, "bob", "create table s (y text);");
     let looked = is_answered(rt, alloc, &desk, ann, "ann", "SELECT * FROM t");
+    let seen = is_answered(rt, alloc, &desk, bob, "bob", "SELECT * FROM s");
+    let barred = is_answered(rt, alloc, &desk, ann, "ann", "CREATE TABLE r (z TEXT)");
+    room.set(1000);
+    let settled = is_answered(rt, alloc, &desk, ann, "ann", "INSERT INTO t VALUES (1)");
     // A test that let the desk go would prove its destructor.
     forget(desk);
-    (made, other, looked)
+    (made, owed, looked, seen, barred, settled)
 }
 
-/// Each change is kept as a line, through whichever pass it came.
+/// Each change is kept as a line, through whichever pass it came. One that finds no room is withheld,
+/// and so is the next, which is not entered; looks are answered. Where there is room again, what was
+/// owed is written first, and nothing twice.
 #[test]
 fn changes_are_kept(rt: HostRuntime) {
     let mut bytes = Vec::new(rt.alloc());
-    let answered = are_answered(&rt, rt.alloc(), &mut bytes, 1000);
-    let wanted = b"ann: CREATE TABLE t (x INTEGER)\nbob: CREATE TABLE s (y TEXT)\n";
-    assert!(rt; answered == (true, true, true));
-    assert!(rt; bytes.as_slice() == wanted.as_slice());
-}
-
-/// Once a change could not be kept, each reply is withheld, that to a look too.
-#[test]
-fn replies_are_withheld(rt: HostRuntime) {
-    let mut bytes = Vec::new(rt.alloc());
-    let answered = are_answered(&rt, rt.alloc(), &mut bytes, 1);
-    let wanted = b"ann: CREATE TABLE t (x INTEGER)\n";
-    assert!(rt; answered == (true, false, false));
+    let answered = are_answered(&rt, rt.alloc(), &mut bytes);
+    let wanted =
+        b"ann: CREATE TABLE t (x INTEGER)\nbob: CREATE TABLE s (y TEXT)\nann: INSERT INTO t VALUES (1)\n";
+    assert!(rt; answered == (true, false, true, true, false, true));
     assert!(rt; bytes.as_slice() == wanted.as_slice());
 }

@@ -61,7 +61,7 @@ pub use name::{Name, User};
 pub use privilege::{Atom, Kind};
 pub use sequence::{Sequence, twins_of};
 pub use shared::Values;
-pub use stream::{Broken, Sink, Source, StdSink, StdSource, write_all};
+pub use stream::{Broken, Resume, Sink, Source, StdSink, StdSource, write_all};
 pub use text::Text;
 pub use unbuffered::Unbuffered;
 pub use value::{ColType, Column, Moment, Row, Value};

@@ -57,6 +57,15 @@ pub trait Sink {
     ghost flushed_hands_on: { (sink : Self) → flushed sink ≡ true → handed_on sink ≡ taken sink };
 }
 
+/// A sink that can be asked again once it has failed, since what made it fail may have passed: a disk
+/// that was full.
+pub trait Resume: Sink {
+    /// From now on it has not failed. What it took stays as it is.
+    fn resume(&mut self)
+        ensures failed { Self.failed self.new ≡ false }
+        ensures bytes { Keeps (Self.taken self.old) (Self.taken self.new) };
+}
+
 /// A reader of `std`.
 #[derive(Drop)]
 pub struct StdSource<R> {

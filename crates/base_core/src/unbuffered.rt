@@ -1,7 +1,7 @@
 //! A writer whose bytes are gathered nowhere.
 ghost use Rattle.std.specs.Prelude.{◌≡◌, false};
 
-use crate::stream::{Broken, Sink};
+use crate::stream::{Broken, Resume, Sink};
 use std::io::Write;
 
 /// A writer of `std` that gets each piece as it comes. To take none of some bytes is an error.
@@ -55,4 +55,10 @@ impl<W: Write> Sink for Unbuffered<W> {
     }
 
     ghost flushed_hands_on = { λ s _. refl };
+}
+
+impl<W: Write> Resume for Unbuffered<W> {
+    fn resume(&mut self) {
+        self.failed = false;
+    }
 }

@@ -17,6 +17,10 @@ AreAsked limits = IsFullBut limits.changes limits × (0 < limits.changes)
 abbrev pub IsIdle : Option ℕ → Type 0
 IsIdle idle = IfSome idle (λ seconds. (0 < seconds) × (seconds ≤ 86400))
 
+-- the port at which sessions come in, if one is given
+abbrev pub IsPort : Option ℕ → Type 0
+IsPort port = IfSome port (λ p. (0 < p) × (p ≤ 65535))
+
 -- the moment that is asked for, if one is
 abbrev pub IsMoment : Option ℕ → Type 0
 IsMoment at = IfSome at (λ m. m ≤ 1000000000)
@@ -27,7 +31,7 @@ IsInRange (asked.Run r) = IsChunk r.chunk × AreAsked r.limits
 IsInRange (asked.Journal reading) = AreAsked reading.limits
 IsInRange (asked.Dump load reading) = AreAsked reading.limits
 IsInRange (asked.Serve s) =
-    ((0 < s.port) × (s.port ≤ 65535))
+    IsPort s.port
     × ((0 < s.workers) × (s.workers ≤ 16))
     × (0 < s.sessions)
     × IsChunk s.chunk
@@ -35,4 +39,5 @@ IsInRange (asked.Serve s) =
     × IsIdle s.idle
     × (s.grace ≤ 86400)
 IsInRange (asked.Stop control) = Unit {0}
+IsInRange (asked.Status control form) = Unit {0}
 IsInRange (asked.Explain e) = IsMoment e.at × AreAsked e.reading.limits

@@ -1,6 +1,6 @@
 //! What the command line says.
 ghost use Rattle.std.specs.Prelude.{◌<◌, ◌≤◌, IfOk};
-ghost use Rattle.command_core.specs.Ranges.{AreAsked, IsChunk, IsIdle, IsMoment, IsInRange};
+ghost use Rattle.command_core.specs.Ranges.{AreAsked, IsChunk, IsIdle, IsMoment, IsPort, IsInRange};
 
 use crate::commands::program;
 use crate::reading::{Reading, limits_of, reading_of};
@@ -50,6 +50,11 @@ pub enum CommandLine<'a> {
     Stop {
         control: &'a str,
     },
+    /// To ask the server of this control socket how it fares.
+    Status {
+        control: &'a str,
+        form: StatusForm,
+    },
     /// To explain the rights that the lines of standard input make.
     Explain(Explaining<'a>),
 }
@@ -66,21 +71,27 @@ pub struct Running<'a> {
     pub audit: bool,
 }
 
-/// The sessions that are asked for: at which port of this machine, how many, by how many threads,
-/// how many records a step of the checkpointer takes, how much there may be, for how many seconds a
-/// session waits for its client, if not for ever, and whether it is told where sessions begin and
-/// end; from which file the first changes come, to which each change is written, to which the state
+/// The sessions that are asked for: at which port, and of which address, if that is said; at which
+/// socket file, and of which mode that is; how many, by how many threads, how many records a step of
+/// the checkpointer takes, how much there may be, for how many seconds a session waits for its client,
+/// if not for ever, whether it is told where sessions begin and end, who is denied what, and when that
+/// was; from which file the first changes come, to which each change is written, to which the state
 /// is written at the end, and whether to audit then; at which control socket it may be told to stop,
 /// whether the end of standard input tells it so, and how many seconds sessions then have.
 #[derive(Clone, Copy)]
 pub struct Serving<'a> {
-    pub port: u16,
+    pub port: Option<u16>,
+    pub listen: Option<&'a str>,
+    pub socket: Option<&'a str>,
+    pub mode: u32,
     pub workers: usize,
     pub sessions: u64,
     pub chunk: usize,
     pub limits: Limits,
     pub idle: Option<u64>,
     pub log: bool,
+    pub log_denials: bool,
+    pub log_time: bool,
     pub load: Option<&'a str>,
     pub journal: Option<&'a str>,
     pub dump: Option<&'a str>,
@@ -88,6 +99,17 @@ pub struct Serving<'a> {
     pub control: Option<&'a str>,
     pub until_eof: bool,
     pub grace: u64,
+}
+
+/// The form in which a server tells how it fares.
+#[derive(Clone, Copy, Debug, PartialEq, Eq)]
+pub enum StatusForm {
+    /// A line for each figure, for people.
+    Text,
+    /// As Prometheus reads it.
+    Prometheus,
+    /// One object of JSON.
+    Json,
 }
 
 /// What is to be explained of a journal or a script: a question, as of which moment, if not at its
@@ -126,6 +148,32 @@ fn grace_of(matches: &ArgMatches<'_>) -> u64
     seconds.min(MAX_GRACE) as u64
 }
 
+// clap has refused a number out of range.
+fn port_of(matches: &ArgMatches<'_>) -> Option<u16>
+    ensures { IsPort result }
+{
+    let port = matches.get_one::<u16>("port")?;
+    Some(port.max(1))
+}
+
+// clap has refused another word.
+fn mode_of(matches: &ArgMatches<'_>) -> u32 {
+    match matches.get_str("mode") {
+        Some("600") => 0o600,
+        Some("666") => 0o666,
+        _ => 0o660,
+    }
+}
+
+// clap has refused another word.
+fn status_form_of(matches: &ArgMatches<'_>) -> StatusForm {
+    match matches.get_str("format") {
+        Some("prometheus") => StatusForm::Prometheus,
+        Some("json") => StatusForm::Json,
+        _ => StatusForm::Text,
+    }
+}
+
 // clap has refused a number out of range. Without one there is no end to them: 64 bits count all that
 // a server will ever take.
 fn sessions_of(matches: &ArgMatches<'_>) -> u64
@@ -137,21 +185,24 @@ fn sessions_of(matches: &ArgMatches<'_>) -> u64
     }
 }
 
-// clap has refused a command line without a port, and a number out of range: so none of the numbers
-// for that case is ever taken.
+// clap has refused a number out of range.
 fn serving_of<'a>(matches: &ArgMatches<'a>) -> Serving<'a>
     ensures { IsInRange (CommandLine.Serve result) }
 {
-    let port = matches.get_one::<u16>("port").unwrap_or(1).max(1);
     let workers = matches.get_one::<u8>("workers").unwrap_or(WORKERS);
     Serving {
-        port,
+        port: port_of(matches),
+        listen: matches.get_str("listen"),
+        socket: matches.get_str("socket"),
+        mode: mode_of(matches),
         workers: workers.clamp(1, MAX_WORKERS) as usize,
         sessions: sessions_of(matches),
         chunk: chunk_of(matches),
         limits: limits_of(matches),
         idle: idle_of(matches),
         log: matches.get_flag("log"),
+        log_denials: matches.get_flag("log-denials"),
+        log_time: matches.get_flag("log-time"),
         load: matches.get_str("load"),
         journal: matches.get_str("journal"),
         dump: matches.get_str("dump"),
@@ -250,13 +301,13 @@ fn explaining_of<'a>(matches: &ArgMatches<'a>) -> Explaining<'a>
 }
 
 /// Reads the words of a command line, of which the first is the name of the program. Each number is
-/// in its range: the chunk from 1 to 64, and 16 where none is given; the port from 1 to 65,535; the
-/// workers from 1 to 16, and 4 where none are given; the sessions from 1 to 1,000,000,000, and 2^64 - 1
-/// where none are given, so that there is no end to them; the changes from 1 to 1,000,000,000, and 1,000,000 where none are given; the
-/// seconds of an idle session, if they are given, from 1 to 86,400; the moment of an explanation, if
-/// it is given, from 0 to 1,000,000,000; the seconds of grace from 0 to 86,400, and 10 where none are
-/// given. An error is clap's: the words
-/// were refused, help or the version was asked for, or there was no memory.
+/// in its range: the chunk from 1 to 64, and 16 where none is given; the port, if one is given, from 1
+/// to 65,535; the workers from 1 to 16, and 4 where none are given; the sessions from 1 to
+/// 1,000,000,000, and 2^64 - 1 where none are given, so that there is no end to them; the changes from
+/// 1 to 1,000,000,000, and 1,000,000 where none are given; the seconds of an idle session, if they are
+/// given, from 1 to 86,400; the moment of an explanation, if it is given, from 0 to 1,000,000,000; the
+/// seconds of grace from 0 to 86,400, and 10 where none are given. An error is clap's: the words were
+/// refused, help or the version was asked for, or there was no memory.
 pub fn options<'a, S: AsStr>(alloc: Global, words: &'a [S]) -> Result<CommandLine<'a>, Error>
     ensures { IfOk result IsInRange }
 {
@@ -276,6 +327,12 @@ pub fn options<'a, S: AsStr>(alloc: Global, words: &'a [S]) -> Result<CommandLin
     if let Some(stop) = matches.subcommand_matches("stop") {
         return Ok(CommandLine::Stop {
             control: word_of(stop, "control"),
+        });
+    }
+    if let Some(status) = matches.subcommand_matches("status") {
+        return Ok(CommandLine::Status {
+            control: word_of(status, "control"),
+            form: status_form_of(status),
         });
     }
     if let Some(journal) = matches.subcommand_matches("journal") {

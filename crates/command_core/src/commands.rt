@@ -6,8 +6,14 @@ use clap::builder::ValueParser;
 use clap::{Arg, ArgAction, Command};
 use std::alloc::{AllocError, Global};
 
-// This edition of the program.
-const VERSION: &str = "0.1.0";
+/// This edition of the program.
+pub const VERSION: &str = "0.1.0";
+
+// The modes of a socket file.
+const MODES: [&str; 3] = ["600", "660", "666"];
+
+// The forms in which a server tells how it fares.
+const STATUS_FORMS: [&str; 3] = ["text", "prometheus", "json"];
 
 const FORM_OF_A_LINE: &str = "\
 A line is `user: statement`, as in `ann: SELECT * FROM pay`. Replies go to standard output, in the
@@ -36,6 +42,11 @@ const FORM_OF_A_STOP: &str = "\
 The server takes no further session, and each session answers the lines that it was sent, and ends;
 then the server ends. At a second stop, or behind its grace, sessions are cut. The status is 0 once
 the server has ended.";
+
+const FORM_OF_A_STATUS: &str = "\
+It tells of sessions, statements and denials since the server began, of its moment and its limit, of
+its journal and its memory: a line for each, or in the form of Prometheus, or as one object of JSON.
+The status is 0 once it was told.";
 
 /// A command under construction. No call here promises what it keeps, so that in a chain of them the
 /// last is as cheap to prove as the first; and none but the two below has an exit at a fault.
@@ -143,12 +154,29 @@ fn dump_command<'a>(alloc: Global) -> Made<'a> {
 }
 
 fn port_arg<'a>(alloc: Global) -> Arg<'a> {
-    let help = "The port of 127.0.0.1 at which it listens";
-    let arg = taking(
+    let help = "The port at which it listens";
+    taking(
         value_arg(alloc, "port", "p", help),
         clap::value_parser!(u16).range(1..=65535),
-    );
-    arg.required(true)
+    )
+}
+
+fn listen_arg<'a>(alloc: Global) -> Arg<'a> {
+    let help = "The address of the port; 127.0.0.1, and no other yet, as there is no login";
+    value_arg(alloc, "listen", "ADDRESS", help)
+}
+
+fn socket_arg<'a>(alloc: Global) -> Arg<'a> {
+    let help =
+        "Makes a socket file at this place, and listens at it, beside the port or without one";
+    value_arg(alloc, "socket", "FILE", help)
+}
+
+fn mode_arg<'a>(alloc: Global) -> Arg<'a> {
+    let help =
+        "Who may open the socket file: its owner, its group too (660, where it is not given), or \
+        everybody";
+    value_arg(alloc, "mode", "MODE", help).value_parser(MODES.as_slice())
 }
 
 fn workers_arg<'a>(alloc: Global) -> Arg<'a> {
@@ -183,6 +211,16 @@ fn log_arg<'a>(alloc: Global) -> Arg<'a> {
     flag_arg(alloc, "log", help)
 }
 
+fn log_denials_arg<'a>(alloc: Global) -> Arg<'a> {
+    let help = "Says on standard error who was denied what";
+    flag_arg(alloc, "log-denials", help)
+}
+
+fn log_time_arg<'a>(alloc: Global) -> Arg<'a> {
+    let help = "Begins each line of the log with the time of day, in UTC";
+    flag_arg(alloc, "log-time", help)
+}
+
 fn control_arg<'a>(alloc: Global, help: &'a str) -> Arg<'a> {
     value_arg(alloc, "control", "FILE", help)
 }
@@ -209,25 +247,40 @@ fn stop_command<'a>(alloc: Global) -> Made<'a> {
     with(made, control_arg(alloc, help).required(true))
 }
 
+fn status_command<'a>(alloc: Global) -> Made<'a> {
+    let about = "Asks a server how it fares";
+    let made = command(alloc, "status", about, FORM_OF_A_STATUS);
+    let help = "The control socket of the server";
+    let made = with(made, control_arg(alloc, help).required(true));
+    with(made, status_form_arg(alloc))
+}
+
+fn status_form_arg<'a>(alloc: Global) -> Arg<'a> {
+    let help = "For people (text), for Prometheus (prometheus), or for programs (json)";
+    value_arg(alloc, "format", "f", help).value_parser(STATUS_FORMS.as_slice())
+}
+
 fn serve_command<'a>(alloc: Global) -> Made<'a> {
-    let made = command(
-        alloc,
-        "serve",
-        "Serves sessions over TCP",
-        FORM_OF_A_SESSION,
-    );
+    let about = "Serves sessions over TCP and at a socket file";
+    let made = command(alloc, "serve", about, FORM_OF_A_SESSION);
     let made = with(made, port_arg(alloc));
+    let made = with(made, listen_arg(alloc));
+    let made = with(made, socket_arg(alloc));
+    let made = with(made, mode_arg(alloc));
     let made = with(made, workers_arg(alloc));
     let made = with(made, sessions_arg(alloc));
     let made = with(made, chunk_arg(alloc));
     let made = with(made, changes_arg(alloc));
     let made = with(made, idle_arg(alloc));
     let made = with(made, log_arg(alloc));
+    let made = with(made, log_denials_arg(alloc));
+    let made = with(made, log_time_arg(alloc));
     let made = with(made, load_arg(alloc));
     let made = with(made, journal_arg(alloc));
     let made = with(made, dump_arg(alloc));
     let made = with(made, audit_arg(alloc));
-    let help = "Makes a control socket at this place, at which `sysr stop` is heard";
+    let help =
+        "Makes a control socket at this place, at which `sysr stop` and `sysr status` are heard";
     let made = with(made, control_arg(alloc, help));
     let made = with(made, until_eof_arg(alloc));
     with(made, grace_arg(alloc))
@@ -251,5 +304,6 @@ pub fn program<'a>(alloc: Global) -> Made<'a> {
     let made = with_command(made, dump_command(alloc));
     let made = with_command(made, serve_command(alloc));
     let made = with_command(made, stop_command(alloc));
+    let made = with_command(made, status_command(alloc));
     with_command(made, explain_command(alloc))
 }

@@ -25,7 +25,10 @@ fn read(alloc: Global, words: &[&str]) -> Result<Option<Reading>, Error> {
         CommandLine::Journal(reading) => Some(reading),
         CommandLine::Dump { load: _, reading } => Some(reading),
         CommandLine::Explain(asked) => Some(asked.reading),
-        CommandLine::Run(_) | CommandLine::Serve(_) | CommandLine::Stop { .. } => None,
+        CommandLine::Run(_)
+        | CommandLine::Serve(_)
+        | CommandLine::Stop { .. }
+        | CommandLine::Status { .. } => None,
     })
 }
 

@@ -1,6 +1,6 @@
 -- A turn of the turn lock, with the core as its object, is a turn at the desk.
 use Rattle.std.proofs.Common.{◌≡◌, ◌≤◌, ◌<◌, ◌+◌, ◌^◌, ℕ, Bool, true, false, List, ◌++◌, length, drop, refl, sym, ap, ◌∙◌, subst, arith, length-append}
-use Rattle.std.specs.Prelude.{Result, Ok, Err, IfOk, OnOk, OnErr, MatchResult}
+use Rattle.std.specs.Prelude.{Result, Ok, Err, IfOk, OnErr, MatchResult}
 use Rattle.std.proofs.lemmas.List.{drop_at}
 use Rattle.std.proofs.lemmas.List.Elements.{All-weaker}
 use Rattle.turnstile.specs.Logs.{gained}
@@ -15,12 +15,12 @@ use Rattle.system_core.specs.declared.machine.event.Reply.{Reply}
 use Rattle.system_core.specs.Entering.{entered}
 use Rattle.system_core.specs.World.{World, IsLawfulWorld}
 use Rattle.system_core.proofs.Entered.{step_enters}
-use Rattle.journal_core.specs.Keeping.{KeepsAll}
-use Rattle.journal_core.specs.Recorder.{with_keeper, StepsKept}
+use Rattle.journal_core.specs.Keeping.{KeepsOrOwes}
+use Rattle.journal_core.specs.Recorder.{with_keeper, says_change, StepsKept}
 use Rattle.journal_core.specs.declared.keeper.Keeper.{Ghosts}
 use Rattle.journal_core.specs.declared.recorder.Acted.{Acted}
 use Rattle.journal_core.specs.declared.recorder.Unkept.{Unkept}
-use Rattle.journal_core.proofs.Entering.{entered-told}
+use Rattle.journal_core.proofs.Entering.{done_enters, one-told}
 use Rattle.desk_core.specs.Guarded.{Origin, CoreState, DeskLock, DeskPass, origin_of, snapshot}
 use Rattle.desk_core.specs.Kept.{HasKept, IsKept}
 use Rattle.desk_core.specs.Acting.{event_of, basis, Acts}
@@ -71,17 +71,24 @@ module _ {K : Type 0} (rules : Ghosts K) where
           counted = counted;
         }
 
-    -- what may be told is kept
-    pub turn_kept : answer.told ≡ true → IsKept rules (origin_of desk) new.seen
+    -- what may be told is kept, and nothing is owed of a change
+    pub turn_kept : answer.told ≡ true → IsKept rules (origin_of desk) answer.reply new.seen
     turn_kept told =
-        let works = (entered-told rules t.before.keeper t.after.keeper (entered (event_of old.number ask) answer.reply) answer.told t.acted.steps.keeping told).0 in
+        let event = event_of old.number ask in
+        let steps = t.acted.steps in
         let keeper = ap (λ (o : Origin K). o.keeper) t.acted.origin ∙ ap (λ (s : Snapshot (Origin K)). s.value.keeper) t.fixed_is in
         let front = ap (λ (o : Origin K). o.front) t.acted.origin ∙ ap (λ (s : Snapshot (Origin K)). s.value.front) t.fixed_is in
         record {
           keeper = t.after.keeper;
-          works = works;
-          kept = subst (λ (z : K × ℕ × List Entry). KeepsAll rules.keeps z.0 (drop z.1 z.2) t.after.keeper) (λ i. (keeper i, front i, sym t.seen_after i)) (t.acted.has_kept works);
+          kept = subst (λ (z : K × ℕ × List Entry). KeepsOrOwes rules z.0 (drop z.1 z.2) t.after.keeper) (λ i. (keeper i, front i, sym t.seen_after i)) t.acted.has_kept;
+          settled = λ done.
+              let one = done_enters t.before.world t.after.world event answer.reply done steps.step in
+              one-told rules t.before.keeper t.after.keeper (entered event answer.reply) one.0 answer.told one.1 steps.keeping told;
         }
+
+    -- only that to a change may not be told
+    pub turn_change : answer.told ≡ false → says_change (event_of old.number ask) ≡ true
+    turn_change untold = t.acted.steps.withheld untold
 
   -- the core that comes out of the turn lock
   pub closed_ended : (desk : DeskLock K) (passes : List (DeskPass K)) (core : CoreState K) (w : World) → core.world ≡ w → IsLawfulWorld w
@@ -98,14 +105,28 @@ module _ {K : Type 0} (rules : Ghosts K) where
     };
   }
 
+  -- and its keeper, which tried once more to keep what it owed
+  pub closed_kept : (desk : DeskLock K) (passes : List (DeskPass K)) (core : CoreState K) (w : World) (keeper : K) → core.world ≡ w → HasKept rules core.origin core.world.journal core.keeper
+      → ((start : K) (entries : List Entry) → KeepsOrOwes rules start entries core.keeper → KeepsOrOwes rules start entries keeper)
+      → Closed {O = CoreState K} (λ c. c.world.journal) asked_by (λ c. c.world.begun) basis desk passes core → HasKept rules (origin_of desk) w.journal keeper
+  closed_kept desk passes core w keeper is had tried c =
+      let start = ap (λ (s : Snapshot (Origin K)). s.value.keeper) c.fixed_is in
+      let front = ap (λ (s : Snapshot (Origin K)). s.value.front) c.fixed_is in
+      subst (λ (z : K × ℕ × World). KeepsOrOwes rules z.0 (drop z.1 z.2.journal) keeper) (λ i. (start i, front i, is i))
+      (tried core.origin.keeper (drop core.origin.front core.world.journal) had)
+
 module _ {K : Type 0} (desk : DeskLock K) (ask : Ask) (said : Reply) (told : Bool) (old new : DeskPass K) where
   pub answered_if : (r : Result Reply Unkept) → MatchResult r (λ reply. (told ≡ true) × (reply ≡ said)) (λ _. told ≡ false) → Took desk ask said old new → IfOk r (λ reply. Answered desk ask reply old new)
   answered_if (Ok reply) h t = took (subst (λ z. Took desk ask z old new) (sym h.1) t)
   answered_if (Err e) h t = tt
 
-  pub kept_if : {P : Type 0} (r : Result Reply Unkept) → MatchResult r (λ reply. (told ≡ true) × (reply ≡ said)) (λ _. told ≡ false) → (told ≡ true → P) → OnOk r P
-  kept_if (Ok reply) h p = p h.0
-  kept_if (Err e) h p = tt
+  pub kept_if : (P : Reply → Type 0) (r : Result Reply Unkept) → MatchResult r (λ reply. (told ≡ true) × (reply ≡ said)) (λ _. told ≡ false) → (told ≡ true → P said) → IfOk r P
+  kept_if P (Ok reply) h p = subst P (sym h.1) (p h.0)
+  kept_if P (Err e) h p = tt
+
+  pub change_if : {P : Type 0} (r : Result Reply Unkept) → MatchResult r (λ reply. (told ≡ true) × (reply ≡ said)) (λ _. told ≡ false) → (told ≡ false → P) → OnErr r P
+  change_if (Ok reply) h p = tt
+  change_if (Err e) h p = p h
 
   pub withheld_if : (r : Result Reply Unkept) → MatchResult r (λ reply. (told ≡ true) × (reply ≡ said)) (λ _. told ≡ false) → Took desk ask said old new → OnErr r ((reply : Reply) × Took desk ask reply old new)
   withheld_if (Ok reply) h t = tt

@@ -1,5 +1,5 @@
 -- The core as what threads take turns at: what is asked through a pass, and what comes of it.
-use Rattle.std.specs.Prelude.{ℕ, ◌≡◌, Bool}
+use Rattle.std.specs.Prelude.{ℕ, ◌≡◌}
 use Rattle.std.proofs.Common.{inl, ◌∙◌, append-nil}
 use Rattle.std.specs.declared.snapshot.Snapshot.{Snapshot}
 use Rattle.turnstile.specs.Logs.{Grown}

@@ -1,17 +1,20 @@
 //! The core behind a turn lock.
-ghost use Rattle.std.specs.Prelude.{◌≡◌, ◌≢◌, ◌+◌, ◌<◌, ◌≤◌, ◌^◌, ℕ, List, length, All, Some, false, IfOk, IfErr, OnOk, OnErr};
+ghost use Rattle.std.specs.Prelude.{◌≡◌, ◌≢◌, ◌+◌, ◌<◌, ◌≤◌, ◌^◌, ℕ, List, length, All, Some, true, false, IfOk, IfErr, OnOk, OnErr};
 ghost use Rattle.turnstile.specs.Logs.{StartsWith};
 ghost use Rattle.turnstile.specs.Passes.{IsSamePass, mine, new_passes};
 ghost use Rattle.turnstile.specs.Closed.{AreAll};
 ghost use Rattle.desk_core.specs.declared.object.Ask.TheVariants as asks;
 ghost use Rattle.reader_core.specs.Language.{Spells};
+ghost use Rattle.monitor_core.specs.Verdict.{is_change};
+ghost use Rattle.journal_core.specs.Recorder.{says_change};
+ghost use Rattle.desk_core.specs.Acting.{event_of};
 ghost use Rattle.desk_core.specs.Guarded.{origin_of, origin_at};
 ghost use Rattle.desk_core.specs.Kept.{HasKept, IsKept};
 ghost use Rattle.desk_core.specs.Turns.{asked_by, Took, Answered, Ended};
 
 use crate::object::{Ask, Core, Said};
 use base_core::{Lack, Moment, NoMemory, User};
-use journal_core::{Keeper, Unkept};
+use journal_core::{Keeper, Unkept, settle_owed};
 use reader_core::Statement;
 use std::alloc::Global;
 use std::marker::Model;
@@ -43,7 +46,7 @@ impl<K: Keeper + Drop> Model for Desk<K> {
 
 impl<K: Keeper + Drop> Desk<K> {
     /// A desk with `count` passes, from 1 to 64, and this system, of which no checkpoint was begun.
-    /// Each entry of its journal bears the number of a pass. The keeper, which has not failed, keeps
+    /// Each entry of its journal bears the number of a pass. The keeper, which owes nothing, keeps
     /// what is entered from now on. Turns are counted from 0. The passes are numbered from 0 and have
     /// seen the journal. `NoMemory` where a request for memory was refused.
     pub fn build(
@@ -55,7 +58,7 @@ impl<K: Keeper + Drop> Desk<K> {
         requires counts { (0 < count) × (count ≤ 64) }
         requires unbegun { system.begun ≡ 0 }
         requires bears { All (λ e. e.pass < count) system.journal }
-        requires works { K.failed keeper ≡ false }
+        requires settled { K.owing keeper ≡ false }
         ensures desk { IfOk result (λ b. (b.0.count ≡ count) × (b.0.start ≡ 0)) }
         ensures origin { IfOk result (λ b. origin_of b.0 ≡ origin_at system keeper) }
         ensures passes { IfOk result (λ b. b.1.items ≡ new_passes system.journal b.0) }
@@ -74,7 +77,7 @@ impl<K: Keeper + Drop> Desk<K> {
         requires counts { (0 < count) × (count ≤ 64) }
         requires unbegun { system.begun ≡ 0 }
         requires bears { All (λ e. e.pass < count) system.journal }
-        requires works { K.failed keeper ≡ false }
+        requires settled { K.owing keeper ≡ false }
         requires start { start ≤ 2 ^ 62 }
         ensures desk { IfOk result (λ b. (b.0.count ≡ count) × (b.0.start ≡ start)) }
         ensures origin { IfOk result (λ b. origin_of b.0 ≡ origin_at system keeper) }
@@ -85,15 +88,17 @@ impl<K: Keeper + Drop> Desk<K> {
         Ok((Desk { turnstile }, passes))
     }
 
-    /// A turn of the pass. What the core gives to be freed is freed behind the turn.
+    /// A turn of the pass. What the core gives to be freed is freed behind the turn. Only the reply to
+    /// a change is withheld.
     fn turn<R: Wait>(&self, rt: &R, pass: &mut Pass<K>, ask: Ask) -> Result<Reply, Unkept>
         requires { pass.old.lock ≡ Some self.now }
         ensures same { IsSamePass pass.old pass.new }
         ensures answered { IfOk result (λ reply. Answered self.now ask reply pass.old pass.new) }
-        ensures kept { OnOk result (pass.old.turns < pass.new.turns
-            → IsKept K.Keeper (origin_of self.now) pass.new.seen) }
+        ensures kept { IfOk result (λ reply. pass.old.turns < pass.new.turns
+            → IsKept K.Keeper (origin_of self.now) reply pass.new.seen) }
         ensures withheld { OnErr result ((reply : Reply)
             × Took self.now ask reply pass.old pass.new) }
+        ensures change { OnErr result (says_change (event_of pass.old.number ask) ≡ true) }
     {
         match self.turnstile.turn(rt, pass, ask) {
             Ok(answer) => answer.into_reply(),
@@ -105,9 +110,10 @@ impl<K: Keeper + Drop> Desk<K> {
     }
 
     /// One statement, which some line spells: an event of the core, in a turn of the pass. Where all
-    /// turns are drawn it is refused with `Worn`, at 0, and the core is untouched. Where a reply is
-    /// answered in a turn, all that was entered since the desk was built is kept. `Unkept` where a
-    /// change could not be kept, in this turn or before: then the reply is withheld.
+    /// turns are drawn it is refused with `Worn`, at 0, and the core is untouched. Where the reply
+    /// tells of a change, all that was entered since the desk was built is kept; any other reply may
+    /// be answered while what is left of the last change is owed. `Unkept` of a change alone: it was
+    /// entered and is owed; or it was not entered, since what was owed before could not be kept.
     pub fn execute<R: Wait>(
         &self,
         rt: &R,
@@ -120,40 +126,42 @@ impl<K: Keeper + Drop> Desk<K> {
         ensures same { IsSamePass pass.old pass.new }
         ensures answered { IfOk result (λ reply. Answered self.now
             (asks.Say (record { user = user; statement = statement })) reply pass.old pass.new) }
-        ensures kept { OnOk result (pass.old.turns < pass.new.turns
-            → IsKept K.Keeper (origin_of self.now) pass.new.seen) }
+        ensures kept { IfOk result (λ reply. pass.old.turns < pass.new.turns
+            → IsKept K.Keeper (origin_of self.now) reply pass.new.seen) }
         ensures withheld { OnErr result ((reply : Reply)
             × Took self.now
             (asks.Say (record { user = user; statement = statement })) reply pass.old pass.new) }
+        ensures change { OnErr result (is_change statement ≡ true) }
     {
         self.turn(rt, pass, Ask::Say(Said::new(user, statement)))
     }
 
-    /// One step of the checkpointer, in a turn of the pass. `Worn` and `Unkept` as in `execute`.
-    pub fn checkpoint_turn<R: Wait>(&self, rt: &R, pass: &mut Pass<K>) -> Result<Reply, Unkept>
+    /// One step of the checkpointer, in a turn of the pass. `Worn` as in `execute`.
+    pub fn checkpoint_turn<R: Wait>(&self, rt: &R, pass: &mut Pass<K>) -> Reply
         requires { pass.old.lock ≡ Some self.now }
         ensures same { IsSamePass pass.old pass.new }
-        ensures answered { IfOk result (λ reply. Answered self.now asks.Step reply pass.old pass.new) }
-        ensures kept { OnOk result (pass.old.turns < pass.new.turns
-            → IsKept K.Keeper (origin_of self.now) pass.new.seen) }
-        ensures withheld { OnErr result ((reply : Reply)
-            × Took self.now asks.Step reply pass.old pass.new) }
+        ensures answered { Answered self.now asks.Step result pass.old pass.new }
+        ensures kept { pass.old.turns < pass.new.turns
+            → IsKept K.Keeper (origin_of self.now) result pass.new.seen }
     {
-        self.turn(rt, pass, Ask::Step)
+        match self.turn(rt, pass, Ask::Step) {
+            Ok(reply) => reply,
+            Err(Unkept) => unreachable!(),
+        }
     }
 
-    /// Gives the active checkpoint up, in a turn of the pass. `Worn` and `Unkept` as in `execute`.
-    pub fn abandon_turn<R: Wait>(&self, rt: &R, pass: &mut Pass<K>) -> Result<Reply, Unkept>
+    /// Gives the active checkpoint up, in a turn of the pass. `Worn` as in `execute`.
+    pub fn abandon_turn<R: Wait>(&self, rt: &R, pass: &mut Pass<K>) -> Reply
         requires { pass.old.lock ≡ Some self.now }
         ensures same { IsSamePass pass.old pass.new }
-        ensures answered { IfOk result
-            (λ reply. Answered self.now asks.Abandon reply pass.old pass.new) }
-        ensures kept { OnOk result (pass.old.turns < pass.new.turns
-            → IsKept K.Keeper (origin_of self.now) pass.new.seen) }
-        ensures withheld { OnErr result ((reply : Reply)
-            × Took self.now asks.Abandon reply pass.old pass.new) }
+        ensures answered { Answered self.now asks.Abandon result pass.old pass.new }
+        ensures kept { pass.old.turns < pass.new.turns
+            → IsKept K.Keeper (origin_of self.now) result pass.new.seen }
     {
-        self.turn(rt, pass, Ask::Abandon)
+        match self.turn(rt, pass, Ask::Abandon) {
+            Ok(reply) => reply,
+            Err(Unkept) => unreachable!(),
+        }
     }
 
     /// What the pass has seen, for another pass of this desk to meet.
@@ -180,9 +188,10 @@ impl<K: Keeper + Drop> Desk<K> {
         self.turnstile.meet(pass, note);
     }
 
-    /// The core and its keeper, where these are all passes of the desk. Unless it has failed, the
-    /// keeper has kept all that was entered since it was handed in, in order and each once, and
-    /// nothing else. Where a pass is missing, the desk and the passes are given back.
+    /// The core and its keeper, where these are all passes of the desk. The keeper has kept all that
+    /// was entered since it was handed in, in order and each once, and nothing else; unless it owes
+    /// what is left of the last change, which it has tried once more to settle. Where a pass is
+    /// missing, the desk and the passes are given back.
     pub fn close(self, passes: Vec<Pass<K>>) -> Result<(System, K), (Desk<K>, Vec<Pass<K>>)>
         requires { All (λ p. p.lock ≡ Some self) passes.items }
         ensures all { OnOk result (AreAll self passes.items) }
@@ -198,10 +207,11 @@ impl<K: Keeper + Drop> Desk<K> {
                 let Core {
                     basis: _,
                     system,
-                    keeper,
+                    mut keeper,
                 } = core;
                 // The journal says that the world is lawful.
                 let _ = system.journal();
+                settle_owed(&mut keeper);
                 Ok((Box::into_inner(system), keeper))
             }
             Err((turnstile, passes)) => Err((Desk { turnstile }, passes)),

@@ -18,10 +18,12 @@
 //! turns were drawn each call is refused with `Worn`, and none is before.
 //!
 //! **Kept before it is told.** A change is kept in the turn that enters it, before its reply is
-//! answered. So where a reply was answered in a turn, all that was entered since the desk was built
-//! is kept, in order and each once. A change that could not be kept stays entered, and its reply is
-//! withheld: [`Unkept`]. From then on each turn is still a step of the core, nothing is kept, and
-//! each reply is withheld. [`Desk::close`] gives the keeper too.
+//! answered. So where a reply that tells of a change was answered in a turn, all that was entered
+//! since the desk was built is kept, in order and each once. A change that could not be kept stays
+//! entered, its reply is withheld ([`Unkept`]), and the keeper owes what is left of it. From then on
+//! each further change first has the keeper settle that: until it does, no change is entered, and
+//! the reply to each is withheld; all else is answered. [`Desk::close`] gives the keeper too, which
+//! has tried once more.
 //!
 //! ```text
 //! let system = System::new(alloc, 16)?;

@@ -148,9 +148,10 @@ impl<K: Keeper> Model for Core<K> {
 }
 
 impl<K: Keeper + Drop> Core<K> {
-    /// This system, whose changes from now on the keeper keeps. `NoMemory` where a request for
-    /// memory was refused.
+    /// This system, whose changes from now on the keeper keeps, which owes nothing. `NoMemory` where a
+    /// request for memory was refused.
     pub fn new(alloc: Global, system: System, keeper: K) -> Result<Core<K>, NoMemory>
+        requires { K.owing keeper ≡ false }
         ensures { IfOk result (λ c. c ≡ record {
           world = system;
           origin = origin_at system keeper;

@@ -17,7 +17,7 @@ text-append xs ys =
     let ended : List ℕ → List ℕ = λ line. line ++ 10 ∷ [] in
     ap (flat_map ended) (map-append line xs ys) ∙ flat_map-append ended (journal_lines xs) (journal_lines ys)
 
-text-one : (e : Entry) → journal_text (e ∷ []) ≡ entry_text e
+pub text-one : (e : Entry) → journal_text (e ∷ []) ≡ entry_text e
 text-one e = append-nil (entry_text e)
 
 -- ---- the entry at a place

@@ -1,6 +1,8 @@
 -- Changes that are kept, one after another.
--- Of a keeper, `keeps old e new`: from the state old the entry e may be kept, and new is the next.
-use Rattle.std.specs.Prelude.{◌≡◌, ℕ, Bool, false, List, [], ◌∷◌, Option, Result, Ok, Err}
+-- Of a keeper, `keeps old e new`: from the state old the entry e may be kept, and new is the next;
+-- `owes old e new`: from old it was begun, and new owes what is left of it; `owing k`: what is left of an
+-- entry is owed.
+use Rattle.std.specs.Prelude.{◌≡◌, ℕ, true, false, List, [], ◌∷◌, ◌++◌, Option, Some, None, is_some, Result, Ok, Err}
 use Rattle.std.specs.Io.KnownBytes.{Appends, Keeps}
 use Rattle.base_core.specs.Streams.{WritesFront}
 use Rattle.system_core.specs.declared.machine.event.Entry.{Entry}
@@ -15,28 +17,69 @@ abbrev pub KeepsAll : {K : Type 0} → (K → Entry → K → Type 0) → K → 
 KeepsAll keeps old [] new = new ≡ old
 KeepsAll {K} keeps old (e ∷ es) new = (mid : K) × keeps old e mid × KeepsAll keeps mid es new
 
+module _ {K : Type 0} (rules : Ghosts K) where
+  -- the entries are kept, one after another, and nothing is owed; or all but the last are kept, and what
+  -- is left of the last is owed
+  pub data KeepsOrOwes (old : K) (entries : List Entry) (new : K) : Type 0 where
+    all : rules.owing new ≡ false
+        → KeepsAll rules.keeps old entries new
+        → KeepsOrOwes old entries new
+    but_last : rules.owing new ≡ true
+        → (front : List Entry) (last : Entry) (mid : K)
+        → entries ≡ front ++ last ∷ []
+        → KeepsAll rules.keeps old front mid
+        → rules.owes mid last new
+        → KeepsOrOwes old entries new
+
+-- ---- keepers of lines
+-- what is seen of a keeper of lines: its sink; and of the last line what is still to be written, which may
+-- be nothing but to hand it on, or None where nothing is owed
+pub record LineKeeperState (W : Type 0) : Type 0 where
+  pub sink : W
+  pub owed : Option (List ℕ)
+
+abbrev pub line_keeper_state : {W : Type 0} → W → Option (List ℕ) → LineKeeperState W
+line_keeper_state sink owed = record { sink = sink; owed = owed }
+
+-- one that owes nothing
+abbrev pub owing_nothing : {W : Type 0} → W → LineKeeperState W
+owing_nothing sink = line_keeper_state sink None
+
 -- Of a sink, `taken` and `handed_on` are those of base_core's `Sink`.
 module _ {W : Type 0} (taken handed_on : W → Option (List ℕ)) where
   -- the sink took the line of the entry, which a line can say, and has handed on all that it took
-  pub record KeepsLine (old : W) (e : Entry) (new : W) : Type 0 where
+  pub record KeepsLine (old : LineKeeperState W) (e : Entry) (new : LineKeeperState W) : Type 0 where
     pub read : WasRead e
-    pub line : Appends (taken old) (taken new) (entry_text e)
-    pub handed_on_all : handed_on new ≡ taken new
+    pub before : old.owed ≡ None
+    pub line : Appends (taken old.sink) (taken new.sink) (entry_text e)
+    pub handed_on_all : handed_on new.sink ≡ taken new.sink
+    pub after : new.owed ≡ None
 
--- the sink took a front of the line at most
-abbrev pub FailsLine : {W : Type 0} → (W → Option (List ℕ)) → W → Entry → W → Type 0
-FailsLine taken old e new = WritesFront (taken old) (taken new) (entry_text e)
+module _ {W : Type 0} (taken : W → Option (List ℕ)) where
+  -- the sink took a part of the line of the entry, which a line can say, and the rest is owed
+  pub record OwesLine (old : LineKeeperState W) (e : Entry) (new : LineKeeperState W) : Type 0 where
+    pub part : List ℕ
+    pub rest : List ℕ
+    pub read : WasRead e
+    pub before : old.owed ≡ None
+    pub line : entry_text e ≡ part ++ rest
+    pub wrote : Appends (taken old.sink) (taken new.sink) part
+    pub after : new.owed ≡ Some rest
 
 -- the rules of lines that a sink takes
-abbrev pub line_rules : {W : Type 0} → (taken handed_on : W → Option (List ℕ)) → (W → Bool)
-    → Ghosts W
-line_rules taken handed_on failed =
-    record { keeps = KeepsLine taken handed_on; fails = FailsLine taken; failed = failed }
+abbrev pub line_rules : {W : Type 0} → (taken handed_on : W → Option (List ℕ))
+    → Ghosts (LineKeeperState W)
+line_rules taken handed_on = record {
+  keeps = KeepsLine taken handed_on;
+  owes = OwesLine taken;
+  owing = λ k. is_some k.owed;
+}
 
 -- the rules of who keeps nothing
 abbrev pub no_rules : Ghosts NoKeeper
-no_rules = record { keeps = λ old e new. Unit {0}; fails = λ old e new. ⊥; failed = λ k. false }
+no_rules = record { keeps = λ old e new. Unit {0}; owes = λ old e new. ⊥; owing = λ k. false }
 
+-- ---- whole journals
 -- how the writing of a whole journal ends: its text was written, or a front of it, or nothing
 abbrev pub EndsJournal : Result (Unit {0}) JournalFault → List Entry
     → Option (List ℕ) → Option (List ℕ) → Type 0

@@ -1,9 +1,8 @@
 -- Events that are carried out, and what they enter kept before their replies may be told.
--- Of a keeper's rules, `keeps old e new`: from the state old the entry e may be kept, and new is the
--- next; `fails old e new`: from old it could not be kept whole, and new is the next; `failed k`: an entry
--- could not be kept.
+-- A keeper's rules are as in Keeping.
 use Rattle.std.specs.Prelude.{◌≡◌, ℕ, Bool, true, false, List, [], ◌∷◌}
 use Rattle.reader_core.specs.Language.{Spells}
+use Rattle.monitor_core.specs.Verdict.{is_change}
 use Rattle.system_core.specs.World.{World}
 use Rattle.system_core.specs.Step.{Step}
 use Rattle.system_core.specs.Entering.{entered}
@@ -31,27 +30,61 @@ abbrev pub IsSpelledEvent : Event → Type 0
 IsSpelledEvent (events.Say pass user asked) = (line : List ℕ) × Spells line asked
 IsSpelledEvent _ = Unit {0}
 
+-- whether a change is said
+abbrev pub says_change : Event → Bool
+says_change (events.Say pass user asked) = is_change asked
+says_change _ = false
+
 module _ {K : Type 0} (rules : Ghosts K) where
-  -- What becomes of a keeper as these entries, one at most, are entered, and whether the reply may be
-  -- told: they are kept; or the one cannot be kept; or the keeper has failed before and stays as it is.
-  pub data KeepsEntered (old : K) (entries : List Entry) : Bool → K → Type 0 where
+  -- what was owed is kept
+  pub record Settles (old new : K) : Type 0 where
+    pub owing : rules.owing new ≡ false
+    pub keeps : (start : K) (e : Entry) → rules.owes start e old → rules.keeps start e new
+
+  -- what is left of the same entry is owed still
+  pub record OwesStill (old new : K) : Type 0 where
+    pub owing : rules.owing new ≡ true
+    pub owes : (start : K) (e : Entry) → rules.owes start e old → rules.owes start e new
+
+  -- What becomes of a keeper that owes nothing as these entries, one at most, are entered, and whether
+  -- the reply may be told: they are kept; or what is left of the one is owed.
+  pub data KeepsNext (old : K) (entries : List Entry) : Bool → K → Type 0 where
     kept : {new : K}
-        → rules.failed old ≡ false
-        → rules.failed new ≡ false
+        → rules.owing old ≡ false
+        → rules.owing new ≡ false
         → KeepsAll rules.keeps old entries new
-        → KeepsEntered old entries true new
-    lost : {new : K}
-        → rules.failed old ≡ false
-        → rules.failed new ≡ true
+        → KeepsNext old entries true new
+    owed : {new : K}
+        → rules.owing old ≡ false
+        → rules.owing new ≡ true
         → (e : Entry)
         → entries ≡ e ∷ []
-        → rules.fails old e new
+        → rules.owes old e new
+        → KeepsNext old entries false new
+
+  -- What becomes of any keeper as these entries are entered, and whether the reply may be told: as of one
+  -- that owes nothing; or what was owed is kept first; or nothing is entered, and it is owed still. Of
+  -- such the reply may be told where the keeper was not asked.
+  pub data KeepsEntered (old : K) (entries : List Entry) : Bool → K → Type 0 where
+    next : {told : Bool} {new : K}
+        → KeepsNext old entries told new
+        → KeepsEntered old entries told new
+    settled : {told : Bool} {mid new : K}
+        → rules.owing old ≡ true
+        → Settles old mid
+        → KeepsNext mid entries told new
+        → KeepsEntered old entries told new
+    unasked : rules.owing old ≡ true → entries ≡ [] → KeepsEntered old entries true old
+    unsettled : {new : K}
+        → rules.owing old ≡ true
+        → entries ≡ []
+        → OwesStill old new
         → KeepsEntered old entries false new
-    past : rules.failed old ≡ true → KeepsEntered old entries false old
 
   -- from old, the event may be answered by the reply and lead to new, as its entry is kept, and this is
-  -- whether the reply may be told
+  -- whether the reply may be told; only that to a change may not
   pub record StepsKept (old : WithKeeper K) (event : Event) (reply : Reply) (told : Bool)
       (new : WithKeeper K) : Type 0 where
     pub step : Step old.world event reply new.world
     pub keeping : KeepsEntered old.keeper (entered event reply) told new.keeper
+    pub withheld : told ≡ false → says_change event ≡ true

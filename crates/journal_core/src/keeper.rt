@@ -7,28 +7,39 @@ use base_core::Broken;
 use system_core::Entry;
 
 /// What keeps accepted changes, one after another. Each is kept before its reply is written, so
-/// that what was told can be made again.
+/// that what was told can be made again. What could not be kept of a change is owed, and may be
+/// tried again.
 pub trait Keeper {
     // From the first state the entry is kept, and the second is the next.
     ghost keeps: { Self → Entry → Self → Type 0 };
-    // From the first state the entry could not be kept whole, and the second is the next.
-    ghost fails: { Self → Entry → Self → Type 0 };
-    // An entry could not be kept.
-    ghost failed: { Self → Bool };
+    // From the first state the entry was begun, and the second owes what is left of it.
+    ghost owes: { Self → Entry → Self → Type 0 };
+    // What is left of an entry is owed.
+    ghost owing: { Self → Bool };
 
-    /// Whether an entry could not be kept.
-    fn has_failed(&self) -> bool
-        ensures { result ≡ failed self.now };
+    /// Whether what is left of an entry is owed.
+    fn is_owing(&self) -> bool
+        ensures { result ≡ owing self.now };
 
     /// Keeps an entry, of which some line spells the statement. On an `Err` it could not be kept
-    /// whole, and nothing may be kept any more.
+    /// whole, and what is left of it is owed.
     fn keep(&mut self, entry: &Entry) -> Result<(), Broken>
-        requires works { failed self.old ≡ false }
+        requires settled { owing self.old ≡ false }
         requires spelled { (line : List ℕ) × Spells line entry.now.statement }
-        ensures failed { MatchResult result (λ _. failed self.new ≡ false)
-            (λ _. failed self.new ≡ true) }
+        ensures owing { MatchResult result (λ _. owing self.new ≡ false)
+            (λ _. owing self.new ≡ true) }
         ensures ok { OnOk result (keeps self.old entry.now self.new) }
-        ensures err { OnErr result (fails self.old entry.now self.new) };
+        ensures err { OnErr result (owes self.old entry.now self.new) };
+
+    /// Tries to keep what is owed, if anything is. On an `Err` what is left of it is owed still.
+    fn settle(&mut self) -> Result<(), Broken>
+        ensures nothing { owing self.old ≡ false → self.new ≡ self.old }
+        ensures owing { MatchResult result (λ _. owing self.new ≡ false)
+            (λ _. owing self.new ≡ true) }
+        ensures ok { OnOk result ((start : Self) (entry : Entry)
+            → owes start entry self.old → keeps start entry self.new) }
+        ensures err { OnErr result ((start : Self) (entry : Entry)
+            → owes start entry self.old → owes start entry self.new) };
 }
 
 /// Keeps nothing, and costs nothing.
@@ -38,17 +49,22 @@ pub struct NoKeeper;
 impl Keeper for NoKeeper {
     ghost keeps = { λ old e new. Unit {0} };
 
-    ghost fails = { λ old e new. ⊥ };
+    ghost owes = { λ old e new. ⊥ };
 
-    ghost failed = { λ k. false };
+    ghost owing = { λ k. false };
 
     #[inline(always)]
-    fn has_failed(&self) -> bool {
+    fn is_owing(&self) -> bool {
         false
     }
 
     #[inline(always)]
     fn keep(&mut self, _entry: &Entry) -> Result<(), Broken> {
+        Ok(())
+    }
+
+    #[inline(always)]
+    fn settle(&mut self) -> Result<(), Broken> {
         Ok(())
     }
 }

@@ -1,81 +1,178 @@
 //! Changes kept as the lines of a script.
-ghost use Rattle.std.specs.Prelude.{◌≡◌, ◌≤◌, ℕ, List, false, IfOk, length, OnOk, OnErr, MatchResult, true};
+ghost use Rattle.std.specs.Prelude.{◌≡◌, ◌≤◌, ◌<◌, ℕ, List, None, true, false, IfOk, IfErr, length, take, is_some, OnOk, OnErr, MatchResult};
+ghost use Rattle.std.specs.Io.KnownBytes.{Appends};
 ghost use Rattle.reader_core.specs.Language.{Spells};
-ghost use Rattle.journal_core.specs.Keeping.{KeepsLine, FailsLine};
+ghost use Rattle.system_core.specs.declared.machine.event.Entry.{Entry};
+ghost use Rattle.journal_core.specs.Keeping.{LineKeeperState, line_keeper_state, owing_nothing, KeepsLine, OwesLine};
 
 use crate::keeper::Keeper;
-use base_core::{Broken, NoMemory, Sink, write_all};
-use printer_core::Page;
+use crate::unwritten::Unwritten;
+use base_core::{Broken, NoMemory, Resume, Sink};
+use printer_core::{Page, journal_line_is_short};
 use std::alloc::Global;
 use std::marker::Model;
 use system_core::Entry;
 
 /// Writes the line of each change, `user: statement` with its line feed, and has the sink hand it
-/// on before the next. Contracts see the sink.
+/// on before the next. What the sink could not take of a line it tries again. Contracts see the
+/// sink, and what is still to be written of the last line.
 #[derive(Drop)]
 pub struct LineKeeper<W: Sink + Drop> {
     page: Page,
     sink: W,
-    works: bool,
+    unwritten: Unwritten,
 }
 
 impl<W: Sink + Drop> Model for LineKeeper<W> {
-    ghost use Rattle.std.specs.Prelude.{◌≡◌, not};
+    ghost use Rattle.std.specs.Prelude.{◌≡◌, is_some};
+    ghost use Rattle.journal_core.specs.Keeping.{LineKeeperState};
 
-    ghost Value = { W };
+    ghost Value = { LineKeeperState W };
 
-    ghost view = { λ k. k.sink };
+    ghost view = { λ k. record { sink = k.sink; owed = k.unwritten } };
 
-    ghost invariant = { λ k. W.failed k.sink ≡ not k.works };
+    ghost invariant = { λ k. W.failed k.sink ≡ is_some k.unwritten };
 }
 
 impl<W: Sink + Drop> LineKeeper<W> {
-    /// A keeper that writes to this sink. `NoMemory` where the request for a page, of one line, was
+    /// A keeper that writes to this sink. `NoMemory` where a request for room, of a line twice, was
     /// refused.
     pub fn new(alloc: Global, sink: W) -> Result<LineKeeper<W>, NoMemory>
         requires { W.failed sink ≡ false }
-        ensures { IfOk result (λ keeper. keeper ≡ sink) }
+        ensures { IfOk result (λ keeper. keeper ≡ owing_nothing sink) }
     {
         let page = Page::new(alloc)?;
+        let unwritten = Unwritten::new(alloc)?;
         Ok(LineKeeper {
             page,
             sink,
-            works: true,
+            unwritten,
         })
     }
 }
 
-/// Writes the line of an entry, and has the sink hand it on.
-fn write_entry<W: Sink>(page: &mut Page, sink: &mut W, entry: &Entry) -> Result<(), Broken>
-    requires works { W.failed sink.old ≡ false }
-    requires spelled { (line : List ℕ) × Spells line entry.now.statement }
-    ensures failed { MatchResult result (λ _. W.failed sink.new ≡ false)
-        (λ _. W.failed sink.new ≡ true) }
-    ensures ok { OnOk result (KeepsLine W.taken W.handed_on sink.old entry.now sink.new) }
-    ensures err { OnErr result (FailsLine W.taken sink.old entry.now sink.new) }
+/// Writes the bytes as far as the sink takes them, and says how many it took: all exactly if it has
+/// not failed.
+fn write_front<W: Sink>(sink: &mut W, bytes: &[u8]) -> usize
+    requires { W.failed sink.old ≡ false }
+    ensures within { result ≤ length bytes.now }
+    ensures wrote { Appends (W.taken sink.old) (W.taken sink.new) (take result bytes.now) }
+    ensures whole { result ≡ length bytes.now → W.failed sink.new ≡ false }
+    ensures failed { result < length bytes.now → W.failed sink.new ≡ true }
 {
-    // A user's name is one, as its type keeps it.
-    let _ = entry.user.0.as_bytes();
-    write_all(sink, page.line(entry.user, &entry.statement))?;
-    sink.flush()
+    let mut count = 0;
+    while count < bytes.len() {
+        match sink.write(&bytes[count..]) {
+            Ok(more) => count += more,
+            Err(Broken) => return count,
+        }
+    }
+    count
 }
 
-impl<W: Sink + Drop> Keeper for LineKeeper<W> {
-    ghost use Rattle.journal_core.specs.Keeping.{KeepsLine, FailsLine};
+/// Writes the bytes, and has them handed on. Where the sink failed, says how many it took before.
+fn write_through<W: Sink>(sink: &mut W, bytes: &[u8]) -> Result<(), usize>
+    requires { W.failed sink.old ≡ false }
+    ensures failed { MatchResult result (λ _. W.failed sink.new ≡ false)
+        (λ _. W.failed sink.new ≡ true) }
+    ensures ok { OnOk result (Appends (W.taken sink.old) (W.taken sink.new) bytes.now) }
+    ensures handed_on { OnOk result (W.handed_on sink.new ≡ W.taken sink.new) }
+    ensures within { IfErr result (λ count. count ≤ length bytes.now) }
+    ensures err { IfErr result
+        (λ count. Appends (W.taken sink.old) (W.taken sink.new) (take count bytes.now)) }
+{
+    let count = write_front(sink, bytes);
+    if count < bytes.len() {
+        return Err(count);
+    }
+    match sink.flush() {
+        Ok(()) => Ok(()),
+        Err(Broken) => Err(count),
+    }
+}
+
+/// Writes the line of an entry, and has the sink hand it on.
+fn write_entry<W: Sink>(
+    page: &mut Page,
+    sink: &mut W,
+    unwritten: &mut Unwritten,
+    entry: &Entry,
+) -> Result<(), Broken>
+    requires works { W.failed sink.old ≡ false }
+    requires settled { unwritten.old ≡ None }
+    requires spelled { (line : List ℕ) × Spells line entry.now.statement }
+    ensures failed { W.failed sink.new ≡ is_some unwritten.new }
+    ensures owing { MatchResult result (λ _. is_some unwritten.new ≡ false)
+        (λ _. is_some unwritten.new ≡ true) }
+    ensures ok { OnOk result (KeepsLine W.taken W.handed_on
+        (line_keeper_state sink.old unwritten.old) entry.now
+        (line_keeper_state sink.new unwritten.new)) }
+    ensures err { OnErr result (OwesLine W.taken
+        (line_keeper_state sink.old unwritten.old) entry.now
+        (line_keeper_state sink.new unwritten.new)) }
+{
+    // A user's name is one, as its type keeps it, and so the line has room.
+    let _ = entry.user.0.as_bytes();
+    journal_line_is_short();
+    let line = page.line(entry.user, &entry.statement);
+    match write_through(sink, line) {
+        Ok(()) => Ok(()),
+        Err(count) => {
+            unwritten.set(&line[count..]);
+            Err(Broken)
+        }
+    }
+}
+
+/// Writes what is still to be written of a line, and has the sink hand it on.
+fn write_rest<W: Sink + Resume>(sink: &mut W, unwritten: &mut Unwritten) -> Result<(), Broken>
+    requires { is_some unwritten.old ≡ true }
+    ensures failed { W.failed sink.new ≡ is_some unwritten.new }
+    ensures owing { MatchResult result (λ _. is_some unwritten.new ≡ false)
+        (λ _. is_some unwritten.new ≡ true) }
+    ensures ok { OnOk result ((start : LineKeeperState W) (entry : Entry)
+        → OwesLine W.taken start entry (line_keeper_state sink.old unwritten.old)
+        → KeepsLine W.taken W.handed_on start entry
+        (line_keeper_state sink.new unwritten.new)) }
+    ensures err { OnErr result ((start : LineKeeperState W) (entry : Entry)
+        → OwesLine W.taken start entry (line_keeper_state sink.old unwritten.old)
+        → OwesLine W.taken start entry (line_keeper_state sink.new unwritten.new)) }
+{
+    sink.resume();
+    match write_through(sink, unwritten.as_slice()) {
+        Ok(()) => {
+            unwritten.clear();
+            Ok(())
+        }
+        Err(count) => {
+            unwritten.advance(count);
+            Err(Broken)
+        }
+    }
+}
+
+impl<W: Sink + Resume + Drop> Keeper for LineKeeper<W> {
+    ghost use Rattle.std.specs.Prelude.{is_some};
+    ghost use Rattle.journal_core.specs.Keeping.{KeepsLine, OwesLine};
 
     ghost keeps = { KeepsLine W.taken W.handed_on };
 
-    ghost fails = { FailsLine W.taken };
+    ghost owes = { OwesLine W.taken };
 
-    ghost failed = { W.failed };
+    ghost owing = { λ k. is_some k.owed };
 
-    fn has_failed(&self) -> bool {
-        !self.works
+    fn is_owing(&self) -> bool {
+        self.unwritten.is_owed()
     }
 
     fn keep(&mut self, entry: &Entry) -> Result<(), Broken> {
-        let kept = write_entry(&mut self.page, &mut self.sink, entry);
-        self.works = kept.is_ok();
-        kept
+        write_entry(&mut self.page, &mut self.sink, &mut self.unwritten, entry)
+    }
+
+    fn settle(&mut self) -> Result<(), Broken> {
+        if !self.unwritten.is_owed() {
+            return Ok(());
+        }
+        write_rest(&mut self.sink, &mut self.unwritten)
     }
 }

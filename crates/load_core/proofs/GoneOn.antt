@@ -1,6 +1,6 @@
 -- A file that loads a journal, gone on with.
 use Rattle.std.proofs.Common.{◌≡◌, ◌≢◌, ℕ, Bool, true, false, Option, List, [], ◌∷◌, ◌++◌, Ok, length, map, drop, refl, sym, ap, subst, ◌∙◌, append_assoc, append-nil, inl, inr, arith}
-use Rattle.std.specs.Prelude.{◌==◌}
+use Rattle.std.specs.Prelude.{◌==◌, None, is_some}
 use Rattle.std.specs.List.{AllByRecursion}
 use Rattle.std.specs.Str.Lines.{lines, strip_carriage_return}
 use Rattle.std.proofs.lemmas.List.{map-append}
@@ -12,7 +12,7 @@ use Rattle.system_core.specs.Journal.{IsLawfulFrom, IsLawful}
 use Rattle.system_core.specs.World.{World, IsLawfulWorld}
 use Rattle.system_core.specs.declared.machine.event.Entry.{Entry}
 use Rattle.journal_core.specs.Text.{journal_lines, journal_text, WasRead}
-use Rattle.journal_core.specs.Keeping.{KeepsAll, KeepsLine, line_rules}
+use Rattle.journal_core.specs.Keeping.{KeepsAll, LineKeeperState, KeepsLine, line_rules}
 use Rattle.journal_core.proofs.Kept.{kept-text}
 use Rattle.journal_core.specs.Recorder.{with_keeper}
 use Rattle.script_core.specs.Keeping.{EndsKeptFrom}
@@ -49,7 +49,8 @@ parts_behind : (bytes rest : List ℕ) → NoFeed rest → Parts (rest ++ bytes)
 parts_behind [] rest open_rest = record { parts = []; rest = rest; cut = subst (λ (t : List ℕ). Cut t [] rest) (sym (append-nil rest)) (Cut-open rest open_rest) }
 parts_behind (b ∷ bs) rest open_rest = parts_by (b == 10) rest b bs refl open_rest (λ new h. parts_behind bs new h)
 
-whole_cut : (old : List ℕ) → IsWhole old → (parts : List (List ℕ)) × Cut old parts []
+-- whole lines are parts and no rest
+pub whole_cut : (old : List ℕ) → IsWhole old → (parts : List (List ℕ)) × Cut old parts []
 whole_cut old (inl none) = ([], subst (λ (t : List ℕ). Cut t [] []) (sym none) Cut-nil)
 whole_cut old (inr (front, is)) =
     let p = parts_behind front [] tt in
@@ -77,7 +78,8 @@ Loads-append : (limits : Limits) (before mid after : List Entry) (xs ys : List (
 Loads-append limits before mid after [] ys first second = subst (λ (j : List Entry). Loads limits j ys after) first second
 Loads-append limits before mid after (x ∷ xs) ys (e, says, more) second = (e, says, Loads-append limits (before ++ e ∷ []) mid after xs ys more second)
 
-lawful_behind : (limits : Limits) (before front rest : List Entry) → IsLawfulFrom limits before (front ++ rest) → IsLawfulFrom limits (before ++ front) rest
+-- what stands behind lawful entries goes on from them
+pub lawful_behind : (limits : Limits) (before front rest : List Entry) → IsLawfulFrom limits before (front ++ rest) → IsLawfulFrom limits (before ++ front) rest
 lawful_behind limits before [] rest lawful = subst (λ (j : List Entry). IsLawfulFrom limits j rest) (sym (append-nil before)) lawful
 lawful_behind limits before (e ∷ front) rest lawful =
     subst (λ (j : List Entry). IsLawfulFrom limits j rest) (append_assoc before (e ∷ []) front) (lawful_behind limits (before ++ e ∷ []) front rest lawful.2)
@@ -108,25 +110,25 @@ drop-behind [] rest = refl
 drop-behind (x ∷ front) rest = drop-behind front rest
 
 module _ {W : Type 0} (taken handed_on : W → Option (List ℕ)) where
-  kept_were_read : (begun sink : W) (es : List Entry) → KeepsAll (KeepsLine taken handed_on) begun es sink → AllByRecursion WasRead es
-  kept_were_read begun sink [] kept = tt
-  kept_were_read begun sink (e ∷ es) (mid, one, more) = (one.read, kept_were_read mid sink es more)
+  pub kept_were_read : (begun keeper : LineKeeperState W) (es : List Entry) → KeepsAll (KeepsLine taken handed_on) begun es keeper → AllByRecursion WasRead es
+  kept_were_read begun keeper [] kept = tt
+  kept_were_read begun keeper (e ∷ es) (mid, one, more) = (one.read, kept_were_read mid keeper es more)
 
-  kept_behind : (limits : Limits) (old : List ℕ) (start rest : List Entry) (begun sink : W) → KeepsAll (KeepsLine taken handed_on) begun rest sink → IsLawfulFrom limits start rest → IsWhole old → Loads limits [] (lines_unmarked (lines old)) start
-      → CanBeLoadedBehind limits old (taken begun) (taken sink) (start ++ map without_pass rest)
-  kept_behind limits old start rest begun sink kept lawful whole first = record {
+  kept_behind : (limits : Limits) (old : List ℕ) (start rest : List Entry) (begun keeper : LineKeeperState W) → KeepsAll (KeepsLine taken handed_on) begun rest keeper → IsLawfulFrom limits start rest → IsWhole old → Loads limits [] (lines_unmarked (lines old)) start
+      → CanBeLoadedBehind limits old (taken begun.sink) (taken keeper.sink) (start ++ map without_pass rest)
+  kept_behind limits old start rest begun keeper kept lawful whole first = record {
     text = journal_text rest;
-    wrote = kept-text taken handed_on begun sink rest kept;
+    wrote = kept-text taken handed_on begun keeper rest kept;
     whole = whole_text rest;
-    loads = gone_on limits old (journal_text rest) start rest whole first (kept_were_read begun sink rest kept) lawful refl;
+    loads = gone_on limits old (journal_text rest) start rest whole first (kept_were_read begun keeper rest kept) lawful refl;
   }
 
   -- **of a journal that was gone on with**
-  pub kept_on : (limits : Limits) (old : List ℕ) (start rest journal : List Entry) (begun sink : W) → KeepsAll (KeepsLine taken handed_on) begun (drop (length start) journal) sink → journal ≡ start ++ rest → IsLawful limits journal → IsWhole old
-      → Loads limits [] (lines_unmarked (lines old)) start → CanBeLoadedBehind limits old (taken begun) (taken sink) (start ++ map without_pass rest)
-  kept_on limits old start rest journal begun sink kept is lawful whole first =
+  pub kept_on : (limits : Limits) (old : List ℕ) (start rest journal : List Entry) (begun keeper : LineKeeperState W) → KeepsAll (KeepsLine taken handed_on) begun (drop (length start) journal) keeper → journal ≡ start ++ rest → IsLawful limits journal → IsWhole old
+      → Loads limits [] (lines_unmarked (lines old)) start → CanBeLoadedBehind limits old (taken begun.sink) (taken keeper.sink) (start ++ map without_pass rest)
+  kept_on limits old start rest journal begun keeper kept is lawful whole first =
       let behind : drop (length start) journal ≡ rest = ap (drop (length start)) is ∙ drop-behind start rest in
-      kept_behind limits old start rest begun sink (subst (λ (es : List Entry). KeepsAll (KeepsLine taken handed_on) begun es sink) behind kept)
+      kept_behind limits old start rest begun keeper (subst (λ (es : List Entry). KeepsAll (KeepsLine taken handed_on) begun es keeper) behind kept)
       (lawful_behind limits [] start rest (subst (IsLawful limits) is lawful)) whole first
 
   -- ---- of a script that was gone on with
@@ -134,17 +136,16 @@ module _ {W : Type 0} (taken handed_on : W → Option (List ℕ)) where
   said_behind [] rest said = said
   said_behind (e ∷ front) rest said = said_behind front rest said.1
 
-  module _ (failed : W → Bool) where
-    pub script_on : (start new : World) (old : List ℕ) (sink sink' : W) (traffic : Traffic) → failed sink ≡ false → IsLawfulWorld start → IsWhole old → Loads start.limits [] (lines_unmarked (lines old)) start.journal
-        → EndsKeptFrom (line_rules taken handed_on failed) start (Ok new) sink sink' traffic
-        → CanBeLoadedBehind start.limits old (taken sink) (taken sink') new.journal
-    script_on start new old sink sink' traffic works lawful whole first ends =
-        let began : Said start.limits start = (lawful, loaded_said start.limits [] start.journal (lines_unmarked (lines old)) first tt, refl) in
-        let said : Said start.limits new = ends-said (line_rules taken handed_on failed) start.limits (Ok tt) (with_keeper start sink) (with_keeper new sink') traffic began ends.1 in
-        let k = grown-kept (line_rules taken handed_on failed) start new sink sink' traffic works ends in
-        let rest = k.entries in
-        let all : AllByRecursion WasSaid (start.journal ++ rest) = subst (AllByRecursion WasSaid) k.journal said.1 in
-        let lawful_then : IsLawful start.limits (start.journal ++ rest) = subst (λ (l : Limits). IsLawful l (start.journal ++ rest)) said.2 (subst (IsLawful new.limits) k.journal said.0.journal) in
-        let loaded = kept_behind start.limits old start.journal rest sink sink' k.kept (lawful_behind start.limits [] start.journal rest lawful_then) whole first in
-        let same : start.journal ++ map without_pass rest ≡ new.journal = ap (λ (es : List Entry). start.journal ++ es) (no_pass rest (said_behind start.journal rest all)) ∙ sym k.journal in
-        subst (λ (j : List Entry). CanBeLoadedBehind start.limits old (taken sink) (taken sink') j) same loaded
+  pub script_on : (start new : World) (old : List ℕ) (keeper keeper' : LineKeeperState W) (traffic : Traffic) → keeper.owed ≡ None → IsLawfulWorld start → IsWhole old → Loads start.limits [] (lines_unmarked (lines old)) start.journal
+      → EndsKeptFrom (line_rules taken handed_on) start (Ok new) keeper keeper' traffic
+      → CanBeLoadedBehind start.limits old (taken keeper.sink) (taken keeper'.sink) new.journal
+  script_on start new old keeper keeper' traffic nothing lawful whole first ends =
+      let began : Said start.limits start = (lawful, loaded_said start.limits [] start.journal (lines_unmarked (lines old)) first tt, refl) in
+      let said : Said start.limits new = ends-said (line_rules taken handed_on) start.limits (Ok tt) (with_keeper start keeper) (with_keeper new keeper') traffic began ends.1 in
+      let k = grown-kept (line_rules taken handed_on) start new keeper keeper' traffic (ap is_some nothing) ends in
+      let rest = k.entries in
+      let all : AllByRecursion WasSaid (start.journal ++ rest) = subst (AllByRecursion WasSaid) k.journal said.1 in
+      let lawful_then : IsLawful start.limits (start.journal ++ rest) = subst (λ (l : Limits). IsLawful l (start.journal ++ rest)) said.2 (subst (IsLawful new.limits) k.journal said.0.journal) in
+      let loaded = kept_behind start.limits old start.journal rest keeper keeper' k.kept (lawful_behind start.limits [] start.journal rest lawful_then) whole first in
+      let same : start.journal ++ map without_pass rest ≡ new.journal = ap (λ (es : List Entry). start.journal ++ es) (no_pass rest (said_behind start.journal rest all)) ∙ sym k.journal in
+      subst (λ (j : List Entry). CanBeLoadedBehind start.limits old (taken keeper.sink) (taken keeper'.sink) j) same loaded

@@ -12,3 +12,4 @@ pub mod PassedOver
 pub mod ReplayEnds
 pub mod ReplayInput
 pub mod GoneOn
+pub mod CutEnd

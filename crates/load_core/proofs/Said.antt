@@ -28,7 +28,7 @@ use Rattle.script_core.specs.Addressed.{colon, spoken_by, addressed_by, addresse
 use Rattle.script_core.specs.Script.{AnswersLine, faulty, said, unread, Follows, stepped, gave_up}
 use Rattle.journal_core.specs.Recorder.{WithKeeper}
 use Rattle.journal_core.specs.declared.keeper.Keeper.{Ghosts}
-use Rattle.script_core.specs.Keeping.{AnswersKept, over, answered, withheld, has_failed}
+use Rattle.script_core.specs.Keeping.{AnswersKept, over, answered, withheld, is_owing}
 use Rattle.journal_core.specs.Text.{WasRead}
 use Rattle.load_core.specs.Loading.{without_pass}
 
@@ -114,10 +114,10 @@ module _ {K : Type 0} (rules : Ghosts K) where
 
   -- **what is entered by lines that are answered was read from them**
   pub ends-said : (limits : Limits) (ending : Result (Unit {0}) SessionFault) (old new : WithKeeper K) (traffic : Traffic)
-      → Said limits old.world → Ends (AnswersKept rules) (has_failed rules) ending old new traffic → Said limits new.world
+      → Said limits old.world → Ends (AnswersKept rules) (is_owing rules) ending old new traffic → Said limits new.world
   ends-said limits ending old new traffic s e =
       (ends-seen (AnswersKept rules) (AnswersKept rules) (λ x. x) (λ (x : WithKeeper K). Said limits x.world)
-      (λ x y line text i r. (r, kept-said limits x y line text i r)) (has_failed rules) (has_failed rules) (λ x. refl) ending old new traffic s e).1
+      (λ x y line text i r. (r, kept-said limits x y line text i r)) (is_owing rules) (is_owing rules) (λ x. refl) ending old new traffic s e).1
 
 -- an entry through pass 0 is what a line says of it
 pub no_pass : (journal : List Entry) → AllByRecursion WasSaid journal → map without_pass journal ≡ journal

@@ -31,9 +31,13 @@ whole_line bytes h = ap (λ (t : Bool). if t then take (length bytes - 1) bytes 
 line_high : (e : Entry) (read : WasRead e) → All IsHigh (journal_line e.user e.statement)
 line_high e read = high_by e.user e.statement read.line read.spelled read.name (nat_le (length (whole e.user e.statement)) 4096)
 
+-- a line of it has no line feed
+pub line_open : (e : Entry) → WasRead e → NoFeed (journal_line e.user e.statement)
+line_open e read = no_feed (journal_line e.user e.statement) (line_high e read)
+
 each_open : (journal : List Entry) → AllByRecursion WasRead journal → AllByRecursion NoFeed (journal_lines journal)
 each_open [] read = tt
-each_open (e ∷ es) read = (no_feed (journal_line e.user e.statement) (line_high e read.0), each_open es read.1)
+each_open (e ∷ es) read = (line_open e read.0, each_open es read.1)
 
 each_whole : (journal : List Entry) → AllByRecursion WasRead journal → map strip_carriage_return (journal_lines journal) ≡ journal_lines journal
 each_whole [] read = refl

@@ -1,17 +1,17 @@
 //! Laws of loading, each the contract of a function that does nothing.
-ghost use Rattle.std.specs.Prelude.{◌≡◌, ◌++◌, ℕ, List, [], length, map, drop, Option, false, Ok};
+ghost use Rattle.std.specs.Prelude.{◌≡◌, ◌++◌, ℕ, List, [], ◌∷◌, length, map, drop, Option, None, false, Ok};
 ghost use Rattle.std.specs.List.{AllByRecursion};
 ghost use Rattle.std.specs.Str.Lines.{lines};
 ghost use Rattle.base_core.specs.declared.limits.Limits.{Limits};
 ghost use Rattle.lines_core.specs.Serving.{Traffic};
 ghost use Rattle.system_core.specs.Journal.{IsLawful, IsLawfulFrom};
 ghost use Rattle.system_core.specs.declared.machine.event.Entry.{Entry};
-ghost use Rattle.journal_core.specs.Text.{journal_lines, journal_text, WasRead};
+ghost use Rattle.journal_core.specs.Text.{entry_text, journal_lines, journal_text, WasRead};
 ghost use Rattle.system_core.specs.World.{World, IsLawfulWorld};
 ghost use Rattle.lines_core.specs.Lines.{IsWhole};
-ghost use Rattle.journal_core.specs.Keeping.{KeepsAll, KeepsLine, line_rules};
+ghost use Rattle.journal_core.specs.Keeping.{KeepsAll, LineKeeperState, KeepsLine, OwesLine, line_rules};
 ghost use Rattle.script_core.specs.Keeping.{EndsKept, EndsKeptFrom};
-ghost use Rattle.load_core.specs.Kept.{CanBeLoaded, CanBeLoadedBehind};
+ghost use Rattle.load_core.specs.Kept.{CanBeLoaded, CanBeLoadedBehind, LoadsCutEnd, CanBeLoadedCut};
 ghost use Rattle.load_core.specs.Loading.{Loads, SaysChange, IsUndone, lines_unmarked, without_pass};
 ghost use Rattle.load_core.specs.Replaying.{is_out_of_memory};
 ghost use Rattle.load_core.specs.declared.fault.Undone.{Undone};
@@ -34,11 +34,10 @@ pub fn journal_is_loaded()
 /// A script whose changes are kept as lines is as good as its file: what the sink took is a text of
 /// whole lines, which load the journal that the script left, whatever else its lines said.
 pub fn script_is_kept<W: Sink>()
-    ensures { (chunk : ℕ) (new : World) (sink sink' : W) (traffic : Traffic)
-        → W.failed sink ≡ false
-        → EndsKept (line_rules W.taken W.handed_on W.failed) chunk (Ok new)
-        sink sink' traffic
-        → CanBeLoaded new.limits (W.taken sink) (W.taken sink') new.journal }
+    ensures { (chunk : ℕ) (new : World) (keeper keeper' : LineKeeperState W) (traffic : Traffic)
+        → keeper.owed ≡ None
+        → EndsKept (line_rules W.taken W.handed_on) chunk (Ok new) keeper keeper' traffic
+        → CanBeLoaded new.limits (W.taken keeper.sink) (W.taken keeper'.sink) new.journal }
 {}
 
 /// No line that says a change which is allowed is left out: whatever a line came to that was not
@@ -68,26 +67,58 @@ pub fn gone_on_is_kept()
 /// file, is as good as the file with them: what the sink took is a text of whole lines, and with it
 /// the file loads the core's journal, each of its new entries but for its pass.
 pub fn kept_goes_on<W: Sink>()
-    ensures { (limits : Limits) (old : List ℕ) (start rest journal : List Entry) (begun sink : W)
-        → KeepsAll (KeepsLine W.taken W.handed_on) begun (drop (length start) journal) sink
+    ensures { (limits : Limits) (old : List ℕ) (start rest journal : List Entry)
+        (begun keeper : LineKeeperState W)
+        → KeepsAll (KeepsLine W.taken W.handed_on) begun (drop (length start) journal) keeper
         → journal ≡ start ++ rest
         → IsLawful limits journal
         → IsWhole old
         → Loads limits [] (lines_unmarked (lines old)) start
-        → CanBeLoadedBehind limits old (W.taken begun) (W.taken sink)
+        → CanBeLoadedBehind limits old (W.taken begun.sink) (W.taken keeper.sink)
         (start ++ map without_pass rest) }
 {}
 
 /// And so is a script that goes on from a core that was loaded, whose changes are kept as lines
 /// behind the file.
 pub fn gone_on_script_is_kept<W: Sink>()
-    ensures { (start new : World) (old : List ℕ) (sink sink' : W)
+    ensures { (start new : World) (old : List ℕ) (keeper keeper' : LineKeeperState W)
         (traffic : Traffic)
-        → W.failed sink ≡ false
+        → keeper.owed ≡ None
         → IsLawfulWorld start
         → IsWhole old
         → Loads start.limits [] (lines_unmarked (lines old)) start.journal
-        → EndsKeptFrom (line_rules W.taken W.handed_on W.failed) start (Ok new)
-        sink sink' traffic
-        → CanBeLoadedBehind start.limits old (W.taken sink) (W.taken sink') new.journal }
+        → EndsKeptFrom (line_rules W.taken W.handed_on) start (Ok new) keeper keeper' traffic
+        → CanBeLoadedBehind start.limits old (W.taken keeper.sink) (W.taken keeper'.sink)
+        new.journal }
+{}
+
+/// A file whose last line was broken off at any byte loads what was told. Behind a file that loads a
+/// journal stands the text of entries that could be read and were allowed, one after another, and
+/// then a front of the text of one more. Its whole lines, which [`load_whole`](crate::load_whole)
+/// reads, load the journal with the entries; and only if nothing is missing, the one more behind
+/// them.
+pub fn cut_end_is_kept()
+    ensures { (limits : Limits) (old front missing : List ℕ) (start entries : List Entry)
+        (e : Entry)
+        → IsWhole old
+        → Loads limits [] (lines_unmarked (lines old)) start
+        → AllByRecursion WasRead (entries ++ e ∷ [])
+        → IsLawfulFrom limits start (entries ++ e ∷ [])
+        → entry_text e ≡ front ++ missing
+        → LoadsCutEnd limits (old ++ journal_text entries ++ front)
+        (start ++ map without_pass entries) e missing }
+{}
+
+/// And so does a file behind which a keeper kept changes as lines, and owes what is left of one more.
+/// With what its sink took, the file's whole lines load the journal that was kept; and only if it took
+/// all of that line, behind the journal the one change that is owed, of which nobody was told.
+pub fn told_is_loaded<W: Sink>()
+    ensures { (limits : Limits) (old : List ℕ) (start kept : List Entry) (e : Entry)
+        (begun mid keeper : LineKeeperState W)
+        → KeepsAll (KeepsLine W.taken W.handed_on) begun kept mid
+        → OwesLine W.taken mid e keeper
+        → IsLawful limits (start ++ kept ++ e ∷ [])
+        → IsWhole old
+        → Loads limits [] (lines_unmarked (lines old)) start
+        → CanBeLoadedCut limits old (W.taken begun.sink) (W.taken keeper.sink) start kept e }
 {}

@@ -34,8 +34,9 @@
 //! names and no verdict asks: the law [`journal_is_loaded`]. So what a script kept as lines is as
 //! good as the core that it left: the law [`script_is_kept`]. A file that loads a journal and is gone
 //! on with loads what that came to: the laws [`gone_on_is_kept`], [`kept_goes_on`] and
-//! [`gone_on_script_is_kept`]. No line that says an allowed change is left out: the law
-//! [`nothing_allowed_is_left_out`].
+//! [`gone_on_script_is_kept`]. If its last line was broken off, at any byte, its whole lines load what
+//! was told: the laws [`cut_end_is_kept`] and [`told_is_loaded`]. No line that says an allowed change is
+//! left out: the law [`nothing_allowed_is_left_out`].
 //!
 //! # Mechanism
 //!
@@ -66,8 +67,8 @@ mod whole;
 pub use fault::{LoadFault, Undone};
 pub use fault_text::load_fault_text;
 pub use laws::{
-    gone_on_is_kept, gone_on_script_is_kept, journal_is_loaded, kept_goes_on,
-    nothing_allowed_is_left_out, script_is_kept,
+    cut_end_is_kept, gone_on_is_kept, gone_on_script_is_kept, journal_is_loaded, kept_goes_on,
+    nothing_allowed_is_left_out, script_is_kept, told_is_loaded,
 };
 pub use loader::enter_line;
 pub use loading::{Loaded, load, load_or_text, load_whole, load_whole_or_text};

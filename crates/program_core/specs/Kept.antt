@@ -3,8 +3,7 @@ use Rattle.std.specs.Prelude.{◌≡◌, ℕ, Bool, true, false, List, Option, N
 use Rattle.std.specs.Option.{is_some}
 use Rattle.lines_core.specs.Serving.{Traffic}
 use Rattle.system_core.specs.World.{World}
-use Rattle.system_core.specs.declared.machine.event.Entry.{Entry}
-use Rattle.journal_core.specs.Keeping.{line_rules, no_rules}
+use Rattle.journal_core.specs.Keeping.{owing_nothing, line_rules, no_rules}
 use Rattle.journal_core.specs.declared.keeper.NoKeeper.{NoKeeper}
 use Rattle.script_core.specs.Keeping.{EndsKeptFrom}
 use Rattle.desk_core.specs.Guarded.{origin_at}
@@ -28,8 +27,13 @@ system_of (places.Lines left) = left.system
 abbrev pub nobody : NoKeeper
 nobody = record {}
 
--- Of the sink of a journal, `taken`, `handed_on` and `failed` are those of base_core's `Sink`.
-module _ {W : Type 0} (taken handed_on : W → Option (List ℕ)) (failed : W → Bool) where
+-- whether what is left of the last change is owed to the journal
+abbrev pub owes_a_change : {W : Type 0} → Kept W → Bool
+owes_a_change (places.Nowhere left) = false
+owes_a_change (places.Lines left) = is_some left.keeper.owed
+
+-- Of the sink of a journal, `taken` and `handed_on` are those of base_core's `Sink`.
+module _ {W : Type 0} (taken handed_on : W → Option (List ℕ)) where
   -- From this start lines were answered, to their end. Where there is a journal, each change was kept
   -- in it before its reply was written. Of the lines, `left` is what is to come; of what is written,
   -- `written` is what was given to the writer.
@@ -41,11 +45,11 @@ module _ {W : Type 0} (taken handed_on : W → Option (List ℕ)) (failed : W �
   IsAnswered start traffic (places.Lines ended) =
       (sink : W)
       × (start.journal ≡ Some sink)
-      × EndsKeptFrom (line_rules taken handed_on failed)
-      start.system (Ok ended.system) sink ended.keeper traffic
+      × EndsKeptFrom (line_rules taken handed_on)
+      start.system (Ok ended.system) (owing_nothing sink) ended.keeper traffic
 
-  -- From this start so many workers served so many sessions. The journal, if there is one and it has
-  -- not failed, kept each change since then, from the state on in which it was handed in.
+  -- From this start so many workers served so many sessions. The journal, if there is one, kept each
+  -- change since then, from the state on in which it was handed in; or what is left of the last is owed.
   abbrev pub IsServed : (workers sessions : ℕ) → Start W → Kept W → Type 0
   IsServed workers sessions start (places.Nowhere ended) =
       (start.journal ≡ None)
@@ -53,8 +57,8 @@ module _ {W : Type 0} (taken handed_on : W → Option (List ℕ)) (failed : W �
   IsServed workers sessions start (places.Lines ended) =
       (sink : W)
       × (start.journal ≡ Some sink)
-      × Leaves workers sessions sink start.system ended.system
-      × HasKept (line_rules taken handed_on failed) (origin_at start.system sink)
+      × Leaves workers sessions (owing_nothing sink) start.system ended.system
+      × HasKept (line_rules taken handed_on) (origin_at start.system (owing_nothing sink))
       ended.system.journal ended.keeper
 
   -- the same from some start, which has a journal exactly where one is named

@@ -1,9 +1,10 @@
 //! What lines or sessions leave, and what kept their changes.
 ghost use Rattle.std.specs.Prelude.{◌≡◌, false, IfOk};
-ghost use Rattle.program_core.specs.Kept.{system_of};
+ghost use Rattle.journal_core.specs.Keeping.{owing_nothing};
+ghost use Rattle.program_core.specs.Kept.{system_of, owes_a_change};
 
-use base_core::{NoMemory, Sink};
-use journal_core::{LineKeeper, NoKeeper};
+use base_core::{NoMemory, Resume, Sink};
+use journal_core::{Keeper, LineKeeper, NoKeeper};
 use lines_core::{NO_MEMORY, give_up};
 use run_core::Left;
 use std::mem::forget;
@@ -31,6 +32,18 @@ impl<W: Sink + Drop> Kept<W> {
     }
 }
 
+impl<W: Sink + Resume + Drop> Kept<W> {
+    /// Whether what is left of the last change is owed to the journal.
+    pub fn is_owing(&self) -> bool
+        ensures { result ≡ owes_a_change self.now }
+    {
+        match self {
+            Kept::Nowhere(_) => false,
+            Kept::Lines(left) => left.keeper.is_owing(),
+        }
+    }
+}
+
 /// What a run or a server left, and the status that it ended with.
 #[derive(Drop)]
 pub struct Ended<W: Sink + Drop> {
@@ -54,7 +67,7 @@ impl<W: Sink + Drop> Ended<W> {
 /// which is told.
 pub fn line_keeper<W: Sink + Drop>(rt: &HostRuntime, sink: W) -> Result<LineKeeper<W>, ExitCode>
     requires { W.failed sink ≡ false }
-    ensures { IfOk result (λ keeper. keeper ≡ sink) }
+    ensures { IfOk result (λ keeper. keeper ≡ owing_nothing sink) }
 {
     match LineKeeper::new(rt.alloc(), sink) {
         Ok(keeper) => Ok(keeper),

@@ -1,6 +1,7 @@
 //! The commands of the program: what each of them does between files, streams and the core.
 //!
-//! [`run`] answers the lines of standard input, [`serve`] sessions over TCP, which [`stop`] ends;
+//! [`run`] answers the lines of standard input, and [`serve`] sessions of clients, which [`stop`] ends
+//! and of which [`status`] tells;
 //! [`journal`] and [`dump`] write again what lines leave, and [`explained`] says why somebody holds a
 //! right that they make. A command gives the status that the process is to end with. Its error is a
 //! status too: that of a fault, which it has told on standard error.
@@ -24,21 +25,29 @@
 //! back with the process, and is not taken apart.
 #![tactic(auto)]
 
+mod calls;
 mod controls;
 mod end_of_input;
+mod entrances;
 mod explaining;
+mod figures;
 mod files;
 mod keeping;
+mod lent;
 mod listening;
 mod loading;
 mod mending;
 mod naming;
+mod reading_time;
 mod recording;
 mod replaying;
+mod report;
 mod running;
+mod socket_files;
 
 pub use controls::stop;
 pub use explaining::explained;
+pub use figures::status;
 pub use files::JournalSink;
 pub use keeping::{Ended, Kept};
 pub use listening::serve;

@@ -1,4 +1,4 @@
-//! Sessions over TCP.
+//! Sessions of clients.
 ghost use Rattle.std.specs.Prelude.{◌≡◌, false, IfOk, IfSome};
 ghost use Rattle.command_core.specs.Ranges.{IsInRange};
 ghost use Rattle.command_core.specs.declared.command_line.CommandLine.TheVariants.{Serve};
@@ -9,57 +9,46 @@ ghost use Rattle.load_core.specs.Ready.{IsReady};
 ghost use Rattle.program_core.specs.Kept.{IsServed, ServesFrom};
 
 use crate::controls::{Controls, controls_of};
+use crate::entrances;
+use crate::entrances::{Opened, entrance_of};
 use crate::files::{DumpSink, JournalSink, dump_file, sync};
 use crate::keeping::{Ended, Kept, line_keeper};
 use crate::loading::{Start, begun};
 use crate::naming::{Named, apart_from_each_other};
+use crate::reading_time::tell_reading;
 use crate::recording::dump_to;
-use base_core::Sink;
+use base_core::{Resume, Sink};
 use command_core::Serving;
 use journal_core::{Keeper, NoKeeper};
 use lines_core::{NO_MEMORY, SessionFault, fault_text, give_up};
 use run_core::{Left, status_of};
-use server_core::{Manners, ServeFault, Taken};
+use script_core::{ScriptFault, script_fault_text};
+use server_core::{Entrance, Manners, ServeFault, Taken};
 use serving_core::{Served, serve_on};
-use std::fs;
 use std::mem::forget;
-use std::net::TcpListener;
 use std::process::ExitCode;
 use std::sync::Wait;
 use std::thread::Threads;
-use std::time::{Clock, Duration};
+use std::time::{Clock, Duration, Instant};
 use system_core::System;
-
-/// Listens at the port of this machine, and says so.
-fn listener_at(host: &HostRuntime, port: u16) -> Result<TcpListener, ExitCode> {
-    let Ok(listener) = TcpListener::bind(host, ("127.0.0.1", port)) else {
-        let _ = eprintln!(host; "sysr: cannot listen on {port}");
-        return Err(ExitCode::FAILURE);
-    };
-    if println!(host; "listening on {port}").is_err() {
-        return Err(give_up(host, fault_text(SessionFault::Write)));
-    }
-    Ok(listener)
-}
 
 /// What is told of a fault that ended a server.
 fn serve_fault_text(fault: ServeFault) -> &'static str {
     match fault {
         ServeFault::Accept => "sysr: accept fault",
         ServeFault::NoMemory => NO_MEMORY,
-        ServeFault::Journal => "sysr: journal fault",
     }
 }
 
-/// Serves the sessions that are asked for at the listener, from this core on, whose changes are kept,
+/// Serves the sessions that are asked for at the entrance, from this core on, whose changes are kept,
 /// or until it is told to stop, and gives what they left, and how many they were. The error is the
 /// status, where the server ended by a fault, which is told.
 fn served<R, K>(
     host: &HostRuntime,
     rt: &R,
     asked: Serving<'_>,
-    listener: &TcpListener,
-    controls: &Controls,
+    entrance: &Entrance,
+    controls: &Controls<'_>,
     system: System,
     keeper: K,
 ) -> Result<(Left<K>, Taken), ExitCode>
@@ -68,7 +57,7 @@ where
     K: Keeper + Drop + Send,
     requires range { IsInRange (Serve asked) }
     requires ready { IsReady system }
-    requires works { K.failed keeper ≡ false }
+    requires settled { K.owing keeper ≡ false }
     ensures count { IfOk result
         (λ b. b.1.stopped ≡ false → b.1.sessions ≡ asked.entry.sessions) }
     ensures leaves { IfOk result
@@ -79,12 +68,14 @@ where
     let manners = Manners {
         idle: asked.idle.map(Duration::from_secs),
         log: asked.log,
+        denials: asked.log_denials,
+        times: asked.log_time,
     };
     let mut err = host.stderr();
     let served = serve_on(
         rt,
         host.alloc(),
-        listener,
+        entrance,
         asked.workers,
         asked.sessions,
         system,
@@ -106,35 +97,35 @@ where
     }
 }
 
-/// Serves the sessions that are asked for at the listener, and keeps each change in the journal, if
+/// Serves the sessions that are asked for at the entrance, and keeps each change in the journal, if
 /// there is one. The error is the status, where the server ended by a fault, which is told.
 fn kept<R, W>(
     host: &HostRuntime,
     rt: &R,
     asked: Serving<'_>,
-    listener: &TcpListener,
-    controls: &Controls,
+    entrance: &Entrance,
+    controls: &Controls<'_>,
     begun: Start<W>,
 ) -> Result<(Kept<W>, Taken), ExitCode>
 where
     R: Threads + Wait + Clock + Sync,
-    W: Sink + Drop + Send,
+    W: Sink + Resume + Drop + Send,
     requires range { IsInRange (Serve asked) }
     requires ready { IsReady begun.system }
     requires works { IfSome begun.journal (λ sink. W.failed sink ≡ false) }
     ensures count { IfOk result
         (λ b. b.1.stopped ≡ false → b.1.sessions ≡ asked.entry.sessions) }
-    ensures served { IfOk result (λ b. IsServed W.taken W.handed_on W.failed
+    ensures served { IfOk result (λ b. IsServed W.taken W.handed_on
         asked.entry.workers b.1.sessions begun b.0) }
 {
     let Start { system, journal } = begun;
     let Some(sink) = journal else {
-        let (left, taken) = served(host, rt, asked, listener, controls, system, NoKeeper)?;
+        let (left, taken) = served(host, rt, asked, entrance, controls, system, NoKeeper)?;
         return Ok((Kept::Nowhere(left), taken));
     };
     match line_keeper(host, sink) {
         Ok(keeper) => {
-            let (left, taken) = served(host, rt, asked, listener, controls, system, keeper)?;
+            let (left, taken) = served(host, rt, asked, entrance, controls, system, keeper)?;
             Ok((Kept::Lines(left), taken))
         }
         Err(status) => {
@@ -168,6 +159,17 @@ fn tell_end(
     Ok(status_of(host, system, asked.audit))
 }
 
+/// This status; or where what is left of a change is owed to the journal, that of a fault, which is told.
+fn status_kept<W>(host: &HostRuntime, kept: &Kept<W>, status: ExitCode) -> ExitCode
+where
+    W: Sink + Resume + Drop,
+{
+    if kept.is_owing() {
+        return give_up(host, script_fault_text(ScriptFault::Journal));
+    }
+    status
+}
+
 /// Writes the dump. Where it cannot be written whole, what was gathered of it is not written.
 fn write_state(host: &HostRuntime, system: &System, sink: DumpSink) -> Result<(), ExitCode>
     requires { sink.failed ≡ false }
@@ -197,27 +199,29 @@ fn dump_of(host: &HostRuntime, named: Named<'_>) -> Result<Option<DumpSink>, Exi
     }
 }
 
-/// Serves the sessions that are asked for, and tells the end, where the files are open.
+/// Serves the sessions that are asked for, and tells the end, where the files are open. To load what was
+/// loaded began then, if the clock says it.
 fn listen_and_serve<R, W>(
     host: &HostRuntime,
     rt: &R,
     asked: Serving<'_>,
+    since: Option<Instant>,
     begun: Start<W>,
     dump: Option<DumpSink>,
 ) -> Result<(Ended<W>, Taken), ExitCode>
 where
     R: Threads + Wait + Clock + Sync,
-    W: Sink + Drop + Send,
+    W: Sink + Resume + Drop + Send,
     requires range { IsInRange (Serve asked) }
     requires ready { IsReady begun.system }
     requires works { IfSome begun.journal (λ sink. W.failed sink ≡ false) }
     requires dump { IfSome dump (λ sink. sink.failed ≡ false) }
     ensures count { IfOk result
         (λ b. b.1.stopped ≡ false → b.1.sessions ≡ asked.entry.sessions) }
-    ensures served { IfOk result (λ b. IsServed W.taken W.handed_on W.failed
+    ensures served { IfOk result (λ b. IsServed W.taken W.handed_on
         asked.entry.workers b.1.sessions begun b.0.kept) }
 {
-    let (controls, listener) = match heard_and_served(host, rt, asked) {
+    let (controls, opened) = match heard_and_served(host, rt, asked, since) {
         Ok(opened) => opened,
         Err(status) => {
             // The process ends here, and its memory goes back as a whole.
@@ -225,28 +229,31 @@ where
             return Err(status);
         }
     };
-    let (kept, taken) = kept(host, rt, asked, &listener, &controls, begun)?;
+    let (kept, taken) = kept(host, rt, asked, &opened.entrance, &controls, begun)?;
     let status = match tell_end(host, asked, taken.sessions, kept.system(), dump) {
         Ok(status) | Err(status) => status,
     };
-    if let Some(path) = asked.control {
-        let _ = fs::remove_file(host, path);
-    }
+    let status = status_kept(host, &kept, status);
+    entrances::remove(host, asked.control);
+    entrances::remove(host, opened.made);
     Ok((Ended { kept, status }, taken))
 }
 
-/// What listens to who may tell the server to stop, and to its clients. It says at which port.
-fn heard_and_served<R: Threads>(
-    host: &HostRuntime,
+/// What listens to who may tell the server to stop, and to its clients. It says where; and before that how
+/// long it took to load a file, if one was loaded, which began then.
+fn heard_and_served<'a, R: Threads + Clock>(
+    host: &'a HostRuntime,
     rt: &R,
-    asked: Serving<'_>,
-) -> Result<(Controls, TcpListener), ExitCode> {
+    asked: Serving<'a>,
+    since: Option<Instant>,
+) -> Result<(Controls<'a>, Opened<'a>), ExitCode> {
+    tell_reading(host, rt, asked.load, since)?;
     let controls = controls_of(host, rt, asked)?;
-    let listener = listener_at(host, asked.port)?;
-    Ok((controls, listener))
+    let opened = entrance_of(host, asked)?;
+    Ok((controls, opened))
 }
 
-/// Serves the sessions that are asked for, or until it is told to stop. It says at which port it
+/// Serves the sessions that are asked for, or until it is told to stop. It says where it
 /// listens, and at the end how many sessions it served, and how an audit ended. What they left is given
 /// too, and how many they were.
 pub fn serve<R>(
@@ -260,7 +267,7 @@ where
     ensures count { IfOk result
         (λ b. b.1.stopped ≡ false → b.1.sessions ≡ asked.entry.sessions) }
     ensures served { IfOk result (λ b. ServesFrom ⟦<JournalSink as Sink>⟧.taken
-        ⟦<JournalSink as Sink>⟧.handed_on ⟦<JournalSink as Sink>⟧.failed
+        ⟦<JournalSink as Sink>⟧.handed_on
         asked.entry.workers b.1.sessions asked.entry.journal b.0.kept) }
 {
     let named = Named {
@@ -269,9 +276,10 @@ where
         dump: asked.dump,
     };
     apart_from_each_other(host, named)?;
+    let since = Instant::now(rt).ok();
     let begun = begun(host, named, asked.chunk, asked.limits)?;
     match dump_of(host, named) {
-        Ok(dump) => listen_and_serve(host, rt, asked, begun, dump),
+        Ok(dump) => listen_and_serve(host, rt, asked, since, begun, dump),
         Err(status) => {
             forget(begun);
             Err(status)

@@ -8,7 +8,7 @@ use crate::files::JournalSink;
 use crate::keeping::{Ended, Kept, line_keeper};
 use crate::loading::{Start, begun};
 use crate::naming::{Named, apart_from_each_other};
-use base_core::{Sink, Source};
+use base_core::{Resume, Sink, Source};
 use command_core::Running;
 use journal_core::NoKeeper;
 use run_core::{answered, input, output, status_of};
@@ -17,7 +17,7 @@ use std::process::ExitCode;
 
 /// Answers the reader's lines, and keeps each change in the journal, if there is one. The error is
 /// the status, where it ended by a fault, which is told.
-fn kept<S: Source, R: Sink, W: Sink + Drop>(
+fn kept<S: Source, R: Sink, W: Sink + Resume + Drop>(
     rt: &HostRuntime,
     reader: &mut S,
     writer: &mut R,
@@ -26,7 +26,7 @@ fn kept<S: Source, R: Sink, W: Sink + Drop>(
     requires source { S.failed reader.old ≡ false }
     requires sink { R.failed writer.old ≡ false }
     requires works { IfSome begun.journal (λ sink. W.failed sink ≡ false) }
-    ensures { IfOk result (IsAnswered W.taken W.handed_on W.failed begun
+    ensures { IfOk result (IsAnswered W.taken W.handed_on begun
         (traffic_of (S.left reader.old) (S.left reader.new)
         (R.taken writer.old) (R.taken writer.new))) }
 {

@@ -30,7 +30,7 @@ pub fn answered<S: Source, W: Sink, K: Keeper + Drop>(
 ) -> Result<Left<K>, ExitCode>
     requires source { S.failed reader.old ≡ false }
     requires sink { W.failed writer.old ≡ false }
-    requires works { K.failed keeper ≡ false }
+    requires settled { K.owing keeper ≡ false }
     ensures { IfOk result (λ left. EndsKeptFrom K.Keeper begins (Ok left.system)
         keeper left.keeper (traffic_of (S.left reader.old) (S.left reader.new)
         (W.taken writer.old) (W.taken writer.new))) }

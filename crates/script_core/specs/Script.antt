@@ -1,5 +1,5 @@
 -- What may be written for a script's line and for the step of the checkpointer after it.
-use Rattle.std.specs.Prelude.{◌≡◌, ◌++◌, ℕ, [], Bool, true, false, List, Option, Result, Ok, Err}
+use Rattle.std.specs.Prelude.{◌≡◌, ◌++◌, ℕ, [], Bool, true, false, List, Result, Ok, Err}
 use Rattle.base_core.specs.Full.{IsFull}
 use Rattle.base_core.specs.declared.name.User.{User}
 use Rattle.base_core.specs.declared.limits.Limits.{Limits}

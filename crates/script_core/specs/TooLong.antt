@@ -1,5 +1,5 @@
 -- Lines that are too long are answered alike.
-use Rattle.std.specs.Prelude.{◌≡◌, ◌<◌, ℕ, Bool, List, length, Err}
+use Rattle.std.specs.Prelude.{◌≡◌, ◌<◌, ℕ, List, length, Err}
 use Rattle.std.proofs.Common.{arith, sym, ◌∙◌}
 use Rattle.std.proofs.lemmas.Bool.Decides.{nat_tests}
 use Rattle.base_core.specs.declared.name.User.{User}
@@ -9,7 +9,6 @@ use Rattle.lexer_core.specs.declared.lexer.TheConstants.{MAX_LINE}
 use Rattle.reader_core.specs.declared.statement.Statement.{Statement}
 use Rattle.lines_core.specs.declared.line.TheConstants.{LONGEST_LINE}
 use Rattle.system_core.specs.World.{World}
-use Rattle.system_core.specs.declared.machine.event.Entry.{Entry}
 use Rattle.script_core.specs.Addressed.{addressed_up_to, IsAddressed, Asks, IsFaulty, address, statement}
 use Rattle.script_core.specs.Script.{AnswersLine, Answers, faulty, said, unread}
 use Rattle.journal_core.specs.Recorder.{WithKeeper}

@@ -35,39 +35,39 @@ pub fn one_output()
 /// they are its journal.
 pub fn what_was_told_is_kept<K: Keeper>()
     ensures front { (old new : WithKeeper K) (lines : List (List ℕ)) (text : List ℕ)
-        → K.failed old.keeper ≡ false
+        → K.owing old.keeper ≡ false
         → AnswersAll (AnswersKept K.Keeper) old lines text new
         → AnswersFront K.Keeper old lines text new }
     ensures grown { (start new : World) (keeper keeper' : K)
         (traffic : Traffic)
-        → K.failed keeper ≡ false
+        → K.owing keeper ≡ false
         → EndsKeptFrom K.Keeper start (Ok new) keeper keeper'
         traffic
         → KeepsNew K.Keeper (with_keeper start keeper) (with_keeper new keeper') }
     ensures journal { (chunk : ℕ) (new : World) (keeper keeper' : K)
         (traffic : Traffic)
-        → K.failed keeper ≡ false
+        → K.owing keeper ≡ false
         → EndsKept K.Keeper chunk (Ok new) keeper keeper' traffic
         → KeepsAll K.keeps keeper new.journal keeper' }
 {}
 
-/// A keeper that never fails, as [`NoKeeper`](journal_core::NoKeeper), changes nothing: whatever ends with it
+/// A keeper that never owes, as [`NoKeeper`](journal_core::NoKeeper), changes nothing: whatever ends with it
 /// ends as a script without one, and never for want of it.
 pub fn keeping_changes_nothing<K: Keeper>()
     ensures ok { (chunk : ℕ) (new : World) (keeper keeper' : K)
         (traffic : Traffic)
-        → ((k : K) → K.failed k ≡ false)
+        → ((k : K) → K.owing k ≡ false)
         → EndsKept K.Keeper chunk (Ok new) keeper keeper' traffic
         → EndsScript chunk (Ok new) traffic }
     ensures fault { (chunk : ℕ) (fault : SessionFault) (keeper keeper' : K)
         (traffic : Traffic)
-        → ((k : K) → K.failed k ≡ false)
+        → ((k : K) → K.owing k ≡ false)
         → EndsKept K.Keeper chunk (Err (ScriptFault.Session fault)) keeper keeper'
         traffic
         → EndsScript chunk (Err fault) traffic }
     ensures journal { (chunk : ℕ) (keeper keeper' : K)
         (traffic : Traffic)
-        → ((k : K) → K.failed k ≡ false)
+        → ((k : K) → K.owing k ≡ false)
         → EndsKept K.Keeper chunk (Err ScriptFault.Journal) keeper keeper'
         traffic
         → ⊥ }

@@ -22,7 +22,7 @@
 //! script makes when it starts, and the tokens of each line stand in one vector.
 //!
 //! As long as memory suffices the output is one; what was told is kept; and with a keeper that never
-//! fails a script ends as without one (laws of [`laws`]).
+//! owes a script ends as without one (laws of [`laws`]).
 //!
 //! A line costs its bytes once, what its statement costs in the core, and the bytes of its answer.
 #![tactic(auto)]

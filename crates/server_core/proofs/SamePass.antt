@@ -1,5 +1,5 @@
 -- Sessions keep the pass that they go through.
-use Rattle.std.proofs.Common.{ℕ, List, Option, refl, ◌∙◌, inl, inr}
+use Rattle.std.proofs.Common.{refl, ◌∙◌, inl, inr}
 use Rattle.std.specs.Prelude.{Result, Ok, Err}
 use Rattle.lines_core.specs.Serving.{Traffic}
 use Rattle.session_core.specs.declared.session_end.SessionEnd.{SessionEnd}

@@ -1,6 +1,6 @@
 -- What becomes of the passes of a server: a worker's goes through sessions, the checkpointer's
 -- through looks at the active checkpoint, and nothing else is done through them.
-use Rattle.std.specs.Prelude.{◌≡◌, ℕ, ◌+◌, List, [], ◌∷◌, ◌++◌, map, sum_by, All, Option, Some}
+use Rattle.std.specs.Prelude.{◌≡◌, ℕ, ◌+◌, List, [], ◌∷◌, ◌++◌, map, sum_by, All, Some}
 use Rattle.lines_core.specs.Serving.{Traffic}
 use Rattle.turnstile.specs.Logs.{StartsWith}
 use Rattle.turnstile.specs.Closed.{AreAll}
@@ -9,7 +9,7 @@ use Rattle.system_core.specs.World.{World}
 use Rattle.desk_core.specs.Guarded.{DeskLock, DeskPass, origin_of, origin_at}
 use Rattle.desk_core.specs.Turns.{Ended}
 use Rattle.session_core.specs.declared.summary.Summary.{Summary}
-use Rattle.session_core.specs.Checking.{HasChecked}
+use Rattle.session_core.specs.Checking.{LooksRepeatedly}
 use Rattle.session_core.specs.Session.{EndsSession}
 
 -- the pass is one of this desk
@@ -67,7 +67,8 @@ IsWorkers journal desk worker =
 
 -- since the desk was built, the pass looked after checkpoints, and nothing else was done
 abbrev pub IsCheckpointers : {K : Type 0} → List Entry → DeskLock K → DeskPass K → Type 0
-IsCheckpointers journal desk pass = HasChecked desk (new_pass journal desk pass.number) pass
+IsCheckpointers journal desk pass =
+    LooksRepeatedly desk (new_pass journal desk pass.number) pass
 
 -- passes of workers, who served so many sessions in all, and behind them the checkpointer's
 pub record AreServers {K : Type 0} (journal : List Entry) (desk : DeskLock K) (sessions : ℕ)

@@ -1,5 +1,5 @@
 -- What a server's log says of sessions.
-use Rattle.std.specs.Prelude.{ℕ, Bool, true, false, List, ◌++◌, codes, decimal, Option, Some, None}
+use Rattle.std.specs.Prelude.{ℕ, Bool, true, List, ◌++◌, codes, decimal, Option, Some, None}
 use Rattle.base_core.specs.declared.name.User.{User}
 use Rattle.base_core.specs.declared.value.Moment.{Moment}
 use Rattle.lines_core.specs.declared.serving.SessionFault.TheVariants as faults
@@ -30,6 +30,11 @@ plain_fault ended = codes "session fault: " ++ (end_name ended ++ codes "\n")
 -- the line of a session that begins
 abbrev pub begun_text : ℕ → List ℕ → List ℕ
 begun_text number peer = of_session number (codes " begun: peer " ++ (peer ++ codes "\n"))
+
+-- the line of a statement of this user that was denied so
+abbrev pub denied_text : ℕ → User → List ℕ → List ℕ
+denied_text number user reply =
+    of_session number (codes " user " ++ (user.0 ++ (codes ": " ++ reply)))
 
 -- `-` stands for a user whom nobody named
 abbrev pub user_text : Option User → List ℕ

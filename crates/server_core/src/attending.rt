@@ -2,10 +2,12 @@
 ghost use Rattle.std.specs.Prelude.{◌≡◌, None, Some, Err};
 ghost use Rattle.server_core.specs.Sessions.{IsOf, Attends};
 
+use crate::counting::Counting;
+use crate::door::Guest;
 use crate::keepalive::keep_alive;
-use crate::permit::{Counting, Permit, Yielding};
-use crate::permits::Permits;
-use crate::sign::Sign;
+use crate::log::Log;
+use crate::permit::{Permit, Yielding};
+use crate::service::Service;
 use crate::timed::Timed;
 use crate::until_stopped::UntilStopped;
 use base_core::{StdSink, StdSource};
@@ -16,9 +18,9 @@ use session_core::{SessionEnd, SessionFault, Summary, serve_session};
 use std::alloc::Global;
 use std::cell::Cell;
 use std::io::{BufWriter, Read};
-use std::net::{Shutdown, TcpListener, TcpStream};
+use std::net::{Shutdown, TcpStream};
 use std::sync::Wait;
-use std::time::Duration;
+use std::time::{Clock, Duration};
 
 // What is gathered of a session's replies before it is written.
 const OUTPUT_BYTES: usize = 65536;
@@ -64,33 +66,31 @@ fn unserved() -> Summary
 }
 
 /// Serves one session to its end, through the pass and through nothing else. A read or a write that
-/// waits for longer than `idle` is its fault, and is noted as late; and so is the end of its input
-/// where the server was stopped, which is noted too. Where a reply was withheld, the
-/// listener is closed before the client can see that the session ended. No permit is held before and
-/// behind the call.
-pub(crate) fn attend<K: Keeper + Drop, R: Wait>(
+/// waits for longer than the service lets it is its fault, and is noted as late; and so is the end of
+/// its input where the server was stopped, which is noted too. No permit is held before and behind the
+/// call.
+pub(crate) fn attend<K: Keeper + Drop, R: Wait + Clock, G: Log>(
     rt: &R,
     alloc: Global,
     desk: &Desk<K>,
     pass: &mut Pass<K>,
-    stream: &TcpStream,
-    listener: &TcpListener,
-    sign: &Sign,
-    permits: &Permits,
-    idle: Option<Duration>,
+    guest: &Guest,
+    service: &Service<'_>,
+    log: &G,
     is_late: &Cell<bool>,
     was_stopped: &Cell<bool>,
 ) -> Summary
     requires { IsOf desk.now pass.old }
     ensures { Attends desk.now result pass.old pass.new }
 {
+    let (stream, sign) = (&guest.stream, &service.sign);
     // A stream that refuses such a setting serves as well.
     let _ = stream.set_nodelay(true);
-    let _ = stream.set_read_timeout(idle);
-    let _ = stream.set_write_timeout(idle);
+    let _ = stream.set_read_timeout(service.idle);
+    let _ = stream.set_write_timeout(service.idle);
     keep_alive(stream);
     sign.enter(rt, stream);
-    let permit = Permit::new(rt, permits);
+    let permit = Permit::new(rt, &service.permits);
     let output = Yielding::new(&permit, Timed::new(is_late, Steady::new(stream)));
     let Ok(buffered) = BufWriter::with_capacity(alloc, OUTPUT_BYTES, output) else {
         sign.leave(rt, stream);
@@ -100,13 +100,10 @@ pub(crate) fn attend<K: Keeper + Drop, R: Wait>(
     let input = Yielding::new(&permit, UntilStopped::new(sign, was_stopped, timed));
     let mut reader = StdSource::new(input);
     let mut writer = StdSink::new(buffered);
-    let gate = Counting::new(&permit);
+    let gate = Counting::new(rt, &permit, &service.counters, log, guest.number);
     let summary = serve_session(rt, alloc, desk, pass, &mut reader, &mut writer, &gate);
     permit.rest();
     sign.leave(rt, stream);
-    if let Err(SessionEnd::Journal) = summary.ended {
-        sign.close(listener);
-    }
     let_go(stream);
     summary
 }

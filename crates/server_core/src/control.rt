@@ -1,15 +1,11 @@
 //! Who says that a server is to end, and what comes of it.
 
+use crate::counters::Counters;
 use crate::door::Door;
-use crate::sign::Sign;
-use std::net::TcpListener;
+use crate::service::Service;
 use std::sync::ledger::Ledger;
 use std::sync::{Mutex, Wait};
-use std::thread;
-use std::time::{Clock, Duration};
-
-// How many milliseconds it waits before it listens again.
-const PAUSE_MILLIS: u64 = 40;
+use std::time::{Clock, Duration, Instant};
 
 /// What is said to a server.
 #[derive(Clone, Copy, Debug, PartialEq, Eq)]
@@ -20,48 +16,58 @@ pub enum Order {
     Cut,
 }
 
-/// Who may say that a server is to end.
+/// Who may say that a server is to end, and may ask how it fares.
 pub trait Control {
     /// Whether anyone may.
     fn listens(&self) -> bool;
 
-    /// What was said since the last call, if anything was. It does not wait.
-    fn heard(&self) -> Option<Order>;
+    /// What was said since the last call, if anything was. It waits for some milliseconds at most
+    /// until something is, and answers who asks how the server fares.
+    fn heard(&self, counters: &Counters) -> Option<Order>;
 
     /// How many seconds sessions have to end, once a server is stopped, before they are cut.
     fn grace(&self) -> u64;
 }
 
-/// What has been ordered so far: how many pauses are left before sessions are cut, once stopped.
+/// Whether the server was told to stop, and from when on sessions are cut, where that could be
+/// reckoned.
 #[derive(Clone, Copy)]
 struct Ordered {
-    pauses: Option<u64>,
+    is_stopped: bool,
+    cut_at: Option<Instant>,
+}
+
+fn behind<R: Clock>(rt: &R, seconds: u64) -> Option<Instant> {
+    Instant::now(rt)
+        .ok()?
+        .checked_add(Duration::from_secs(seconds))
 }
 
 impl Ordered {
     /// Carries an order out. A second one cuts.
-    fn carry_out<L: Ledger, R: Wait, C: Control>(
+    fn carry_out<L: Ledger, R: Wait + Clock, C: Control>(
         &mut self,
         rt: &R,
-        listener: &TcpListener,
+        service: &Service<'_>,
         door: &Mutex<Door<L>>,
-        sign: &Sign,
         control: &C,
     ) {
-        if self.pauses.is_some() {
-            return sign.cut(rt);
+        if self.is_stopped {
+            return service.sign.cut(rt);
         }
-        sign.stop(rt, listener);
+        service.sign.stop(rt, service.entrance);
         door.lock(rt).stop();
-        self.pauses = Some(control.grace().saturating_mul(1000) / PAUSE_MILLIS);
+        self.is_stopped = true;
+        self.cut_at = behind(rt, control.grace());
     }
 
-    /// A pause has passed. With the last one sessions are cut.
-    fn pass<R: Wait>(&mut self, rt: &R, sign: &Sign) {
-        match self.pauses {
-            Some(0) => sign.cut(rt),
-            Some(pauses) => self.pauses = Some(pauses - 1),
-            None => {}
+    /// Cuts sessions once the grace is over.
+    fn look_at_the_clock<R: Wait + Clock>(&self, rt: &R, service: &Service<'_>) {
+        if let Some(cut_at) = self.cut_at
+            && let Ok(now) = Instant::now(rt)
+            && now >= cut_at
+        {
+            service.sign.cut(rt);
         }
     }
 }
@@ -71,27 +77,28 @@ impl Ordered {
 /// at a second word, or once the grace is over, it is cut.
 pub fn watch<L: Ledger, R: Wait + Clock, C: Control>(
     rt: &R,
-    listener: &TcpListener,
+    service: &Service<'_>,
     door: &Mutex<Door<L>>,
-    sign: &Sign,
     workers: u64,
     control: &C,
 ) {
     if !control.listens() {
         return;
     }
-    let mut ordered = Ordered { pauses: None };
+    let mut ordered = Ordered {
+        is_stopped: false,
+        cut_at: None,
+    };
     for _ in rt.forever() {
-        if sign.left() >= workers {
+        if service.sign.left() >= workers {
             return;
         }
-        match control.heard() {
-            Some(Order::Stop) => ordered.carry_out(rt, listener, door, sign, control),
-            Some(Order::Cut) => sign.cut(rt),
+        match control.heard(&service.counters) {
+            Some(Order::Stop) => ordered.carry_out(rt, service, door, control),
+            Some(Order::Cut) => service.sign.cut(rt),
             None => {}
         }
-        ordered.pass(rt, sign);
-        thread::sleep(rt, Duration::from_millis(PAUSE_MILLIS));
+        ordered.look_at_the_clock(rt, service);
     }
     unreachable!()
 }

@@ -2,11 +2,11 @@
 ghost use Rattle.std.specs.Prelude.{◌≡◌, ◌+◌, ◌<◌, Some, None, false, IsSome, IfOk, IfSome, IfNone};
 ghost use Rattle.server_core.specs.Door.{IsOpen};
 
-use crate::accepting::{accept, close};
+use crate::entrance::{Entrance, Peer};
 use crate::fault::{ServeFault, Shut};
 use crate::sign::Sign;
 use std::marker::Model;
-use std::net::{SocketAddr, TcpListener, TcpStream};
+use std::net::TcpStream;
 use std::sync::Wait;
 use std::sync::ledger::{Book, Ledger, Share};
 use std::time::Clock;
@@ -15,7 +15,7 @@ use std::time::Clock;
 #[derive(Drop)]
 pub struct Guest {
     pub stream: TcpStream,
-    pub peer: SocketAddr,
+    pub peer: Peer,
     pub number: u64,
 }
 
@@ -118,13 +118,13 @@ impl<L: Ledger> Door<L> {
     }
 
     /// Takes the next session, if one is wanted, and waits for it. None is taken once the door was
-    /// shut, as many were taken as are wanted, or the sign says so; it is shut with `Accept` where the
-    /// listener is gone or was closed. Behind the last that is wanted it closes the listener, so that
-    /// further clients are refused.
+    /// shut, as many were taken as are wanted, or the sign says so; it is shut with `Accept` where a
+    /// listener is gone. Behind the last that is wanted it closes the entrance, so that further clients
+    /// are refused.
     pub fn admit<R: Wait + Clock>(
         &mut self,
         rt: &R,
-        listener: &TcpListener,
+        entrance: &Entrance,
         sign: &Sign,
         token: &mut Share<L>,
     ) -> Option<Guest>
@@ -140,7 +140,7 @@ impl<L: Ledger> Door<L> {
         if self.shut.is_some() || self.taken >= self.wanted || sign.is_closed() {
             return None;
         }
-        let Some((stream, peer)) = accept(rt, listener) else {
+        let Some((stream, peer)) = entrance.accept(rt, sign) else {
             if !sign.is_closed() {
                 self.shut(ServeFault::Accept);
             }
@@ -152,7 +152,7 @@ impl<L: Ledger> Door<L> {
         self.count(token);
         let number = self.taken;
         if number >= self.wanted {
-            close(listener);
+            entrance.close();
         }
         Some(Guest {
             stream,

@@ -5,10 +5,8 @@ use base_core::NoMemory;
 /// Why not all sessions were served.
 #[derive(Clone, Copy, Debug, PartialEq, Eq)]
 pub enum ServeFault {
-    /// The listener is gone, so that no session can be accepted.
+    /// A listener is gone, so that no session can be accepted.
     Accept,
-    /// A change could not be kept.
-    Journal,
     /// A request for memory was refused, or a thread could not be started.
     NoMemory,
 }

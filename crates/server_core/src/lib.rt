@@ -13,7 +13,7 @@
 //! let (book, mut rest) = blank.open::<L>();                      // one part for each worker
 //! let door = Mutex::new(Door::new(100, book));
 //! let worker = Worker::new(pass, rest.split_off(1, 0));
-//! let worker = work(&rt, alloc, &desk, worker, &listener, &door, &sign, &permits, None, &log);
+//! let worker = work(&rt, alloc, &desk, worker, &service, &door, &log);
 //! let (pass, token) = worker.into_parts();
 //! rest.merge(token);
 //! door.into_inner().served(100, rest)?.sessions                  // 100
@@ -24,24 +24,25 @@
 //! The door stands behind a lock, and who has the lock accepts the next session. So no session
 //! waits in the program, none is lost on the way to a worker, and the program has at most one
 //! socket for each worker. A server keeps the lock until all threads have started: where one can't
-//! be started, no session is taken. An accept that fails is made again after 50 milliseconds; only
-//! where the listener itself is gone no further session is taken.
+//! be started, no session is taken. He waits at all listeners of the [`Entrance`] at once. An accept
+//! that fails is made again after 50 milliseconds; only where a listener itself is gone no further
+//! session is taken.
 //!
 //! A server that is to end is told so by a [`Control`], which [`watch`] asks while workers serve. The
-//! listener is then shut down, and so is each session's connection for reading: it answers the lines
+//! entrance is then closed, and each session's connection is shut for reading: it answers the lines
 //! that it was sent by then, and the front of a line that was not sent whole is nothing. A second word,
-//! or the end of the grace, shuts the connections for writing too.
+//! or the end of the grace, shuts the connections for writing too. A control sees the [`Counters`] of what
+//! was said and answered, and nothing of the desk.
 //!
 //! The door adds one to the token of the worker whom it admits a session, and has counted as many in
 //! its book; once all parts of the token are back, both are compared, by proof.
 //!
 //! A session that has ended is shut for writing and then read for a while, since to close a socket
 //! with unread bytes would take the last replies from the client. A fault of a session ends that
-//! session, and is told on the error stream, which takes no memory. One of which a reply was withheld,
-//! since a change could not be kept, ends the server: the [`Sign`] says so, and the listener is shut
-//! down, before the client can see that its session ended. That wakes who waits in an accept; who
-//! waits for the door's lock sees the sign; and who connects is refused. The listener is shut down,
-//! too, behind the last session that is wanted.
+//! session, and is told on the error stream, which takes no memory; so is that of one whose change
+//! could not be kept, and others go on. Behind the last session that is wanted the entrance is closed,
+//! so that who connects is refused. Listeners that a supervisor has lent stay open: who connects then
+//! waits for the next server.
 //!
 //! With more threads than processors at the desk most would sleep there, and be woken for each turn.
 //! So a session answers lines while it holds one of the [`Permits`], which are fewer, and reads and
@@ -60,16 +61,21 @@
 //! costs some five atomic steps for each piece of input.
 #![tactic(auto)]
 
-mod accepting;
 mod attending;
+mod clock;
 mod control;
+mod counters;
+mod counting;
 mod door;
+mod entrance;
 mod fault;
 mod keepalive;
 mod log;
 mod manners;
 mod permit;
 mod permits;
+mod polling;
+mod service;
 mod sign;
 mod telling;
 mod timed;
@@ -77,10 +83,14 @@ mod until_stopped;
 mod worker;
 
 pub use control::{Control, Order, watch};
+pub use counters::{Counters, KINDS};
 pub use door::{Door, Guest, Taken};
+pub use entrance::{Entrance, Peer};
 pub use fault::{ServeFault, Shut};
 pub use log::{Log, SharedLog};
 pub use manners::Manners;
 pub use permits::Permits;
+pub use polling::wait_for_any;
+pub use service::Service;
 pub use sign::Sign;
 pub use worker::{Worker, work};

@@ -1,43 +1,64 @@
 //! What is told of sessions, by any thread.
+use crate::clock::time_text;
 use crate::door::Guest;
-use crate::telling::{begun_line, ended_line, numbered_fault, plain_fault};
-use base_core::NoMemory;
+use crate::entrance::Peer;
+use crate::telling::{begun_line, denied_line, ended_line, numbered_fault, plain_fault};
+use base_core::{NoMemory, User};
+use reply_core::reply_text;
 use session_core::{SessionEnd, Summary};
 use std::alloc::Global;
 use std::io::Write;
 use std::sync::{Mutex, Wait};
+use std::time::Clock;
+use system_core::Reply;
 
 /// Where sessions are told of. It is a trait so that no closure of a thread holds a `&mut`: of one
 /// that does, no caller learns what it ensures. A failure to tell is forgotten.
 pub trait Log {
     /// Tells that a session begins.
-    fn begun<R: Wait>(&self, rt: &R, guest: &Guest);
+    fn begun<R: Wait + Clock>(&self, rt: &R, guest: &Guest);
 
     /// Tells why a session ended before its input did, and whether its client took too long.
-    fn fault<R: Wait>(&self, rt: &R, guest: &Guest, ended: SessionEnd, is_late: bool);
+    fn fault<R: Wait + Clock>(&self, rt: &R, guest: &Guest, ended: SessionEnd, is_late: bool);
 
     /// Tells that a session ended, and what is told of it.
-    fn ended<R: Wait>(&self, rt: &R, guest: &Guest, summary: &Summary);
+    fn ended<R: Wait + Clock>(&self, rt: &R, guest: &Guest, summary: &Summary);
+
+    /// Tells what the desk denied the user of the session of this number.
+    fn denied<R: Wait + Clock>(&self, rt: &R, number: u64, user: &User, reply: &Reply);
 }
 
 /// A writer that threads share. Faults are told always. Where sessions begin and end is told only if
 /// it is so said; then faults are told with the session's number and, of an idle client, as such,
-/// unless there was no memory for that.
+/// unless there was no memory for that. Denials are told only if it is so said, and so is the time of
+/// day before each line.
 #[derive(Drop)]
 pub struct SharedLog<'a, W> {
     pub alloc: Global,
     pub writer: Mutex<&'a mut W>,
     pub sessions: bool,
+    pub denials: bool,
+    pub times: bool,
 }
 
 impl<'a, W: Write> SharedLog<'a, W> {
-    /// Writes a line by one call. A fault of the log can be told nowhere.
-    fn write<R: Wait>(&self, rt: &R, line: &[u8]) {
-        let _ = self.writer.lock(rt).write_all(line);
+    /// Writes a line by one call, behind the time of day, if that is told. A fault of the log can be told
+    /// nowhere.
+    fn write<R: Wait + Clock>(&self, rt: &R, line: &[u8]) {
+        let time = if self.times {
+            time_text(rt, self.alloc)
+        } else {
+            None
+        };
+        let mut writer = self.writer.lock(rt);
+        if let Some(time) = time {
+            let _ = write!(*writer, "{time} ");
+        }
+        let _ = writer.write_all(line);
     }
 
     /// Writes a line by one call, if there was memory for it.
-    fn write_made<R: Wait>(&self, rt: &R, line: Result<Vec<u8>, NoMemory>) {
+    fn write_made<R: Wait + Clock>(&self, rt: &R, line: Result<Vec<u8>, NoMemory>) {
         if let Ok(line) = line {
             self.write(rt, line.as_slice());
         }
@@ -46,8 +67,10 @@ impl<'a, W: Write> SharedLog<'a, W> {
 
 /// The client's address as text.
 fn peer_text(alloc: Global, guest: &Guest) -> Result<String, NoMemory> {
-    let peer = guest.peer;
-    Ok(format!(in alloc; "{peer}")?)
+    match guest.peer {
+        Peer::Address(address) => Ok(format!(in alloc; "{address}")?),
+        Peer::Local => Ok(format!(in alloc; "local")?),
+    }
 }
 
 fn begun(alloc: Global, guest: &Guest) -> Result<Vec<u8>, NoMemory> {
@@ -60,14 +83,19 @@ fn ended(alloc: Global, guest: &Guest, summary: &Summary) -> Result<Vec<u8>, NoM
     ended_line(alloc, guest.number, peer.as_str(), summary)
 }
 
+fn denied(alloc: Global, number: u64, user: &User, reply: &Reply) -> Result<Vec<u8>, NoMemory> {
+    let said = reply_text(alloc, reply)?;
+    denied_line(alloc, number, user, said.as_slice())
+}
+
 impl<'a, W: Write> Log for SharedLog<'a, W> {
-    fn begun<R: Wait>(&self, rt: &R, guest: &Guest) {
+    fn begun<R: Wait + Clock>(&self, rt: &R, guest: &Guest) {
         if self.sessions {
             self.write_made(rt, begun(self.alloc, guest));
         }
     }
 
-    fn fault<R: Wait>(&self, rt: &R, guest: &Guest, ended: SessionEnd, is_late: bool) {
+    fn fault<R: Wait + Clock>(&self, rt: &R, guest: &Guest, ended: SessionEnd, is_late: bool) {
         if self.sessions
             && let Ok(line) = numbered_fault(self.alloc, guest.number, ended, is_late)
         {
@@ -76,9 +104,15 @@ impl<'a, W: Write> Log for SharedLog<'a, W> {
         self.write(rt, plain_fault(ended).as_bytes());
     }
 
-    fn ended<R: Wait>(&self, rt: &R, guest: &Guest, summary: &Summary) {
+    fn ended<R: Wait + Clock>(&self, rt: &R, guest: &Guest, summary: &Summary) {
         if self.sessions {
             self.write_made(rt, ended(self.alloc, guest, summary));
+        }
+    }
+
+    fn denied<R: Wait + Clock>(&self, rt: &R, number: u64, user: &User, reply: &Reply) {
+        if self.denials {
+            self.write_made(rt, denied(self.alloc, number, user, reply));
         }
     }
 }

@@ -8,4 +8,8 @@ pub struct Manners {
     pub idle: Option<Duration>,
     /// Whether the beginning and the end of each session are told.
     pub log: bool,
+    /// Whether it is told who was denied what.
+    pub denials: bool,
+    /// Whether each line of the log begins with the time of day.
+    pub times: bool,
 }

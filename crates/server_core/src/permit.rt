@@ -2,7 +2,6 @@
 ghost use Rattle.std.specs.Prelude.{◌≡◌};
 
 use crate::permits::Permits;
-use base_core::{Gate, Moment};
 use std::cell::Cell;
 use std::io::{Read, Result, Write};
 use std::sync::Wait;
@@ -49,7 +48,7 @@ impl<'a, R: Wait> Permit<'a, R> {
     }
 
     /// Behind a line that was answered: the session runs, and behind so many lines lets another run.
-    fn count_line(&self) {
+    pub(crate) fn count_line(&self) {
         self.run();
         let lines = self.lines.get().saturating_add(1);
         if lines < QUANTUM {
@@ -104,29 +103,5 @@ impl<'a, R: Wait, T: Write> Write for Yielding<'a, R, T> {
     fn flush(&mut self) -> Result<()> {
         self.permit.rest();
         self.stream.flush()
-    }
-}
-
-/// A gate that counts the lines of a session, which does not run while it writes records.
-#[derive(Drop)]
-pub(crate) struct Counting<'a, R: Wait> {
-    permit: &'a Permit<'a, R>,
-}
-
-impl<'a, R: Wait> Counting<'a, R> {
-    pub(crate) fn new(permit: &'a Permit<'a, R>) -> Counting<'a, R> {
-        Counting { permit }
-    }
-}
-
-impl<'a, R: Wait> Gate for Counting<'a, R> {
-    fn before_record(&self, _given: u64) {
-        self.permit.rest();
-    }
-
-    fn before_step(&self, _left: u64) {}
-
-    fn answered(&self, _at: Option<Moment>) {
-        self.permit.count_line();
     }
 }

@@ -1,10 +1,10 @@
 //! The sign that no further session is taken, and the connections of those that run.
 
-use crate::accepting::close;
+use crate::entrance::Entrance;
 use base_core::NoMemory;
 use libc::net::{SHUT_RD, SHUT_RDWR};
 use std::alloc::Global;
-use std::net::{TcpListener, TcpStream};
+use std::net::TcpStream;
 use std::os::fd::AsRawFd;
 use std::sync::atomic::{AtomicBool, AtomicU64, Ordering};
 use std::sync::{Mutex, Wait};
@@ -33,11 +33,11 @@ impl Sign {
         })
     }
 
-    /// No further session is taken. Who waits for one at the listener is woken at once, and who
+    /// No further session is taken. Who waits for one at the entrance is woken at once, and who
     /// connects from now on is refused.
-    pub fn close(&self, listener: &TcpListener) {
+    pub fn close(&self, entrance: &Entrance) {
         self.is_closed.store(true, Ordering::SeqCst);
-        close(listener);
+        entrance.close();
     }
 
     /// Whether the door was shut.
@@ -47,9 +47,9 @@ impl Sign {
 
     /// As [`close`](Sign::close). Besides each session that runs has no more input than it was sent by
     /// now: it answers the lines of that, and ends.
-    pub fn stop<R: Wait>(&self, rt: &R, listener: &TcpListener) {
+    pub fn stop<R: Wait>(&self, rt: &R, entrance: &Entrance) {
         self.is_stopped.store(true, Ordering::SeqCst);
-        self.close(listener);
+        self.close(entrance);
         self.shut_all(rt, SHUT_RD);
     }
 

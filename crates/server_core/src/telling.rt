@@ -1,6 +1,6 @@
 //! The lines of a log, each in new memory.
 ghost use Rattle.std.specs.Prelude.{◌≡◌, ◌++◌, IfOk, OnOk};
-ghost use Rattle.server_core.specs.Telling.{fault_cause, numbered_fault, plain_fault, begun_text, counts_text, moment_text, user_text, ended_text};
+ghost use Rattle.server_core.specs.Telling.{fault_cause, numbered_fault, plain_fault, begun_text, counts_text, denied_text, moment_text, user_text, ended_text};
 
 use base_core::{Moment, NoMemory, User};
 use itoa::Buffer;
@@ -61,6 +61,26 @@ pub(crate) fn begun_line(alloc: Global, number: u64, peer: &str) -> Result<Vec<u
     text.extend_from_slice(b" begun: peer ")?;
     text.extend_from_slice(peer.as_bytes())?;
     text.push(b'\n')?;
+    Ok(text)
+}
+
+/// `session n user u: ` and the reply.
+pub(crate) fn denied_line(
+    alloc: Global,
+    number: u64,
+    user: &User,
+    reply: &[u8],
+) -> Result<Vec<u8>, NoMemory>
+    ensures { IfOk result (λ text. text.items ≡ denied_text number user.now reply.now) }
+{
+    let mut digits = Buffer::new();
+    let mut text = Vec::new(alloc);
+    text.extend_from_slice(b"session ")?;
+    text.extend_from_slice(digits.format(number).as_bytes())?;
+    text.extend_from_slice(b" user ")?;
+    text.extend_from_slice(user.0.as_bytes())?;
+    text.extend_from_slice(b": ")?;
+    text.extend_from_slice(reply)?;
     Ok(text)
 }
 

@@ -4,20 +4,16 @@ ghost use Rattle.server_core.specs.Sessions.{IsOf, Attended};
 
 use crate::attending::attend;
 use crate::door::Door;
-use crate::fault::ServeFault;
 use crate::log::Log;
-use crate::permits::Permits;
-use crate::sign::Sign;
+use crate::service::Service;
 use desk_core::{Desk, Pass};
 use journal_core::Keeper;
-use session_core::SessionEnd;
 use std::alloc::Global;
 use std::cell::Cell;
 use std::marker::Model;
-use std::net::TcpListener;
 use std::sync::ledger::{Ledger, Share};
 use std::sync::{Mutex, Wait};
-use std::time::{Clock, Duration};
+use std::time::Clock;
 
 /// Who serves sessions: his pass of the desk, and the token that counts the sessions which he was
 /// admitted. Contracts see the pass, and how many sessions it counts.
@@ -60,21 +56,18 @@ impl<K: Keeper + Drop, L: Ledger> Worker<K, L> {
 }
 
 /// Takes sessions one by one and serves each through the worker's pass, until all are taken or no
-/// further one is. Nothing else is done through it, and it counts just these sessions. The permits say
-/// how many sessions run at once. A session ends with a fault whose client sends nothing for as long
-/// as `idle` says, or takes nothing; without it a session waits. One of which a reply was withheld,
-/// since a change could not be kept, closes the listener and shuts the door: no further session is
-/// taken by anyone, and those that run end at their next statement.
+/// further one is. Nothing else is done through it, and it counts just these sessions. The permits of
+/// the service say how many sessions run at once, and its counters what they do. A session ends
+/// with a fault whose client sends nothing for as long as the service says, or takes nothing. One of
+/// which a reply was withheld, since a change could not be kept, ends with a fault too, and others go
+/// on.
 pub fn work<K: Keeper + Drop, L: Ledger, R: Wait + Clock, G: Log>(
     rt: &R,
     alloc: Global,
     desk: &Desk<K>,
     worker: Worker<K, L>,
-    listener: &TcpListener,
+    service: &Service<'_>,
     door: &Mutex<Door<L>>,
-    sign: &Sign,
-    permits: &Permits,
-    idle: Option<Duration>,
     log: &G,
 ) -> Worker<K, L>
     requires { IsOf desk.now worker.pass }
@@ -85,35 +78,32 @@ pub fn work<K: Keeper + Drop, L: Ledger, R: Wait + Clock, G: Log>(
         mut token,
     } = worker;
     for _ in rt.forever() {
-        let Some(guest) = door.lock(rt).admit(rt, listener, sign, &mut token) else {
+        let (entrance, sign) = (service.entrance, &service.sign);
+        let Some(guest) = door.lock(rt).admit(rt, entrance, sign, &mut token) else {
             break;
         };
+        service.counters.begin();
         log.begun(rt, &guest);
         let (is_late, was_stopped) = (Cell::new(false), Cell::new(false));
-        let stream = &guest.stream;
         let summary = attend(
             rt,
             alloc,
             desk,
             &mut pass,
-            stream,
-            listener,
-            sign,
-            permits,
-            idle,
+            &guest,
+            service,
+            log,
             &is_late,
             &was_stopped,
         );
+        service.counters.end(summary.ended.is_err());
         if let Err(end) = summary.ended {
             if !was_stopped.get() {
                 log.fault(rt, &guest, end, is_late.get());
             }
-            if let SessionEnd::Journal = end {
-                door.lock(rt).shut(ServeFault::Journal);
-            }
         }
         log.ended(rt, &guest, &summary);
     }
-    sign.go();
+    service.sign.go();
     Worker { pass, token }
 }

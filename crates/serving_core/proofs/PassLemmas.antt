@@ -9,9 +9,9 @@ use Rattle.desk_core.specs.Guarded.{DeskLock, DeskPass, origin_of, origin_at}
 use Rattle.desk_core.specs.Turns.{asked_by, journal_of, begun_of, Ended}
 use Rattle.system_core.specs.World.{World}
 use Rattle.system_core.specs.declared.machine.event.Entry.{Entry}
-use Rattle.session_core.specs.Checking.{LooksRepeatedly, unchecked, checked, HasChecked, told, cut_off}
+use Rattle.session_core.specs.Checking.{LooksRepeatedly, unchecked, checked}
 use Rattle.session_core.specs.Gains.{Watches}
-use Rattle.session_core.proofs.Checked.{looks_watches, cut_watches}
+use Rattle.session_core.proofs.Checked.{looks_watches}
 use Rattle.session_core.proofs.Growing.{Watches-refl, Watches-trans}
 use Rattle.server_core.specs.Sessions.{IsOf, IsNew, new_pass, Working, new_worker, IsNewWorker, Attended, IsWorkers, IsCheckpointers, AreServers, Leaves}
 use Rattle.server_core.proofs.SamePass.{attended_same}
@@ -34,15 +34,11 @@ checks_watch : {K : Type 0} (desk : DeskLock K) (old new : DeskPass K) → Looks
 checks_watch desk old _ unchecked = Watches-refl old
 checks_watch desk old _ (checked reply between new before look) = Watches-trans old between new (checks_watch desk old between before) (looks_watches desk reply between new look)
 
-checked_watch : {K : Type 0} (desk : DeskLock K) (old new : DeskPass K) → HasChecked desk old new → Watches old new
-checked_watch desk old new (told c) = checks_watch desk old new c
-checked_watch desk old new (cut_off reply between c cut) = Watches-trans old between new (checks_watch desk old between c) (cut_watches desk reply between new cut)
-
 -- since the pass was new, it looked after checkpoints
-pub checkpointer_of : {K : Type 0} (journal : List Entry) (desk : DeskLock K) (old new : DeskPass K) → IsNew journal desk old → HasChecked desk old new → IsSamePass old new → IsCheckpointers journal desk new
+pub checkpointer_of : {K : Type 0} (journal : List Entry) (desk : DeskLock K) (old new : DeskPass K) → IsNew journal desk old → LooksRepeatedly desk old new → IsSamePass old new → IsCheckpointers journal desk new
 checkpointer_of journal desk old new fresh looked same =
     let start : old ≡ new_pass journal desk new.number = fresh ∙ ap (new_pass journal desk) (sym same.1) in
-    subst (λ z. HasChecked desk z new) start looked
+    subst (λ z. LooksRepeatedly desk z new) start looked
 
 of_workers : {K : Type 0} (journal : List Entry) (desk : DeskLock K) (workers : List (Working K)) → All (IsWorkers journal desk) workers → All (IsOf desk) (map (λ (w : Working K). w.pass) workers)
 of_workers {K = K} journal desk workers served =
@@ -53,7 +49,7 @@ of_workers {K = K} journal desk workers served =
 pub servers_of : {K : Type 0} (journal : List Entry) (desk : DeskLock K) (sessions : ℕ) (passes : List (DeskPass K)) → AreServers journal desk sessions passes → All (IsOf desk) passes
 servers_of {K = K} journal desk sessions passes s =
     let workers = of_workers journal desk s.workers s.served in
-    let last : s.checkpointer.lock ≡ Some desk = (checked_watch desk (new_pass journal desk s.checkpointer.number) s.checkpointer s.checked).same.0 in
+    let last : s.checkpointer.lock ≡ Some desk = (checks_watch desk (new_pass journal desk s.checkpointer.number) s.checkpointer s.checked).same.0 in
     subst (λ z. All (IsOf desk) z) (sym s.passes_are) (All-push (IsOf desk) (map (λ (w : Working K). w.pass) s.workers) s.checkpointer workers last)
 
 -- and its journal begins with the one that it was built on
@@ -61,7 +57,7 @@ pub begins_with : {K : Type 0} (journal : List Entry) (desk : DeskLock K) (sessi
 begins_with {K = K} journal desk sessions passes w s e =
     let all = subst (All (Kept journal_of asked_by begun_of w)) s.passes_are e.closed.kept in
     let last = (All-pop (Kept journal_of asked_by begun_of w) (map (λ (x : Working K). x.pass) s.workers ++ s.checkpointer ∷ []) (map (λ (x : Working K). x.pass) s.workers) (Some s.checkpointer) refl all).1 in
-    let seen = (checked_watch desk (new_pass journal desk s.checkpointer.number) s.checkpointer s.checked).seen in
+    let seen = (checks_watch desk (new_pass journal desk s.checkpointer.number) s.checkpointer s.checked).seen in
     (seen.0 ++ last.seen.0, last.seen.1 ∙ (ap (λ z. z ++ last.seen.0) seen.1 ∙ append_assoc journal seen.0 last.seen.0))
 
 -- what a result tells of its value, from two things that it tells

@@ -1,5 +1,6 @@
 -- What the threads of a server take and share may cross to them, where the keeper may.
 use denote.RattleType.{RattleType}
+use denote.Ref.{NamedLft}
 use denote.Param.Send.{IsSend, IsSync, sendable}
 use Rattle.std.proofs.Crossing.{crosses}
 use Rattle.std.specs.declared.sync.ledger.Ledger as ledger
@@ -13,8 +14,7 @@ use Rattle.desk_core.specs.contracts.object.Basis as Basis
 use Rattle.desk_core.specs.contracts.object.Core as Core
 use Rattle.desk_core.specs.contracts.desk.Desk as Desk
 use Rattle.server_core.specs.contracts.door.Door as Door
-use Rattle.server_core.specs.contracts.sign.Sign as Sign
-use Rattle.server_core.specs.contracts.permits.Permits as Permits
+use Rattle.server_core.specs.contracts.service.Service as Service
 use Rattle.server_core.specs.contracts.worker.Worker as Worker
 
 basis_send : (K : RattleType) → IsSend (Basis.the_row K)
@@ -32,8 +32,5 @@ worker_send K L k l s = let core = core_send K k s in search (sendable, crosses,
 pub door_send : (L : RattleType) (l : ledger.Ghosts L.Denot) → IsSend (Door.the_row L l)
 door_send L l = search (sendable, crosses, book.the_send) depth 20
 
-pub sign_sync : IsSync Sign.the_row
-sign_sync = search (sendable, crosses) depth 20
-
-pub permits_sync : IsSync Permits.the_row
-permits_sync = search (sendable, crosses) depth 20
+pub service_sync : (entrance : NamedLft) → IsSync (Service.the_row entrance)
+service_sync entrance = search (sendable, crosses) depth 30

@@ -1,10 +1,10 @@
 //! A law of servers, the contract of a function that does nothing.
-ghost use Rattle.std.specs.Prelude.{◌≡◌, ◌++◌, ℕ, List, [], map, false};
+ghost use Rattle.std.specs.Prelude.{◌≡◌, ◌++◌, ℕ, List, [], map, None};
 ghost use Rattle.std.specs.Str.Lines.{lines};
 ghost use Rattle.turnstile.specs.Logs.{gained};
 ghost use Rattle.system_core.specs.World.{World};
 ghost use Rattle.lines_core.specs.Lines.{IsWhole};
-ghost use Rattle.journal_core.specs.Keeping.{line_rules};
+ghost use Rattle.journal_core.specs.Keeping.{LineKeeperState, line_rules};
 ghost use Rattle.desk_core.specs.Guarded.{origin_at};
 ghost use Rattle.desk_core.specs.Kept.{HasKept};
 ghost use Rattle.server_core.specs.Sessions.{Leaves};
@@ -15,15 +15,15 @@ use base_core::Sink;
 
 /// A file goes on through servers. What [`serve_on`](crate::serve_on) kept as lines, behind a file
 /// that loads the journal which the server began with, loads with it the journal that the server
-/// left, each new entry but for its pass.
+/// left, each new entry but for its pass, where nothing is owed.
 pub fn gone_on_server_is_kept<W: Sink>()
-    ensures { (workers sessions : ℕ) (start world : World) (old : List ℕ) (begun sink : W)
+    ensures { (workers sessions : ℕ) (start world : World) (old : List ℕ)
+        (begun keeper : LineKeeperState W)
         → Leaves workers sessions begun start world
-        → HasKept (line_rules W.taken W.handed_on W.failed) (origin_at start begun)
-        world.journal sink
-        → W.failed sink ≡ false
+        → HasKept (line_rules W.taken W.handed_on) (origin_at start begun) world.journal keeper
+        → keeper.owed ≡ None
         → IsWhole old
         → Loads world.limits [] (lines_unmarked (lines old)) start.journal
-        → CanBeLoadedBehind world.limits old (W.taken begun) (W.taken sink)
+        → CanBeLoadedBehind world.limits old (W.taken begun.sink) (W.taken keeper.sink)
         (start.journal ++ map without_pass (gained start.journal world.journal)) }
 {}

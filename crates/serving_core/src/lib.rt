@@ -1,6 +1,6 @@
 //! The threads of a server, from its first session to its last.
 //!
-//! [`serve_on`] hands the passes of a desk to threads, which take sessions from one listener, and
+//! [`serve_on`] hands the passes of a desk to threads, which take sessions from one entrance, and
 //! gives back the core and the keeper that they leave. **The one contract** is its clauses: so many
 //! sessions were served as were asked for, unless it was told to stop; what is left came of these sessions alone, from the core
 //! that was handed in; and the keeper, unless it has failed, kept each change since then, in order and
@@ -8,7 +8,7 @@
 //!
 //! ```text
 //! let served =
-//!     serve_on(&rt, alloc, &listener, 4, 100, system, keeper, manners, &mut err, &control)?;
+//!     serve_on(&rt, alloc, &entrance, 4, 100, system, keeper, manners, &mut err, &control)?;
 //! served.taken.sessions                                                  // 100
 //! ```
 //!

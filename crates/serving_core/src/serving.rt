@@ -9,14 +9,14 @@ ghost use Rattle.load_core.specs.Ready.{IsReady};
 
 use crate::dealing::{gathered, workers_of};
 use crate::threads::serve_all;
+use base_core::Moment;
 use desk_core::{Desk, Pass};
 use journal_core::Keeper;
-use server_core::{Control, Door, Log, Manners, Permits, ServeFault, SharedLog, Sign, Taken};
+use server_core::{Control, Door, Entrance, Log, Manners, ServeFault, Service, SharedLog, Taken};
 use std::alloc::Global;
 use std::io::Write;
 use std::marker::Brand;
 use std::mem::forget;
-use std::net::TcpListener;
 use std::snapshot::Snapshot;
 use std::sync::atomic::AtomicBool;
 use std::sync::ledger::{Blank, Ledger};
@@ -34,7 +34,7 @@ fn processors<R: Threads>(rt: &R) -> usize {
     }
 }
 
-/// Serves so many sessions of the listener through these passes, of which the last is the
+/// Serves so many sessions of the entrance through these passes, of which the last is the
 /// checkpointer's, and gives their number and the passes.
 fn serve_through<K, L, R, G, C>(
     rt: &R,
@@ -44,9 +44,10 @@ fn serve_through<K, L, R, G, C>(
     begun: &Snapshot<System>,
     passes: Vec<Pass<K>>,
     workers: usize,
-    listener: &TcpListener,
+    entrance: &Entrance,
     sessions: u64,
     idle: Option<Duration>,
+    moment: Moment,
     log: &G,
     control: &C,
 ) -> Result<(Taken, Vec<Pass<K>>), ServeFault>
@@ -70,13 +71,11 @@ where
     };
     let (book, mut rest) = blank.open::<L>();
     let door = Mutex::new(Door::new(sessions, book));
-    let sign = Sign::new(alloc, workers)?;
+    let service = Service::new(alloc, entrance, workers, processors(rt), idle, moment)?;
     let stop = AtomicBool::new(false);
-    let permits = Permits::new(processors(rt));
     let dealt = workers_of(alloc, desk, begun, passes, &mut rest)?;
     let (back, own) = serve_all(
-        rt, alloc, desk, begun, dealt, own, listener, &door, &sign, &permits, idle, log, control,
-        &stop,
+        rt, alloc, desk, begun, dealt, own, &service, &door, log, control, &stop,
     )?;
     if back.len() != workers {
         return Err(ServeFault::NoMemory);
@@ -127,7 +126,7 @@ fn serve_sessions<K, L, R, G, C>(
     rt: &R,
     alloc: Global,
     blank: Blank,
-    listener: &TcpListener,
+    entrance: &Entrance,
     workers: usize,
     sessions: u64,
     system: System,
@@ -146,7 +145,7 @@ where
     requires parts { (blank.parts ≡ L.parts) × (L.parts ≡ workers + 1) }
     requires workers { (0 < workers) × (workers ≤ 16) }
     requires ready { IsReady system }
-    requires works { K.failed keeper ≡ false }
+    requires settled { K.owing keeper ≡ false }
     ensures count { IfOk result
         (λ served. served.taken.stopped ≡ false → served.taken.sessions ≡ sessions) }
     ensures leaves { IfOk result
@@ -155,9 +154,11 @@ where
         served.system.journal served.keeper) }
 {
     let begun = Snapshot::of(&system);
+    let moment = system.moment();
     let (desk, passes) = Desk::build(alloc, system, keeper, workers + 1)?;
     match serve_through::<K, L, R, G, C>(
-        rt, alloc, blank, &desk, &begun, passes, workers, listener, sessions, idle, log, control,
+        rt, alloc, blank, &desk, &begun, passes, workers, entrance, sessions, idle, moment, log,
+        control,
     ) {
         Ok((taken, passes)) => close(desk, passes, taken),
         Err(fault) => {
@@ -168,10 +169,10 @@ where
     }
 }
 
-/// Serves so many sessions that the listener gives, by so many threads, from 1 to 16, beside one
+/// Serves so many sessions that come in at the entrance, by so many threads, from 1 to 16, beside one
 /// that takes the steps of checkpoints, of so many records as the core's chunk says. They
 /// begin with this core, and the keeper keeps each change before its reply is written. Behind the
-/// last session that is wanted the listener is closed, so that further clients are refused. Then it
+/// last session that is wanted the entrance is closed, so that further clients are refused. Then it
 /// closes the desk, and answers the number of sessions, and the core and the keeper that they left.
 /// Where the control says that it is to stop, it takes no further session, those that run answer the
 /// lines that they were sent, and it ends likewise.
@@ -182,18 +183,19 @@ where
 /// log, a fault is told as `session 3 fault: read`, and of an idle client as `idle, sent nothing` or
 /// `idle, took nothing`; and each session is told on `err` as it begins and ends, with its number
 /// from 1, its user, its client's address, the lines behind the first, and the moment of its last
-/// reply that bore one. A fault of `err` itself is forgotten.
+/// reply that bore one. Where they have denials, each that is denied is told, with its session's number
+/// and its user. A fault of `err` itself is forgotten.
 ///
-/// `Accept` where the listener is gone: no further session is taken, and those that run are ended
+/// `Accept` where a listener is gone: no further session is taken, and those that run are ended
 /// by their clients. Of any other fault of accepting a session nothing is told, and it is tried
-/// again. `Journal` where a change could not be kept and its session withheld the reply: the listener
-/// is closed at once, no further session is taken, and those that run end at their next statement.
+/// again. A session whose change could not be kept ends with a fault, and the server goes on: what is
+/// owed of that change is tried again before the next is entered, and once more at the end.
 /// `NoMemory` where a request for memory was refused or a thread could not be started, before the
 /// first session or behind the last.
 pub fn serve_on<K, R, W, C>(
     rt: &R,
     alloc: Global,
-    listener: &TcpListener,
+    entrance: &Entrance,
     workers: usize,
     sessions: u64,
     system: System,
@@ -209,7 +211,7 @@ where
     C: Control,
     requires workers { (0 < workers) × (workers ≤ 16) }
     requires ready { IsReady system }
-    requires works { K.failed keeper ≡ false }
+    requires settled { K.owing keeper ≡ false }
     ensures count { IfOk result
         (λ served. served.taken.stopped ≡ false → served.taken.sessions ≡ sessions) }
     ensures leaves { IfOk result
@@ -221,13 +223,15 @@ where
         alloc,
         writer: Mutex::new(err),
         sessions: manners.log,
+        denials: manners.denials,
+        times: manners.times,
     };
     let blank = Blank::new(workers as u64 + 1);
     serve_sessions::<K, Brand, R, SharedLog<'_, W>, C>(
         rt,
         alloc,
         blank,
-        listener,
+        entrance,
         workers,
         sessions,
         system,

@@ -6,17 +6,16 @@ ghost use Rattle.server_core.specs.Sessions.{IsNew, IsNewWorker, IsWorkers, IsCh
 use base_core::NoGate;
 use desk_core::{Desk, Pass};
 use journal_core::Keeper;
-use server_core::{Control, Door, Log, Permits, ServeFault, Sign, Worker, watch, work};
+use server_core::{Control, Door, Log, ServeFault, Service, Worker, watch, work};
 use session_core::checkpointer;
 use std::alloc::Global;
-use std::net::TcpListener;
 use std::snapshot::Snapshot;
 use std::sync::atomic::{AtomicBool, Ordering};
 use std::sync::ledger::Ledger;
 use std::sync::{Mutex, Wait};
 use std::thread;
 use std::thread::{Promise, PromisedHandle, Threads};
-use std::time::{Clock, Duration};
+use std::time::Clock;
 use system_core::System;
 
 /// The promise of a thread that sessions were served through its pass, as many as its token counts,
@@ -68,19 +67,14 @@ fn attend<K: Keeper + Drop, L: Ledger, R: Wait + Clock, G: Log>(
     desk: &Desk<K>,
     begun: &Snapshot<System>,
     worker: Worker<K, L>,
-    listener: &TcpListener,
+    service: &Service<'_>,
     door: &Mutex<Door<L>>,
-    sign: &Sign,
-    permits: &Permits,
-    idle: Option<Duration>,
     log: &G,
 ) -> Worker<K, L>
     requires { IsNewWorker begun.now.value.journal desk.now worker }
     ensures { IsWorkers begun.now.value.journal desk.now result }
 {
-    work(
-        rt, alloc, desk, worker, listener, door, sign, permits, idle, log,
-    )
+    work(rt, alloc, desk, worker, service, door, log)
 }
 
 // Keeps a thread. There is room for it.
@@ -125,11 +119,8 @@ pub fn serve_all<K, L, R, G, C>(
     begun: &Snapshot<System>,
     workers: Vec<Worker<K, L>>,
     own: Pass<K>,
-    listener: &TcpListener,
+    service: &Service<'_>,
     door: &Mutex<Door<L>>,
-    sign: &Sign,
-    permits: &Permits,
-    idle: Option<Duration>,
     log: &G,
     control: &C,
     stop: &AtomicBool,
@@ -181,19 +172,14 @@ where
                     move || -> Worker<K, L>
                         requires { IsNewWorker begun.now.value.journal desk.now worker }
                         ensures { IsWorkers begun.entry.now.value.journal desk.entry.now result }
-                    {
-                        attend(
-                            rt, alloc, desk, begun, worker, listener, door, sign, permits, idle,
-                            log,
-                        )
-                    },
+                    { attend(rt, alloc, desk, begun, worker, service, door, log) },
                 ) {
                     Ok(thread) => keep(desk, begun, &mut threads, thread),
                     Err(_) => closed.shut(ServeFault::NoMemory),
                 }
             }
             drop(closed);
-            watch(rt, listener, door, sign, threads.len() as u64, control);
+            watch(rt, service, door, threads.len() as u64, control);
             let back = join_all(rt, desk, begun, threads);
             stop.store(true, Ordering::SeqCst);
             let last = checks.join(rt);

@@ -10,7 +10,7 @@ use Rattle.desk_core.specs.declared.object.Ask.{Ask}
 use Rattle.desk_core.specs.declared.object.Ask.TheVariants as asks
 use Rattle.desk_core.specs.Acting.{event_of}
 use Rattle.desk_core.specs.Turns.{Answered, took, spent}
-use Rattle.session_core.specs.Checking.{Looks, stepped, gave_up, CutOff, unstepped, unabandoned}
+use Rattle.session_core.specs.Checking.{Looks, stepped, gave_up}
 use Rattle.session_core.specs.Gains.{Watches}
 use Rattle.session_core.proofs.Growing.{step_watches, abandon_watches, Watches-trans}
 
@@ -27,9 +27,3 @@ answered_worn {K = K} desk ask reply old new at e (spent r n) = ap (λ (p : Desk
 pub looks_worn : {K : Type 0} (desk : DeskLock K) (reply : Reply) (old new : DeskPass K) (at : Moment) → reply ≡ replies.Refused at lacks.Worn → Looks desk reply old new → new.drawn ≡ 2 ^ 62
 looks_worn desk reply old new at e (stepped fine same a) = answered_worn desk asks.Step reply old new at e a
 looks_worn desk reply old new at e (gave_up _ between same a same' b) = answered_worn desk asks.Abandon reply between new at e b
-
--- and so it is of one that was cut off
-pub cut_watches : {K : Type 0} (desk : DeskLock K) (reply : Reply) (old new : DeskPass K) → CutOff desk reply old new → Watches old new
-cut_watches desk reply old new (unstepped same t) = step_watches desk reply old new same (took t)
-cut_watches desk reply old new (unabandoned at between same a same' t) =
-    Watches-trans old between new (step_watches desk (replies.Refused at lacks.NoMemory) old between same a) (abandon_watches desk reply between new same' (took t))

@@ -8,7 +8,7 @@ use Rattle.system_core.specs.Replies.{is_refused_memory}
 use Rattle.system_core.specs.declared.machine.event.Reply.{Reply}
 use Rattle.system_core.specs.declared.machine.event.Reply.TheVariants as replies
 use Rattle.desk_core.specs.declared.object.Ask.TheVariants as asks
-use Rattle.desk_core.specs.Turns.{Answered, Took}
+use Rattle.desk_core.specs.Turns.{Answered}
 
 -- One look of the checkpointer: a step of the active checkpoint. Where the step was refused memory,
 -- and only there, the checkpoint is given up in the next turn.
@@ -32,22 +32,3 @@ pub data LooksRepeatedly {K : Type 0} (desk : DeskLock K) (old : DeskPass K)
       → LooksRepeatedly desk old between
       → Looks desk reply between new
       → LooksRepeatedly desk old new
-
--- A look of which a reply was withheld: that of the step; or that of the turn in which the checkpoint
--- was to be given up.
-pub data CutOff {K : Type 0} (desk : DeskLock K) (reply : Reply) (old new : DeskPass K) : Type 0 where
-  unstepped : IsSamePass old new → Took desk asks.Step reply old new → CutOff desk reply old new
-  unabandoned : (at : Moment) (between : DeskPass K)
-      → IsSamePass old between
-      → Answered desk asks.Step (replies.Refused at lacks.NoMemory) old between
-      → IsSamePass between new
-      → Took desk asks.Abandon reply between new
-      → CutOff desk reply old new
-
--- looks, and behind them perhaps one of which a reply was withheld
-pub data HasChecked {K : Type 0} (desk : DeskLock K) (old new : DeskPass K) : Type 0 where
-  told : LooksRepeatedly desk old new → HasChecked desk old new
-  cut_off : (reply : Reply) (between : DeskPass K)
-      → LooksRepeatedly desk old between
-      → CutOff desk reply between new
-      → HasChecked desk old new

@@ -5,6 +5,7 @@ use Rattle.lexer_core.specs.declared.fault.Code.{Code}
 use Rattle.lexer_core.specs.declared.lexer.TheConstants.{MAX_LINE}
 use Rattle.reader_core.specs.Language.{Spells, IsReadFault}
 use Rattle.reader_core.specs.declared.statement.Statement.{Statement}
+use Rattle.monitor_core.specs.Verdict.{is_change}
 use Rattle.lines_core.specs.Serving.{Ends, Traffic}
 use Rattle.lines_core.specs.declared.serving.SessionFault.{SessionFault}
 use Rattle.system_core.specs.Replies.{told_moment}
@@ -51,14 +52,15 @@ abbrev pub AnswersNoted : {K : Type 0} → DeskLock K → User → List ℕ → 
 AnswersNoted desk user line old before new after text =
     (at : Option Moment) × AnswersUser desk user line old text at new × (after ≡ last_moment at before)
 
--- A line of a user at a desk whose reply is withheld: what it says was asked in a turn. Nothing is
--- written for it.
+-- A line of a user at a desk whose reply is withheld: the change that it says was asked in a turn.
+-- Nothing is written for it.
 pub record Withholds {K : Type 0} (desk : DeskLock K) (user : User) (line : List ℕ)
     (old new : DeskPass K)
     : Type 0 where
   pub asked : Statement
   pub reply : Reply
   pub spelled : Spells line asked
+  pub change : is_change asked ≡ true
   pub same : IsSamePass old new
   pub took : Took desk (asks.Say (record { user = user; statement = asked })) reply old new
 

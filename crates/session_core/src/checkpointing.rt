@@ -1,26 +1,17 @@
 //! The checkpointer.
-ghost use Rattle.std.specs.Prelude.{◌≡◌, ◌^◌, Some, IfOk, OnOk, OnErr, IsErrOf};
-ghost use Rattle.system_core.specs.declared.machine.event.Reply.{Reply};
-ghost use Rattle.session_core.specs.Checking.{Looks, CutOff, LooksRepeatedly, HasChecked};
+ghost use Rattle.std.specs.Prelude.{◌≡◌, ◌^◌, Some, OnErr};
+ghost use Rattle.session_core.specs.Checking.{Looks, LooksRepeatedly};
 ghost use Rattle.session_core.specs.Gains.{Watches};
 
 use base_core::{Gate, Lack};
-use desk_core::{Desk, Pass, Unkept};
+use desk_core::{Desk, Pass};
 use journal_core::Keeper;
 use std::sync::Wait;
 use std::sync::atomic::{AtomicBool, Ordering};
 use std::thread;
 use std::time::{Clock, Duration};
 use system_core::Reply;
-
-/// Why the checkpointer ended before it was told to stop.
-#[derive(Clone, Copy, Debug, PartialEq, Eq)]
-pub enum CheckFault {
-    /// All turns are drawn.
-    Worn,
-    /// A change could not be kept, so that each reply is withheld.
-    Unkept,
-}
+use turnstile::Worn;
 
 // How long it sleeps where no checkpoint is active, at first and at most.
 const SHORTEST_MILLIS: u64 = 2;
@@ -28,21 +19,16 @@ const SHORTEST_MILLIS: u64 = 2;
 const LONGEST_MILLIS: u64 = 40;
 
 /// A step of the active checkpoint, which is given up exactly where the step was refused memory.
-fn step<K: Keeper + Drop, R: Wait>(
-    rt: &R,
-    desk: &Desk<K>,
-    pass: &mut Pass<K>,
-) -> Result<Reply, Unkept>
+fn step<K: Keeper + Drop, R: Wait>(rt: &R, desk: &Desk<K>, pass: &mut Pass<K>) -> Reply
     requires { pass.old.lock ≡ Some desk.now }
-    ensures told { IfOk result (λ reply. Looks desk.now reply pass.old pass.new) }
-    ensures withheld { OnErr result ((reply : Reply) × CutOff desk.now reply pass.old pass.new) }
+    ensures { Looks desk.now result pass.old pass.new }
 {
-    match desk.checkpoint_turn(rt, pass)? {
+    match desk.checkpoint_turn(rt, pass) {
         Reply::Refused { at, lack } => match lack {
             Lack::NoMemory => desk.abandon_turn(rt, pass),
-            lack => Ok(Reply::Refused { at, lack }),
+            lack => Reply::Refused { at, lack },
         },
-        reply => Ok(reply),
+        reply => reply,
     }
 }
 
@@ -50,31 +36,25 @@ fn step<K: Keeper + Drop, R: Wait>(
 /// checkpoint is given up exactly where its step was refused memory, in the turn of the pass behind
 /// that. The pass makes no entry. Where no checkpoint is active it sleeps two milliseconds before it
 /// looks again, and twice as long each further time, up to 40 milliseconds; between two steps it
-/// calls the gate with the number of records that are left. `Worn` where all turns are drawn, and
-/// `Unkept` where a reply was withheld.
+/// calls the gate with the number of records that are left. `Worn` where all turns are drawn.
 pub fn checkpointer<K: Keeper + Drop, R: Wait + Clock, G: Gate>(
     rt: &R,
     desk: &Desk<K>,
     pass: &mut Pass<K>,
     gate: &G,
     stop: &AtomicBool,
-) -> Result<(), CheckFault>
+) -> Result<(), Worn>
     requires { pass.old.lock ≡ Some desk.now }
-    ensures checks { HasChecked desk.now pass.old pass.new }
-    ensures told { OnOk result (LooksRepeatedly desk.now pass.old pass.new) }
+    ensures looks { LooksRepeatedly desk.now pass.old pass.new }
     ensures watches { Watches pass.old pass.new }
-    ensures worn { IsErrOf result CheckFault.Worn
-        → LooksRepeatedly desk.now pass.old pass.new × (pass.new.drawn ≡ 2 ^ 62) }
+    ensures worn { OnErr result (pass.new.drawn ≡ 2 ^ 62) }
 {
     let mut pause = SHORTEST_MILLIS;
     for _ in rt.forever() {
         if stop.load(Ordering::SeqCst) {
             return Ok(());
         }
-        let reply = match step(rt, desk, pass) {
-            Ok(reply) => reply,
-            Err(Unkept) => return Err(CheckFault::Unkept),
-        };
+        let reply = step(rt, desk, pass);
         match &reply {
             Reply::Idle => {
                 thread::sleep(rt, Duration::from_millis(pause));
@@ -85,7 +65,7 @@ pub fn checkpointer<K: Keeper + Drop, R: Wait + Clock, G: Gate>(
                 gate.before_step(*left);
             }
             Reply::Refused { lack, .. } => match lack {
-                Lack::Worn => return Err(CheckFault::Worn),
+                Lack::Worn => return Err(Worn),
                 _ => {}
             },
             _ => pause = SHORTEST_MILLIS,

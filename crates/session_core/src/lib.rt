@@ -8,11 +8,11 @@
 //! [`serve_line`] is one such line. The [`Summary`] that comes of it says whose session it was, how
 //! many lines came after the first, and the moment of the last reply that bore one.
 //!
-//! A reply that the desk withholds, since a change could not be kept, is not written, and the
+//! A reply that the desk withholds, that to a change which could not be kept, is not written, and the
 //! session is over: it ends with [`SessionEnd::Journal`].
 //!
-//! [`checkpointer`] steps the active checkpoint through a pass of its own until it is told to stop,
-//! or a reply is withheld. It makes no entry.
+//! [`checkpointer`] steps the active checkpoint through a pass of its own until it is told to stop. It
+//! makes no entry.
 //!
 //! ```text
 //! let (desk, mut passes) = Desk::build(alloc, System::new(alloc, 16)?, NoKeeper, 2)?;
@@ -28,7 +28,8 @@
 //! from the image that its ticket shares, outside every turn, so that a client that reads slowly
 //! holds nobody up but itself. A [`Gate`](base_core::Gate) is called before each of them, and
 //! between the steps of a checkpoint, so that a test can hold them there. It is told too of the
-//! user whom a session names, and of each line that was answered, so that it can let others run.
+//! user whom a session names, and of each line that was answered, so that it can let others run. A
+//! [`Witness`] is told of each statement and its reply besides, so that it can count them.
 //!
 //! # Cost
 //!
@@ -43,10 +44,12 @@ mod line;
 mod session;
 mod session_end;
 mod summary;
+mod witness;
 
-pub use checkpointing::{CheckFault, checkpointer};
+pub use checkpointing::checkpointer;
 pub use line::serve_line;
 pub use lines_core::SessionFault;
 pub use session::serve_session;
 pub use session_end::{SessionEnd, end_name};
 pub use summary::Summary;
+pub use witness::Witness;

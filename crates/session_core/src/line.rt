@@ -5,6 +5,7 @@ ghost use Rattle.base_core.specs.Streams.{Writes, WritesFrontOf};
 ghost use Rattle.turnstile.specs.Passes.{IsSamePass};
 ghost use Rattle.session_core.specs.Session.{last_moment, AnswersNoted, Withholds};
 
+use crate::witness::Witness;
 use base_core::{Broken, Gate, Moment, Sink, User};
 use desk_core::{Desk, Pass, Unkept};
 use journal_core::Keeper;
@@ -38,12 +39,12 @@ fn tell<G: Gate>(
 }
 
 /// One line of a user, answered through a pass of the desk: what it says is asked in a turn, and
-/// the reply is written after it, with the records of an export. Then the gate is told. The moment is
+/// the reply is written after it, with the records of an export. The gate is told of each. The moment is
 /// that of the last reply that bore one, before this line and then with it. `Unkept` where the desk
-/// withholds the reply: then nothing is written. `Broken` exactly where the writer failed: then a
-/// front of an answer was written. What the vector of tokens and the buffer have before and behind
-/// the call means nothing.
-pub fn serve_line<K: Keeper + Drop, R: Wait, W: Sink, G: Gate>(
+/// withholds the reply, which is that to a change: then nothing is written. `Broken` exactly where
+/// the writer failed: then a front of an answer was written. What the vector of tokens and the buffer
+/// have before and behind the call means nothing.
+pub fn serve_line<K: Keeper + Drop, R: Wait, W: Sink, G: Witness>(
     rt: &R,
     alloc: Global,
     desk: &Desk<K>,
@@ -77,10 +78,12 @@ pub fn serve_line<K: Keeper + Drop, R: Wait, W: Sink, G: Gate>(
     }
     match read_with(alloc, tokens, line) {
         Ok(statement) => {
+            gate.said(&statement);
             let reply = match desk.execute(rt, pass, user, statement) {
                 Ok(reply) => reply,
                 Err(Unkept) => return Ok(Err(Unkept)),
             };
+            gate.replied(&user, &reply);
             let at = reply.moment();
             *moment = last_moment(at, *moment);
             let written = write_reply(buffer, reply, writer, gate);

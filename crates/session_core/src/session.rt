@@ -9,7 +9,8 @@ use crate::greeting::greeting;
 use crate::line::serve_line;
 use crate::session_end::SessionEnd;
 use crate::summary::Summary;
-use base_core::{Broken, Gate, Moment, Sink, Source, User, write_all};
+use crate::witness::Witness;
+use base_core::{Broken, Moment, Sink, Source, User, write_all};
 use desk_core::{Desk, Pass, Unkept};
 use journal_core::Keeper;
 use lexer_core::Token;
@@ -45,7 +46,7 @@ fn write_welcome<W: Sink>(writer: &mut W, user: &User) -> Result<(), Broken>
     write_all(writer, b"\n")
 }
 
-impl<'a, K: Keeper + Drop, R: Wait, G: Gate> Session<'a, K, R, G> {
+impl<'a, K: Keeper + Drop, R: Wait, G: Witness> Session<'a, K, R, G> {
     /// Answers the first line. One that names no user ends the session.
     fn greet<W: Sink>(&mut self, writer: &mut W, line: &[u8]) -> Result<(), Broken>
         requires first { (self.old.over ≡ false) × (self.old.user ≡ None) }
@@ -109,7 +110,7 @@ impl<'a, K: Keeper + Drop, R: Wait, G: Gate> Session<'a, K, R, G> {
     }
 }
 
-impl<'a, K: Keeper + Drop, R: Wait, G: Gate> Session<'a, K, R, G> {
+impl<'a, K: Keeper + Drop, R: Wait, G: Witness> Session<'a, K, R, G> {
     /// What is told of the session, if the answering of its lines ended so.
     fn summary(&self, served: Result<(), SessionFault>) -> Summary
         ensures { result ≡ record {
@@ -128,7 +129,7 @@ impl<'a, K: Keeper + Drop, R: Wait, G: Gate> Session<'a, K, R, G> {
     }
 }
 
-impl<'a, K: Keeper + Drop, R: Wait, G: Gate> LineServer for Session<'a, K, R, G> {
+impl<'a, K: Keeper + Drop, R: Wait, G: Witness> LineServer for Session<'a, K, R, G> {
     ghost use Rattle.std.specs.Prelude.{◌≡◌};
     ghost use Rattle.session_core.specs.Session.{progress, AnswersSession};
     ghost use Rattle.session_core.specs.TooLong.{AnswersSession-too_long};
@@ -178,11 +179,11 @@ fn end_of(unkept: bool, served: Result<(), SessionFault>) -> Result<(), SessionE
 ///
 /// A first line that names no user is told its fault, and ends the session. What was answered to
 /// the lines read is handed on before more is read, and at the end. It has `ended` with `Journal`
-/// exactly where the desk withholds a reply: nothing is written for that line, and the session is
-/// over. Else it has ended with `Read` and `Write` exactly where the reader or the writer has failed,
-/// with `Bound` where 2^32 bytes were read and the end had not come, and with `NoMemory` before the
-/// first read.
-pub fn serve_session<K: Keeper + Drop, R: Wait, S: Source, W: Sink, G: Gate>(
+/// exactly where the desk withholds the reply to a change: nothing is written for that line, and the
+/// session is over. Else it has ended with `Read` and `Write` exactly where the reader or the writer
+/// has failed, with `Bound` where 2^32 bytes were read and the end had not come, and with `NoMemory`
+/// before the first read.
+pub fn serve_session<K: Keeper + Drop, R: Wait, S: Source, W: Sink, G: Witness>(
     rt: &R,
     alloc: Global,
     desk: &Desk<K>,

@@ -9,7 +9,7 @@ use lines_core::{SessionFault, fault_name};
 pub enum SessionEnd {
     /// The answering of its lines ended so.
     Session(SessionFault),
-    /// A change could not be kept, so that a reply of the session is withheld.
+    /// A change of the session could not be kept, so that its reply is withheld.
     Journal,
 }
 

@@ -30,7 +30,7 @@ ghost use Rattle.command_core.specs.Ranges.{IsInRange};
 
 use command_core::{CommandLine, Reading, options, refuse};
 use lines_core::{NO_MEMORY, give_up};
-use program_core::{dump, explained, journal, run, serve, stop};
+use program_core::{dump, explained, journal, run, serve, status, stop};
 use run_core::{fill_closed_streams, input, output};
 use std::mem::forget;
 use std::process::ExitCode;
@@ -70,6 +70,7 @@ where
             Ok(ended.into_status())
         }
         CommandLine::Stop { control } => Ok(stop(host, control)),
+        CommandLine::Status { control, form } => Ok(status(host, control, form)),
         CommandLine::Explain(asked) => explained(host, asked),
     }
 }

@@ -131,7 +131,7 @@ fn ask_change<W: Sink, K: Keeper>(
     entry: Entry,
 ) -> Result<(), Broken>
     requires writes { W.failed writer.old ≡ false }
-    requires works { K.failed keeper.old ≡ false }
+    requires settled { K.owing keeper.old ≡ false }
     requires spelled { (line : List ℕ) × Spells line entry.statement }
     requires allowed { let now = system.old in
         verdict_at now.limits now.journal entry.user entry.statement ≡ Ok tt }
@@ -204,7 +204,7 @@ fn ask<W: Sink, K: Keeper>(
     entry: Entry,
 ) -> Result<(), Broken>
     requires writes { W.failed writer.old ≡ false }
-    requires works { K.failed keeper.old ≡ false }
+    requires settled { K.owing keeper.old ≡ false }
     requires spelled { (line : List ℕ) × Spells line entry.statement }
     ensures { MayWrite W.failed W.taken
         (TellsKept K.Keeper entry
@@ -218,7 +218,7 @@ fn ask<W: Sink, K: Keeper>(
 }
 
 /// Reads a line, asks what it says, keeps a change, lets the checkpointer do a step, and writes what
-/// is said. Where the change could not be kept the keeper has failed, and nothing is written.
+/// is said. Where the change could not be kept it is owed, and nothing is written.
 pub fn answer<W: Sink, K: Keeper>(
     alloc: Global,
     tokens: &mut Vec<Token>,
@@ -229,7 +229,7 @@ pub fn answer<W: Sink, K: Keeper>(
     line: &[u8],
 ) -> Result<(), Broken>
     requires writes { W.failed writer.old ≡ false }
-    requires works { K.failed keeper.old ≡ false }
+    requires settled { K.owing keeper.old ≡ false }
     ensures { MayWrite W.failed W.taken
         (λ text. AnswersKept K.Keeper
         (with_keeper system.old keeper.old) line.now text (with_keeper system.new keeper.new))

@@ -36,14 +36,14 @@ impl<'a, K: Keeper> LineServer for ScriptServer<'a, K> {
         × (new.system.ghost_name ≡ old.system.ghost_name)
         × (new.keeper.ghost_name ≡ old.keeper.ghost_name) };
 
-    ghost over = { λ s. K.failed s.keeper.now };
+    ghost over = { λ s. K.owing s.keeper.now };
 
     fn is_over(&self) -> bool {
-        self.keeper.has_failed()
+        self.keeper.is_owing()
     }
 
     fn answer<W: Sink>(&mut self, writer: &mut W, line: &[u8]) -> Result<(), Broken> {
-        if self.keeper.has_failed() {
+        if self.keeper.is_owing() {
             return Ok(());
         }
         answer(
@@ -68,9 +68,9 @@ impl<'a, K: Keeper> LineServer for ScriptServer<'a, K> {
 /// as the core's chunk says. What was answered to the lines read is handed on before more is read,
 /// and at the end. Each change is kept before its reply is written; where it could not be kept, its
 /// reply is withheld, no later line is answered, and `Journal` is answered, exactly where the keeper
-/// has failed. Else `Read` and `Write` are answered exactly where the reader or the writer has
-/// failed, `Bound` where 2^32 bytes were read and the end had not come, and `NoMemory` before the
-/// first read. On a fault the core is let go.
+/// owes what is left of it. Else `Read` and `Write` are answered exactly where the reader or the
+/// writer has failed, `Bound` where 2^32 bytes were read and the end had not come, and `NoMemory`
+/// before the first read. On a fault the core is let go.
 pub fn script_from<S: Source, W: Sink, K: Keeper>(
     alloc: Global,
     reader: &mut S,
@@ -80,12 +80,12 @@ pub fn script_from<S: Source, W: Sink, K: Keeper>(
 ) -> Result<System, ScriptFault>
     requires source { S.failed reader.old ≡ false }
     requires sink { W.failed writer.old ≡ false }
-    requires works { K.failed keeper.old ≡ false }
+    requires settled { K.owing keeper.old ≡ false }
     ensures read { IsErrOf result (ScriptFault.Session SessionFault.Read)
         ↔ (S.failed reader.new ≡ true) }
     ensures write { IsErrOf result (ScriptFault.Session SessionFault.Write)
-        ↔ ((W.failed writer.new ≡ true) × (K.failed keeper.new ≡ false)) }
-    ensures journal { IsErrOf result ScriptFault.Journal ↔ (K.failed keeper.new ≡ true) }
+        ↔ ((W.failed writer.new ≡ true) × (K.owing keeper.new ≡ false)) }
+    ensures journal { IsErrOf result ScriptFault.Journal ↔ (K.owing keeper.new ≡ true) }
     ensures flushed { W.flushed writer.old ≡ true → W.failed writer.new ≡ false
         → W.flushed writer.new ≡ true }
     ensures ends { EndsKeptFrom K.Keeper system result keeper.old keeper.new
@@ -105,8 +105,8 @@ pub fn script_from<S: Source, W: Sink, K: Keeper>(
         keeper,
     };
     let served = serve(alloc, &mut server, reader, writer);
-    let failed = server.keeper.has_failed();
-    if failed {
+    let owing = server.keeper.is_owing();
+    if owing {
         system.free();
         return Err(ScriptFault::Journal);
     }
@@ -126,9 +126,9 @@ pub fn script_from<S: Source, W: Sink, K: Keeper>(
 /// as the chunk says, from 1 to 64. What was answered to the lines read is handed on before more is
 /// read, and at the end. Each change is kept before its reply is written; where it could not be
 /// kept, its reply is withheld, no later line is answered, and `Journal` is answered, exactly where
-/// the keeper has failed. Else `Read` and `Write` are answered exactly where the reader or the
-/// writer has failed, `Bound` where 2^32 bytes were read and the end had not come, and `NoMemory`
-/// before the first read.
+/// the keeper owes what is left of it. Else `Read` and `Write` are answered exactly where the reader
+/// or the writer has failed, `Bound` where 2^32 bytes were read and the end had not come, and
+/// `NoMemory` before the first read.
 pub fn script<S: Source, W: Sink, K: Keeper>(
     alloc: Global,
     reader: &mut S,
@@ -140,12 +140,12 @@ pub fn script<S: Source, W: Sink, K: Keeper>(
     requires small { chunk ≤ 64 }
     requires source { S.failed reader.old ≡ false }
     requires sink { W.failed writer.old ≡ false }
-    requires works { K.failed keeper.old ≡ false }
+    requires settled { K.owing keeper.old ≡ false }
     ensures read { IsErrOf result (ScriptFault.Session SessionFault.Read)
         ↔ (S.failed reader.new ≡ true) }
     ensures write { IsErrOf result (ScriptFault.Session SessionFault.Write)
-        ↔ ((W.failed writer.new ≡ true) × (K.failed keeper.new ≡ false)) }
-    ensures journal { IsErrOf result ScriptFault.Journal ↔ (K.failed keeper.new ≡ true) }
+        ↔ ((W.failed writer.new ≡ true) × (K.owing keeper.new ≡ false)) }
+    ensures journal { IsErrOf result ScriptFault.Journal ↔ (K.owing keeper.new ≡ true) }
     ensures flushed { W.flushed writer.old ≡ true → W.failed writer.new ≡ false
         → W.flushed writer.new ≡ true }
     ensures ends { EndsKept K.Keeper chunk result keeper.old keeper.new

@@ -1,46 +1,5 @@
-use Rattle.std.proofs.Common.{List, sym, subst, ◌∙◌, refl, true, not}
-use Rattle.std.proofs.lemmas.Bool.{false≢true}
-use Rattle.std.proofs.lemmas.Result.{on_ok_weaker, on_err_weaker}
-use Rattle.system_core.specs.declared.machine.event.Entry.{Entry}
-use Rattle.journal_core.specs.Recorder.{KeepsEntered, kept, past}
-use Rattle.journal_core.proofs.Entering.{done_enters, not_done, entered_spelled, one_kept}
+use Rattle.journal_core.specs.Recorder.{next}
 use Rattle.journal_core.proofs.recorder.act.Goals as goal
 
-pub returns-then-has_failed : goal.returns-then-has_failed
-returns-then-has_failed g c = record { step = c.step-reply.ensures; keeping = past (sym c.has_failed.ensures ∙ c.if-has_failed.true) }
-
-pub returns-then-not-is_done : goal.returns-then-not-is_done
-returns-then-not-is_done g c =
-    let K = g.K.Keeper in
-    let works = sym c.has_failed.ensures ∙ c.if-has_failed.false in
-    let keeper = c.args.keeper.now in
-    let none = not_done c.args.event c.step-reply.result (sym c.is_done.ensures ∙ c.if-not-is_done.true) in
-    record {
-      step = c.step-reply.ensures;
-      keeping = subst (λ (es : List Entry). KeepsEntered K keeper es true keeper) (sym none) (kept works works refl);
-    }
-
-pub keep_last-requires-clause-last : goal.keep_last-requires-clause-last
-keep_last-requires-clause-last g c =
-    let old = c.args.system.now in
-    let done = sym c.is_done.ensures ∙ c.if-not-is_done.false in
-    let e = done_enters old c.step-reply.new.self c.args.event c.step-reply.result done c.step-reply.ensures in
-    let s = entered_spelled c.args.event c.step-reply.result e.0 done c.requires.spelled e.1 in
-    (old.journal, e.0, s.0, e.2, s.1)
-
 pub returns : goal.returns
-returns g c =
-    let K = g.K.Keeper in
-    let old = c.args.system.now in
-    let k = c.args.keeper.now in
-    let k' = c.keep_last.new.keeper in
-    let r = c.keep_last.result in
-    let works = sym c.has_failed.ensures ∙ c.if-has_failed.false in
-    let e = done_enters old c.step-reply.new.self c.args.event c.step-reply.result (sym c.is_done.ensures ∙ c.if-not-is_done.false) c.step-reply.ensures in
-    record {
-      step = c.step-reply.ensures;
-      keeping =
-          subst (λ (es : List Entry). KeepsEntered K k es c.is_ok-told.result k') (sym e.1)
-          (one_kept K k k' e.0 r c.is_ok-told.result c.is_ok-told.ensures.value works c.keep_last.ensures.failed
-          (on_ok_weaker r (λ h. h old.journal e.0 e.2) c.keep_last.ensures.ok) (on_err_weaker r (λ h. h old.journal e.0 e.2) c.keep_last.ensures.err));
-    }
+returns g c = record { step = c.act_next.ensures.step; keeping = next c.act_next.ensures.keeping; withheld = c.act_next.ensures.withheld }

@@ -1,4 +1,8 @@
-use Rattle.desk_core.proofs.Taking.{turn_taken, turn_kept, answered_if, kept_if, withheld_if}
+use Rattle.std.proofs.Common.{◌<◌}
+use Rattle.system_core.specs.declared.machine.event.Reply.{Reply}
+use Rattle.desk_core.specs.Guarded.{origin_of}
+use Rattle.desk_core.specs.Kept.{IsKept}
+use Rattle.desk_core.proofs.Taking.{turn_taken, turn_kept, turn_change, answered_if, kept_if, change_if, withheld_if}
 use Rattle.desk_core.proofs.desk.Desk.turn.Goals as goal
 
 pub returns-in-Ok-clause-answered : goal.returns-in-Ok-clause-answered
@@ -11,9 +15,22 @@ returns-in-Ok-clause-answered g c =
 pub returns-in-Ok-clause-kept : goal.returns-in-Ok-clause-kept
 returns-in-Ok-clause-kept g c =
     let K = g.K.Keeper in
+    let desk = c.args.self.now in
     let a = c.in-Ok.answer in
-    kept_if c.args.self.now c.args.ask a.reply a.told c.args.pass.now c.turn.new.pass c.into_reply.result c.into_reply.ensures
-    (λ told _. turn_kept K c.args.self.now c.args.ask a c.args.pass.now c.turn.new.pass (rw c.self.view_is at c.in-Ok.ensures.done) told)
+    let old = c.args.pass.now in
+    let new = c.turn.new.pass in
+    kept_if desk c.args.ask a.reply a.told old new (λ (reply : Reply). old.turns < new.turns → IsKept K (origin_of desk) reply new.seen) c.into_reply.result c.into_reply.ensures
+    (λ told _. turn_kept K desk c.args.ask a old new (rw c.self.view_is at c.in-Ok.ensures.done) told)
+
+pub returns-in-Ok-clause-change : goal.returns-in-Ok-clause-change
+returns-in-Ok-clause-change g c =
+    let K = g.K.Keeper in
+    let desk = c.args.self.now in
+    let a = c.in-Ok.answer in
+    let old = c.args.pass.now in
+    let new = c.turn.new.pass in
+    change_if desk c.args.ask a.reply a.told old new c.into_reply.result c.into_reply.ensures
+    (turn_change K desk c.args.ask a old new (rw c.self.view_is at c.in-Ok.ensures.done))
 
 pub returns-in-Ok-clause-withheld : goal.returns-in-Ok-clause-withheld
 returns-in-Ok-clause-withheld g c =

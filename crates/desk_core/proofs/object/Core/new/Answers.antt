@@ -2,7 +2,7 @@ use Rattle.std.proofs.Common.{◌∙◌, ap, sym, subst, refl, length, drop, le_
 use Rattle.std.proofs.Math.Seq.{drop-length}
 use Rattle.system_core.specs.World.{World}
 use Rattle.system_core.specs.declared.machine.event.Entry.{Entry}
-use Rattle.journal_core.specs.Keeping.{KeepsAll}
+use Rattle.journal_core.specs.Keeping.{KeepsAll, all}
 use Rattle.desk_core.proofs.object.Core.new.Goals as goal
 
 pub invariant_of-result : goal.invariant_of-result
@@ -15,5 +15,5 @@ invariant_of-result g c =
       ap (λ (w : World). w.chunk) is,
       ap (λ (w : World). w.limits) is,
       le_of_eq same,
-      λ works. subst (λ (z : g.row.K.Denot × List Entry). KeepsAll K.keeps z.0 z.1 c.args.keeper) (λ i. (sym c.of-begun.ensures i, sym none_left i)) refl,
+      all c.requires (subst (λ (z : g.row.K.Denot × List Entry). KeepsAll K.keeps z.0 z.1 c.args.keeper) (λ i. (sym c.of-begun.ensures i, sym none_left i)) refl),
     )

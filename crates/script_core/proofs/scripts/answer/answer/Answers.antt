@@ -21,7 +21,7 @@ returns-in-Ok g c =
     let asks : Asks MAX_LINE line user asked = c.in-Ok.ensures.asks in
     write-map g.W.Sink.failed g.W.Sink.taken _ _ (TellsKept K (entry 0 user asked) old new)
     (λ text. AnswersKept K old line text new) c.ask.result
-    (kept-answers K old new line user asked c.requires.works asks) c.ask.ensures
+    (kept-answers K old new line user asked c.requires.settled asks) c.ask.ensures
 
 pub returns-in-Err : goal.returns-in-Err
 returns-in-Err g c =
@@ -33,4 +33,4 @@ returns-in-Err g c =
     let what = says.Fault c.in-Err.fault in
     write-map g.W.Sink.failed g.W.Sink.taken _ _ (TellsThen what old new)
     (λ text. AnswersKept K (with_keeper old k) line text (with_keeper new k)) c.tell_fault.result
-    (then-kept K old new k line what c.requires.works (c.in-Err.ensures.unread, refl)) c.tell_fault.ensures
+    (then-kept K old new k line what c.requires.settled (c.in-Err.ensures.unread, refl)) c.tell_fault.ensures

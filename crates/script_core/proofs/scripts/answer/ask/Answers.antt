@@ -16,5 +16,5 @@ returns g c =
     let old = c.args.system.now in
     let new = c.ask_any.new.system in
     let Kept = TellsKept K c.args.entry (with_keeper old k) (with_keeper new k) in
-    let told = any-kept K old new k c.args.entry c.requires.works (λ both. false≢true (sym c.if-may_change.false ∙ c.may_change.ensures.1 both)) in
+    let told = any-kept K old new k c.args.entry c.requires.settled (λ both. false≢true (sym c.if-may_change.false ∙ c.may_change.ensures.1 both)) in
     write-map g.W.Sink.failed g.W.Sink.taken _ _ (TellsAsked c.args.entry old new) Kept c.ask_any.result told c.ask_any.ensures

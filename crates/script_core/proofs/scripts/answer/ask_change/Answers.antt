@@ -1,4 +1,4 @@
-use Rattle.std.proofs.Common.{[], false, true, Ok, refl, sym, subst, ◌∙◌}
+use Rattle.std.proofs.Common.{[], false, true, refl, sym, subst, ◌∙◌}
 use Rattle.std.specs.Prelude.{Result}
 use Rattle.std.proofs.KnownBytes.{Appends-nil}
 use Rattle.base_core.proofs.Fronts.{write-map}

@@ -7,7 +7,7 @@ use Rattle.script_core.proofs.scripts.server.script.Goals as goal
 
 pub returns-in_default-clause-ends : goal.returns-in_default-clause-ends
 returns-in_default-clause-ends g c =
-    (c.full-limits.result, c.full-limits.ensures, (c.requires.works, opening c.args.chunk c.full-limits.result, (refl, Keeps-refl _, Keeps-refl _)))
+    (c.full-limits.result, c.full-limits.ensures, (c.requires.settled, opening c.args.chunk c.full-limits.result, (refl, Keeps-refl _, Keeps-refl _)))
 
 pub returns-clause-ends : goal.returns-clause-ends
 returns-clause-ends g c =

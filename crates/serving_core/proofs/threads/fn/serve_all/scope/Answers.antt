@@ -5,7 +5,7 @@ use denote.Param.{param}
 use denote.Param.Send.{sendable, param_send, arg_send}
 use Rattle.std.proofs.Crossing.{crosses}
 use Rattle.turnstile.proofs.pass.Pass.TheSendSync as pass
-use Rattle.serving_core.proofs.Sends.{core_send, desk_sync, worker_send, door_send, sign_sync, permits_sync}
+use Rattle.serving_core.proofs.Sends.{core_send, desk_sync, worker_send, door_send, service_sync}
 use Rattle.serving_core.proofs.threads.fn.serve_all.scope.Goals.{in-Ok-spawn_with-2, in-Err}
 use Rattle.serving_core.proofs.threads.fn.serve_all.scope.Goals as goal
 
@@ -30,8 +30,7 @@ spawn_with-requires-in-loop-worker-send-F g c κs within =
     let desk = desk_sync (param 0 g.row.K) g.K.Keeper k in
     let own = worker_send (param 0 g.row.K) (param 1 g.row.L) g.K.Keeper g.L.Ledger k in
     let door = door_send (param 1 g.row.L) g.L.Ledger in
-    let sign = sign_sync in
-    let permits = permits_sync in
+    let service = service_sync in
     search (param_send, arg_send, sendable, crosses) depth 40 fits 20000
 
 pub spawn_with-requires-in-loop-worker-send-T : goal.spawn_with-requires-in-loop-worker-send-T

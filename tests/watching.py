@@ -1,0 +1,253 @@
+"""Where a server listens, and how it is watched: socket files, sockets that a supervisor has opened, `sysr status`, and
+what its log says of denials.
+"""
+import json
+import os
+import re
+import socket
+import stat
+import subprocess
+import sys
+import tempfile
+import threading
+import time
+
+from served import READ, WAIT, Server, free_port
+
+SAID = b"USER ann\nCREATE TABLE pay (name TEXT)\nINSERT INTO pay VALUES ('Bo')\n"
+
+# Takes the place of a supervisor's child: its descriptors are there already.
+STARTS = "import os, sys; os.environ['LISTEN_PID'] = str(os.getpid()); os.execv(sys.argv[1], sys.argv[1:])"
+
+
+def answered(client, text):
+    """What is answered to these lines, behind which the client has no more to say."""
+    with client:
+        client.settimeout(WAIT)
+        client.sendall(text)
+        client.shutdown(socket.SHUT_WR)
+        return b"".join(iter(lambda: client.recv(65536), b"")).decode()
+
+
+def at_file(path):
+    client = socket.socket(socket.AF_UNIX)
+    client.connect(path)
+    return client
+
+
+def at_port(port):
+    return socket.create_connection(("127.0.0.1", port), timeout=WAIT)
+
+
+class Watching:
+    """A folder with a journal, a control socket and a socket file, and servers there."""
+
+    def __init__(self, program, check, folder):
+        self.program, self.check, self.folder = program, check, folder
+        self.control, self.socket = os.path.join(folder, "control"), os.path.join(folder, "socket")
+
+    def ends(self, *words):
+        done = subprocess.run([self.program, *words], capture_output=True, timeout=WAIT, cwd=self.folder)
+        return done.returncode, done.stdout.decode(), done.stderr.decode()
+
+    def status(self, form):
+        return self.ends("status", "--control", self.control, "--format", form)
+
+    def stop(self):
+        return self.ends("stop", "--control", self.control)
+
+    def serving(self, *words, **started):
+        """A server without a port of its own, and the lines that it says first."""
+        child = subprocess.Popen([self.program, "serve", "--control", self.control, *words], stdout=subprocess.PIPE,
+            stderr=subprocess.PIPE, cwd=self.folder, **started)
+        Server.running.append(child)
+        return child, child.stdout.readline().decode()
+
+    def supervised(self, listeners, *words):
+        """The same, to whom these sockets are lent."""
+        numbers = [listener.fileno() for listener in listeners]
+
+        def hand_on():
+            kept = [os.dup2(os.dup(number), 60 + place) for place, number in enumerate(numbers)]
+            for place, number in enumerate(kept):
+                os.dup2(number, 3 + place, inheritable=True)
+                os.close(number)
+
+        child = subprocess.Popen([sys.executable, "-c", STARTS, self.program, "serve", "--control", self.control, *words],
+            stdout=subprocess.PIPE, stderr=subprocess.PIPE, cwd=self.folder, close_fds=False, preexec_fn=hand_on,
+            env={**os.environ, "LISTEN_FDS": str(len(numbers))})
+        Server.running.append(child)
+        said = [child.stdout.readline()]
+        while said[-1] and not said[-1].startswith(b"listening"):
+            said.append(child.stdout.readline())
+        return child, [line.decode() for line in said if not READ.fullmatch(line)]
+
+
+def socket_files(watching):
+    """Sessions at a port and at a socket file, whose mode is as asked; both are gone when the server is."""
+    port = free_port()
+    words = ["--port", str(port), "--socket", watching.socket, "--mode", "600"]
+    child, said = watching.serving(*words)
+    said += child.stdout.readline().decode()
+    watching.check("it says where it listens", said == f"listening on {port}\nlistening at {watching.socket}\n", said)
+    mode = stat.S_IMODE(os.stat(watching.socket).st_mode)
+    watching.check("the mode of a socket file", mode == 0o600, oct(mode))
+    told = [answered(at_port(port), SAID), answered(at_file(watching.socket), b"USER ann\nSELECT * FROM pay\n")]
+    wanted = ["welcome ann\ndone @1\ndone @2\n", "welcome ann\nrows 1 @2\nrow,Bo\n"]
+    watching.check("sessions at both", told == wanted, told)
+    refused = watching.ends("serve", "--socket", watching.socket)
+    taken = 1, "", f"sysr: {watching.socket}: in use by another sysr\n"
+    watching.check("a socket file has one server", refused == taken, refused)
+    stopped = watching.stop(), child.communicate(timeout=WAIT), child.returncode
+    # (who looked whether a server listens there was a session too)
+    watching.check("stopped at both", stopped == ((0, "", ""), (b"served 3\n", b""), 0), stopped)
+    left = os.listdir(watching.folder)
+    watching.check("no socket file is left", left == [], left)
+
+
+def socket_file_of_a_killed_server(watching):
+    """It is made anew; a file that is no socket is not taken."""
+    child, _ = watching.serving("--socket", watching.socket)
+    mode = stat.S_IMODE(os.stat(watching.socket).st_mode)
+    watching.check("the mode of a socket file, if none is given", mode == 0o660, oct(mode))
+    child.kill()
+    child.communicate(timeout=WAIT)
+    watching.check("a killed server leaves its socket file", os.path.exists(watching.socket), "none")
+    child, said = watching.serving("--socket", watching.socket)
+    told = answered(at_file(watching.socket), b"USER ann\nCHECKPOINTS\n")
+    watching.check("a socket file that was left", (said, told) == (f"listening at {watching.socket}\n",
+        "welcome ann\ncheckpoints 0 @0\n"), (said, told))
+    watching.stop()
+    child.communicate(timeout=WAIT)
+    with open(watching.socket, "w") as file:
+        file.write("kept")
+    refused = watching.ends("serve", "--socket", watching.socket)
+    with open(watching.socket) as file:
+        kept = file.read()
+    os.remove(watching.socket)
+    told = 1, "", f"sysr: {watching.socket}: cannot be listened at\n"
+    watching.check("a file that is no socket", (refused, kept) == (told, "kept"), (refused, kept))
+
+
+def refused_words(watching):
+    for words, told in (
+        (["serve"], "error: serve needs --port, --socket, or a socket of a supervisor\n"),
+        (["serve", "--port", "1", "--listen", "0.0.0.0"],
+            "error: --listen takes 127.0.0.1 alone: there is no login for other machines\n"),
+    ):
+        seen = watching.ends(*words)
+        watching.check(f"refused: {words}", seen == (2, "", told), seen)
+
+
+def lent_sockets(watching):
+    """Clients that come while no server runs wait for the next one, and none is refused."""
+    with socket.create_server(("127.0.0.1", 0)) as port, socket.socket(socket.AF_UNIX) as file:
+        file.bind(watching.socket)
+        file.listen(16)
+        number = port.getsockname()[1]
+        child, said = watching.supervised([port, file], "--journal", "journal")
+        watching.check("lent sockets", said == ["listening where the supervisor does\n"], said)
+        told = [answered(at_port(number), SAID), answered(at_file(watching.socket), b"USER ann\nSELECT * FROM pay\n")]
+        watching.check("sessions at both that are lent", told == ["welcome ann\ndone @1\ndone @2\n",
+            "welcome ann\nrows 1 @2\nrow,Bo\n"], told)
+        waits = at_port(number)
+        stopped = watching.stop(), child.communicate(timeout=WAIT)[0], child.returncode
+        watching.check("the lent server stops", stopped[::2] == ((0, "", ""), 0), stopped)
+        late = at_port(number)
+        child, said = watching.supervised([port, file], "--journal", "journal", "--load", "journal")
+        told = [answered(client, b"USER bob\nCHECKPOINTS\n") for client in (late, at_file(watching.socket))]
+        watching.check("who came between two servers", (said[0], told) == ("loaded 2 changes\n",
+            2 * ["welcome bob\ncheckpoints 0 @2\n"]), (said, told))
+        waits.close()
+        watching.stop()
+        child.communicate(timeout=WAIT)
+    for name in (watching.socket, os.path.join(watching.folder, "journal")):
+        os.remove(name)
+
+
+def sockets_of_another_process(watching):
+    """What is lent to another process is not taken."""
+    port = free_port()
+    with socket.create_server(("127.0.0.1", 0)) as other:
+        child, said = watching.serving("--port", str(port), pass_fds=[other.fileno()],
+            env={**os.environ, "LISTEN_FDS": "1", "LISTEN_PID": "1"})
+        watching.check("sockets of another process", said == f"listening on {port}\n", said)
+        watching.stop()
+        child.communicate(timeout=WAIT)
+
+
+def figures(watching):
+    """What was said and answered is counted, in each form; and nothing of that is an entry or a session."""
+    child, _ = watching.serving("--socket", watching.socket, "--changes", "9", "--workers", "3")
+    answered(at_file(watching.socket), SAID)
+    answered(at_file(watching.socket), b"USER eve\nSELECT * FROM pay\nSELECT * FROM no\nno statement\n")
+    held = at_file(watching.socket)
+    held.sendall(b"USER zoe\nCHECKPOINT\nEXPORT 9\n")
+    held.makefile("rb").readline()
+    time.sleep(0.2)
+    wanted = {"edition": "0.1.0", "workers": 3, "changes_limit": 9, "journal_bytes": 0, "moment": 2, "sessions_open": 1,
+        "sessions_begun": 3, "sessions_ended_by_fault": 0, "denied": {"11": 1, "14": 1, "17": 1}, "refused": {}}
+    said = {"create table": 1, "insert": 1, "select": 2, "checkpoint": 1, "export": 1}
+    seen = json.loads(watching.status("json")[1])
+    for name, value in wanted.items():
+        watching.check(f"status: {name}", seen[name] == value, seen)
+    counted = {kind: count for kind, count in seen["statements"].items() if count}
+    watching.check("status: statements", (counted, len(seen["statements"])) == (said, 11), seen)
+    about = abs(seen["start_time_seconds"] - time.time()) < WAIT and 10**5 < seen["memory_bytes"] < 10**9
+    watching.check("status: when and how large", about, seen)
+    text, lines = watching.status("text")[1].splitlines(), watching.status("prometheus")[1].splitlines()
+    watching.check("status as text", {"edition 0.1.0", "moment 2", "statements insert 1", "denied 14 1"} <= {*text}, text)
+    some = {"# TYPE sysr_moment gauge", "sysr_moment 2", "# TYPE sysr_statements_total counter",
+        'sysr_statements_total{kind="insert"} 1', 'sysr_denied_total{code="14"} 1', 'sysr_info{edition="0.1.0"} 1'}
+    form = re.compile(r'# TYPE sysr_\w+ (gauge|counter)|sysr_\w+(\{\w+="[^"]*"\})? \d+')
+    watching.check("status for Prometheus", some <= {*lines} and all(map(form.fullmatch, lines)), lines)
+    held.close()
+    watching.stop()
+    child.communicate(timeout=WAIT)
+    seen = watching.status("text")
+    watching.check("status of nobody", seen == (1, "", f"sysr: {watching.control}: no server listens there\n"), seen)
+
+
+def asked_often(watching):
+    """While 8 clients send lines, it is asked 200 times how the server fares, within some seconds."""
+    child, _ = watching.serving("--socket", watching.socket, "--workers", "8")
+    lines = b"USER ann\n" + 4000 * b"CHECKPOINTS\n"
+    told = []
+    clients = [threading.Thread(target=lambda: told.append(answered(at_file(watching.socket), lines))) for _ in range(8)]
+    for client in clients:
+        client.start()
+    begun = time.monotonic()
+    seen = [answered(at_file(watching.control), b"STATUS json\n") for _ in range(200)]
+    took = time.monotonic() - begun
+    for client in clients:
+        client.join()
+    moments = [json.loads(line)["statements"]["checkpoints"] for line in seen]
+    watching.check("asked often", moments == sorted(moments) and took < 20, (took, moments))
+    watching.check("clients meanwhile", [len(it) for it in told] == 8 * [len("welcome ann\n") + 4000 * 17], [*map(len, told)])
+    watching.stop()
+    child.communicate(timeout=WAIT)
+
+
+def denials(watching):
+    words = ["--socket", watching.socket, "--log-denials", "--log-time", "--sessions", "2"]
+    child, _ = watching.serving(*words)
+    answered(at_file(watching.socket), SAID)
+    answered(at_file(watching.socket), b"USER eve\nSELECT * FROM pay\nCHECKPOINTS\n")
+    said = child.communicate(timeout=WAIT)[1].decode()
+    time_of_day = r"\d{4}-\d\d-\d\dT\d\d:\d\d:\d\dZ "
+    wanted = time_of_day + r"session 2 user eve: denied @2: eve lacks SELECT\(name\) on pay\n"
+    watching.check("denials, with their time", re.fullmatch(wanted, said), said)
+
+
+def played(program, check):
+    with tempfile.TemporaryDirectory() as folder:
+        watching = Watching(program, check, folder)
+        socket_files(watching)
+        socket_file_of_a_killed_server(watching)
+        refused_words(watching)
+        lent_sockets(watching)
+        sockets_of_another_process(watching)
+        figures(watching)
+        asked_often(watching)
+        denials(watching)
+    Server.stop_all()
