@@ -180,14 +180,16 @@ def figures(watching):
     """What was said and answered is counted, in each form; and nothing of that is an entry or a session."""
     child, _ = watching.serving("--socket", watching.socket, "--changes", "9", "--workers", "3")
     answered(at_file(watching.socket), SAID)
+    answered(at_file(watching.socket), b"USER ann\nGRANT SELECT, INSERT ON pay TO bob, carl\nREVOKE INSERT ON pay FROM bob\n")
     answered(at_file(watching.socket), b"USER eve\nSELECT * FROM pay\nSELECT * FROM no\nno statement\n")
     held = at_file(watching.socket)
     held.sendall(b"USER zoe\nCHECKPOINT\nEXPORT 9\n")
     held.makefile("rb").readline()
     time.sleep(0.2)
-    wanted = {"edition": "0.1.0", "workers": 3, "changes_limit": 9, "journal_bytes": 0, "moment": 2, "sessions_open": 1,
-        "sessions_begun": 3, "sessions_ended_by_fault": 0, "denied": {"11": 1, "14": 1, "17": 1}, "refused": {}}
-    said = {"create table": 1, "insert": 1, "select": 2, "checkpoint": 1, "export": 1}
+    wanted = {"edition": "0.1.0", "workers": 3, "changes_limit": 9, "journal_bytes": 0, "moment": 4, "sessions_open": 1,
+        "sessions_begun": 4, "sessions_ended_by_fault": 0, "denied": {"11": 1, "14": 1, "17": 1}, "refused": {},
+        "tables": 1, "rows": 1, "grants": 3, "checkpoints": 1, "lines_faulty": 1}
+    said = {"create table": 1, "insert": 1, "grant": 1, "revoke": 1, "select": 2, "checkpoint": 1, "export": 1}
     seen = json.loads(watching.status("json")[1])
     for name, value in wanted.items():
         watching.check(f"status: {name}", seen[name] == value, seen)
@@ -195,9 +197,10 @@ def figures(watching):
     watching.check("status: statements", (counted, len(seen["statements"])) == (said, 11), seen)
     about = abs(seen["start_time_seconds"] - time.time()) < WAIT and 10**5 < seen["memory_bytes"] < 10**9
     watching.check("status: when and how large", about, seen)
+    watching.check("status: the longest turn", 0 <= seen["longest_turn_microseconds"] < WAIT * 10**6, seen)
     text, lines = watching.status("text")[1].splitlines(), watching.status("prometheus")[1].splitlines()
-    watching.check("status as text", {"edition 0.1.0", "moment 2", "statements insert 1", "denied 14 1"} <= {*text}, text)
-    some = {"# TYPE sysr_moment gauge", "sysr_moment 2", "# TYPE sysr_statements_total counter",
+    watching.check("status as text", {"edition 0.1.0", "moment 4", "statements insert 1", "denied 14 1"} <= {*text}, text)
+    some = {"# TYPE sysr_moment gauge", "sysr_moment 4", "# TYPE sysr_statements_total counter",
         'sysr_statements_total{kind="insert"} 1', 'sysr_denied_total{code="14"} 1', 'sysr_info{edition="0.1.0"} 1'}
     form = re.compile(r'# TYPE sysr_\w+ (gauge|counter)|sysr_\w+(\{\w+="[^"]*"\})? \d+')
     watching.check("status for Prometheus", some <= {*lines} and all(map(form.fullmatch, lines)), lines)

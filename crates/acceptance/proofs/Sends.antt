@@ -18,7 +18,7 @@ core_send : (K : RattleType) (k : keeper.Ghosts K.Denot) → IsSend K → IsSend
 core_send K k s = let basis = basis_send K in search (sendable, crosses, system.the_send) depth 30
 
 desk_sync : (K : RattleType) (k : keeper.Ghosts K.Denot) → IsSend K → IsSync (Desk.the_row K k)
-desk_sync K k s = let core = core_send K k s in search (sendable, turnstile.the_sync) depth 20
+desk_sync K k s = let core = core_send K k s in search (sendable, crosses, turnstile.the_sync) depth 20
 
 no_keeper_send : IsSend NoKeeper.the_row
 no_keeper_send = search (sendable, crosses) depth 20

@@ -1,5 +1,5 @@
 //! The images of the last checkpoints.
-ghost use Rattle.std.specs.Prelude.{◌≡◌, ◌++◌, ◌∷◌, [], find, map, reverse, option_map, IfOk};
+ghost use Rattle.std.specs.Prelude.{◌≡◌, ◌++◌, ◌∷◌, [], find, length, map, reverse, option_map, IfOk};
 ghost use Rattle.std.specs.Arc.{arc_value};
 ghost use Rattle.std.specs.Option.{option_copied};
 ghost use Rattle.catalogue_core.specs.Kept.{last_eight, pushed_out, bears, newest, number_and_point};
@@ -71,6 +71,13 @@ impl Catalogue {
     {
         let images = HeapCircularBuffer::with_capacity(alloc, KEPT)?;
         Ok(Catalogue { alloc, images })
+    }
+
+    /// How many images are kept, eight at most.
+    pub fn len(&self) -> usize
+        ensures { result ≡ length self.now }
+    {
+        self.images.len()
     }
 
     /// Adds an image, as the newest. Where there are eight, the oldest is pushed out and handed

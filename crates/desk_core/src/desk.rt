@@ -12,6 +12,7 @@ ghost use Rattle.desk_core.specs.Guarded.{origin_of, origin_at};
 ghost use Rattle.desk_core.specs.Kept.{HasKept, IsKept};
 ghost use Rattle.desk_core.specs.Turns.{asked_by, Took, Answered, Ended};
 
+use crate::last_size::LastSize;
 use crate::object::{Ask, Core, Said};
 use base_core::{Lack, Moment, NoMemory, User};
 use journal_core::{Keeper, Unkept, settle_owed};
@@ -19,7 +20,7 @@ use reader_core::Statement;
 use std::alloc::Global;
 use std::marker::Model;
 use std::sync::Wait;
-use system_core::{Reply, System};
+use system_core::{Reply, Size, System};
 use turnstile::{Turnstile, Worn};
 
 /// What its holder knows of the core: the beginning of the journal that he has seen.
@@ -34,6 +35,7 @@ pub type Note<K> = turnstile::Note<Core<K>>;
 #[derive(Drop)]
 pub struct Desk<K: Keeper + Drop> {
     turnstile: Turnstile<Core<K>>,
+    size: LastSize,
 }
 
 impl<K: Keeper + Drop> Model for Desk<K> {
@@ -83,9 +85,10 @@ impl<K: Keeper + Drop> Desk<K> {
         ensures origin { IfOk result (λ b. origin_of b.0 ≡ origin_at system keeper) }
         ensures passes { IfOk result (λ b. b.1.items ≡ new_passes system.journal b.0) }
     {
+        let size = LastSize::of(system.size());
         let core = Core::new(alloc, system, keeper)?;
         let (turnstile, passes) = Turnstile::build_at(alloc, core, count, start)?;
-        Ok((Desk { turnstile }, passes))
+        Ok((Desk { turnstile, size }, passes))
     }
 
     /// A turn of the pass. What the core gives to be freed is freed behind the turn. Only the reply to
@@ -101,7 +104,7 @@ impl<K: Keeper + Drop> Desk<K> {
         ensures change { OnErr result (says_change (event_of pass.old.number ask) ≡ true) }
     {
         match self.turnstile.turn(rt, pass, ask) {
-            Ok(answer) => answer.into_reply(),
+            Ok(answer) => answer.into_reply(&self.size),
             Err(Worn) => Ok(Reply::Refused {
                 at: Moment(0),
                 lack: Lack::Worn,
@@ -164,6 +167,11 @@ impl<K: Keeper + Drop> Desk<K> {
         }
     }
 
+    /// How large the core was behind the last turn that took a step of the checkpointer, or at first.
+    pub fn size(&self) -> Size {
+        self.size.get()
+    }
+
     /// What the pass has seen, for another pass of this desk to meet.
     pub fn note(&self, pass: &mut Pass<K>) -> Note<K>
         requires { pass.old.lock ≡ Some self.now }
@@ -201,7 +209,7 @@ impl<K: Keeper + Drop> Desk<K> {
         ensures missing { OnErr result (¬ AreAll self passes.items) }
         ensures err { IfErr result (λ e. (e.0 ≡ self) × (e.1 ≡ passes)) }
     {
-        let Desk { turnstile } = self;
+        let Desk { turnstile, size } = self;
         match turnstile.close(passes) {
             Ok(core) => {
                 let Core {
@@ -214,7 +222,7 @@ impl<K: Keeper + Drop> Desk<K> {
                 settle_owed(&mut keeper);
                 Ok((Box::into_inner(system), keeper))
             }
-            Err((turnstile, passes)) => Err((Desk { turnstile }, passes)),
+            Err((turnstile, passes)) => Err((Desk { turnstile, size }, passes)),
         }
     }
 }

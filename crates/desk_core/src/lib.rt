@@ -39,7 +39,8 @@
 //! # Mechanism
 //!
 //! The turn lock is the turnstile's; a turn does one step of the core and keeps its change, and
-//! reads or writes nothing else, nor waits for anything else. Nothing else is locked.
+//! reads or writes nothing else, nor waits for anything else. Nothing else is locked. Behind each step
+//! of the checkpointer the [`Size`](system_core::Size) of the core is noted, which [`Desk::size`] tells.
 //!
 //! # Cost
 //!
@@ -48,6 +49,7 @@
 #![tactic(auto)]
 
 mod desk;
+mod last_size;
 mod object;
 
 pub use desk::{Desk, Note, Pass};

@@ -5,13 +5,14 @@ ghost use Rattle.journal_core.specs.Recorder.{IsSpelledEvent};
 ghost use Rattle.desk_core.specs.Acting.{event_of};
 ghost use Rattle.desk_core.specs.Guarded.{origin_at};
 
+use crate::last_size::LastSize;
 use base_core::{NoMemory, User};
 use journal_core::{Acted, Keeper, Unkept, act};
 use reader_core::Statement;
 use std::alloc::Global;
 use std::marker::Model;
 use std::snapshot::Snapshot;
-use system_core::{Entry, Event, Parting, Reply, System};
+use system_core::{Entry, Event, Parting, Reply, Size, System};
 use turnstile::Object;
 
 /// A statement of a user, as some line spells it. Contracts see who says what.
@@ -74,12 +75,13 @@ impl Ask {
     }
 }
 
-/// A reply, whether it may be told, and what is freed behind the turn. Contracts see the reply, and
-/// whether it may be told.
+/// A reply, whether it may be told, what is freed behind the turn, and behind a step of the
+/// checkpointer how large the core is. Contracts see the reply, and whether it may be told.
 #[derive(Drop)]
 pub struct Answer {
     acted: Acted,
     parting: Parting,
+    size: Option<Size>,
 }
 
 impl Model for Answer {
@@ -91,13 +93,18 @@ impl Model for Answer {
 }
 
 impl Answer {
-    /// The reply, if it may be told. What is to be freed is freed here.
-    pub fn into_reply(self) -> Result<Reply, Unkept>
+    /// The reply, if it may be told. What is to be freed is freed here, and a size is noted.
+    pub fn into_reply(self, last: &LastSize) -> Result<Reply, Unkept>
         ensures { MatchResult result
             (λ reply. (self.told ≡ true) × (reply ≡ self.reply)) (λ _. self.told ≡ false) }
     {
-        let Answer { acted, parting } = self;
+        let Answer {
+            acted,
+            parting,
+            size,
+        } = self;
         parting.free();
+        last.note(size);
         let Acted { reply, told } = acted;
         if told { Ok(reply) } else { Err(Unkept) }
     }
@@ -197,9 +204,19 @@ impl<K: Keeper + Drop> Object for Core<K> {
     fn act(&mut self, pass: u64, ask: Ask) -> Answer {
         // The journal says that the world is lawful.
         let _ = self.system.journal();
+        let is_step = matches!(ask, Ask::Step);
         let acted = act(&mut self.system, &mut self.keeper, ask.event(pass));
         let parting = self.system.take_parting();
-        Answer { acted, parting }
+        let size = if is_step {
+            Some(self.system.size())
+        } else {
+            None
+        };
+        Answer {
+            acted,
+            parting,
+            size,
+        }
     }
 
     fn fixed_part(&self) -> Snapshot<Basis<K>> {

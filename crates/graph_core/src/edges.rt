@@ -60,6 +60,13 @@ impl Edges {
         self.links.next()
     }
 
+    /// How many edges there are.
+    pub fn len(&self) -> usize
+        ensures { result ≡ length self.now.edges }
+    {
+        self.links.len()
+    }
+
     /// How many edges there are of the privilege.
     pub fn count(&self, atom: &Atom) -> usize
         ensures { result ≡ count_of self.now.edges atom.now }

@@ -45,6 +45,13 @@ impl Graph {
         }
     }
 
+    /// How many grants are in force. It is constant.
+    pub fn grant_count(&self) -> usize
+        ensures { result ≡ length self.now.content.in_force }
+    {
+        self.edges.len()
+    }
+
     /// Begins a capture of the grants in force as they are now. One that is active is given up
     /// first; but for that it is constant. It takes no memory.
     pub fn begin(&mut self)

@@ -63,6 +63,13 @@ impl Links {
         self.next
     }
 
+    /// How many links there are.
+    pub fn len(&self) -> usize
+        ensures { result ≡ length self.now.links }
+    {
+        self.store.len()
+    }
+
     /// How many links there are of the privilege.
     pub fn count(&self, atom: usize) -> usize
         ensures { result ≡ count_at atom self.now.links }

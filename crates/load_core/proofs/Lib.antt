@@ -13,3 +13,4 @@ pub mod ReplayEnds
 pub mod ReplayInput
 pub mod GoneOn
 pub mod CutEnd
+pub mod Once

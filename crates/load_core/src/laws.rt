@@ -31,6 +31,14 @@ pub fn journal_is_loaded()
         → lines (journal_text journal) ≡ journal_lines journal }
 {}
 
+/// What lines load is one journal.
+pub fn lines_load_one_journal()
+    ensures { (limits : Limits) (start one other : List Entry) (ls : List (List ℕ))
+        → Loads limits start ls one
+        → Loads limits start ls other
+        → one ≡ other }
+{}
+
 /// A script whose changes are kept as lines is as good as its file: what the sink took is a text of
 /// whole lines, which load the journal that the script left, whatever else its lines said.
 pub fn script_is_kept<W: Sink>()

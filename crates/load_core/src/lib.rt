@@ -68,7 +68,7 @@ pub use fault::{LoadFault, Undone};
 pub use fault_text::load_fault_text;
 pub use laws::{
     cut_end_is_kept, gone_on_is_kept, gone_on_script_is_kept, journal_is_loaded, kept_goes_on,
-    nothing_allowed_is_left_out, script_is_kept, told_is_loaded,
+    lines_load_one_journal, nothing_allowed_is_left_out, script_is_kept, told_is_loaded,
 };
 pub use loader::enter_line;
 pub use loading::{Loaded, load, load_or_text, load_whole, load_whole_or_text};

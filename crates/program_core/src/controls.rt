@@ -20,6 +20,7 @@ use std::process::ExitCode;
 use std::sync::Arc;
 use std::sync::atomic::{AtomicBool, Ordering};
 use std::thread::Threads;
+use system_core::Size;
 
 // What is answered at a control socket.
 const STOPPING: &[u8] = b"stopping\n";
@@ -78,14 +79,14 @@ impl<'a> Controls<'a> {
     }
 
     /// Answers a caller. Whether he says that the server is to stop.
-    fn answer(&self, stream: UnixStream, counters: &Counters) -> bool {
+    fn answer(&self, stream: UnixStream, counters: &Counters, size: Size) -> bool {
         match read_call(&stream) {
             Call::Stop => {
                 promise_to_stop(stream);
                 return true;
             }
             Call::Status(form) => {
-                let _ = tell_status(self.host, &stream, form, self.facts, counters);
+                let _ = tell_status(self.host, &stream, form, self.facts, counters, size);
             }
             Call::Unknown => tell_unknown(&stream),
         }
@@ -105,13 +106,13 @@ impl<'a> Control for Controls<'a> {
         self.listener.is_some() || self.ended.is_some()
     }
 
-    fn heard(&self, counters: &Counters) -> Option<Order> {
+    fn heard(&self, counters: &Counters, size: Size) -> Option<Order> {
         wait_for_any([self.descriptor(), -1, -1], PAUSE_MILLIS);
         if !self.told.get() && self.has_ended() {
             self.told.set(true);
             return Some(Order::Stop);
         }
-        if self.answer(self.caller()?, counters) {
+        if self.answer(self.caller()?, counters, size) {
             Some(Order::Stop)
         } else {
             None

@@ -14,6 +14,7 @@ use std::net::Shutdown;
 use std::os::unix::net::UnixStream;
 use std::process::ExitCode;
 use std::time::{SystemTime, UNIX_EPOCH};
+use system_core::Size;
 
 // The process's pages, as the system tells them, and the bytes of one.
 const PAGES: &str = "/proc/self/statm";
@@ -71,6 +72,13 @@ fn journal_bytes(host: &HostRuntime, journal: Option<&str>) -> u64 {
     }
 }
 
+fn put_size<W: Write>(report: &mut Report<'_, W>, size: Size) -> Result<()> {
+    report.figure("tables", Growth::Gauge, size.tables)?;
+    report.figure("rows", Growth::Gauge, size.rows)?;
+    report.figure("grants", Growth::Gauge, size.grants)?;
+    report.figure("checkpoints", Growth::Gauge, size.checkpoints)
+}
+
 fn put_sessions<W: Write>(report: &mut Report<'_, W>, counters: &Counters) -> Result<()> {
     let (begun, ended) = (counters.begun(), counters.ended());
     report.figure("sessions_open", Growth::Gauge, begun.saturating_sub(ended))?;
@@ -83,6 +91,9 @@ fn put_sessions<W: Write>(report: &mut Report<'_, W>, counters: &Counters) -> Re
 }
 
 fn put_statements<W: Write>(report: &mut Report<'_, W>, counters: &Counters) -> Result<()> {
+    let longest = counters.longest_turn();
+    report.figure("longest_turn_microseconds", Growth::Gauge, longest)?;
+    report.figure("lines_faulty", Growth::Counter, counters.lines_faulty())?;
     report.begin_family("statements")?;
     for (place, kind) in KINDS.iter().enumerate() {
         report.part("statements", "kind", *kind, counters.statements(place))?;
@@ -149,11 +160,13 @@ pub fn tell_status(
     form: StatusForm,
     facts: Facts<'_>,
     counters: &Counters,
+    size: Size,
 ) -> Result<()> {
     let mut writer = BufWriter::new(host.alloc(), stream)?;
     let mut report = Report::begin(form, &mut writer, VERSION)?;
     put_facts(host, &mut report, facts)?;
     report.figure("moment", Growth::Gauge, counters.moment())?;
+    put_size(&mut report, size)?;
     put_sessions(&mut report, counters)?;
     put_statements(&mut report, counters)?;
     put_lacks(&mut report, counters, Lacking::Denied)?;

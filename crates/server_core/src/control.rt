@@ -3,9 +3,12 @@
 use crate::counters::Counters;
 use crate::door::Door;
 use crate::service::Service;
+use desk_core::Desk;
+use journal_core::Keeper;
 use std::sync::ledger::Ledger;
 use std::sync::{Mutex, Wait};
 use std::time::{Clock, Duration, Instant};
+use system_core::Size;
 
 /// What is said to a server.
 #[derive(Clone, Copy, Debug, PartialEq, Eq)]
@@ -22,8 +25,8 @@ pub trait Control {
     fn listens(&self) -> bool;
 
     /// What was said since the last call, if anything was. It waits for some milliseconds at most
-    /// until something is, and answers who asks how the server fares.
-    fn heard(&self, counters: &Counters) -> Option<Order>;
+    /// until something is, and answers who asks how the server fares, which is so large.
+    fn heard(&self, counters: &Counters, size: Size) -> Option<Order>;
 
     /// How many seconds sessions have to end, once a server is stopped, before they are cut.
     fn grace(&self) -> u64;
@@ -75,8 +78,9 @@ impl Ordered {
 /// Listens until so many workers take no further session: to a control that says that the server is to
 /// stop. Then no further session is taken, and each that runs ends behind the lines that it was sent;
 /// at a second word, or once the grace is over, it is cut.
-pub fn watch<L: Ledger, R: Wait + Clock, C: Control>(
+pub fn watch<K: Keeper + Drop, L: Ledger, R: Wait + Clock, C: Control>(
     rt: &R,
+    desk: &Desk<K>,
     service: &Service<'_>,
     door: &Mutex<Door<L>>,
     workers: u64,
@@ -93,7 +97,7 @@ pub fn watch<L: Ledger, R: Wait + Clock, C: Control>(
         if service.sign.left() >= workers {
             return;
         }
-        match control.heard(&service.counters) {
+        match control.heard(&service.counters, desk.size()) {
             Some(Order::Stop) => ordered.carry_out(rt, service, door, control),
             Some(Order::Cut) => service.sign.cut(rt),
             None => {}

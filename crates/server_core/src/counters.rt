@@ -1,9 +1,10 @@
 //! What a server counts, for whoever asks how it fares.
 
-use base_core::{Moment, NoMemory};
+use base_core::{Lack, Moment, NoMemory};
 use reader_core::Statement;
 use std::alloc::Global;
 use std::sync::atomic::{AtomicU64, Ordering};
+use std::time::Duration;
 use system_core::Reply;
 
 /// The kinds of statements, by the words that begin them, in the order in which they are counted.
@@ -24,15 +25,18 @@ pub const KINDS: [&str; 11] = [
 // Codes of lacks are below.
 const CODES: usize = 32;
 
-/// How many sessions began and ended, how many statements of each kind were read, and how many were
-/// denied and refused for each lack, by its code; and the last moment that was told. Threads count
-/// together. No contract speaks of it.
+/// How many sessions began and ended, how many lines say no statement, how many statements of each kind
+/// were read, and how many were denied and refused for each lack, by its code; the last moment that was
+/// told, and how long the checkpointer waited for a turn at most. Threads count together. No contract
+/// speaks of it.
 #[derive(Drop)]
 pub struct Counters {
     begun: AtomicU64,
     ended: AtomicU64,
     faults: AtomicU64,
     moment: AtomicU64,
+    faulty: AtomicU64,
+    longest: AtomicU64,
     statements: Vec<AtomicU64>,
     denied: Vec<AtomicU64>,
     refused: Vec<AtomicU64>,
@@ -84,6 +88,8 @@ impl Counters {
             ended: AtomicU64::new(0),
             faults: AtomicU64::new(0),
             moment: AtomicU64::new(moment.0),
+            faulty: AtomicU64::new(0),
+            longest: AtomicU64::new(0),
             statements: noughts(alloc, KINDS.len())?,
             denied: noughts(alloc, CODES)?,
             refused: noughts(alloc, CODES)?,
@@ -103,6 +109,22 @@ impl Counters {
 
     pub(crate) fn said(&self, statement: &Statement) {
         count(&self.statements, kind_of(statement));
+    }
+
+    pub(crate) fn faulty(&self) {
+        self.faulty.fetch_add(1, Ordering::SeqCst);
+    }
+
+    pub(crate) fn unread(&self) {
+        count(&self.refused, Lack::NoMemory.code() as usize);
+    }
+
+    /// The checkpointer had waited so long for a turn, and taken it. There is one checkpointer alone.
+    pub(crate) fn took(&self, time: Duration) {
+        let micros = u64::try_from(time.as_micros()).unwrap_or(u64::MAX);
+        if micros > self.longest_turn() {
+            self.longest.store(micros, Ordering::SeqCst);
+        }
     }
 
     /// Of two replies that are told at once the earlier may be the last that is noted here.
@@ -135,6 +157,16 @@ impl Counters {
     /// The last moment that was told.
     pub fn moment(&self) -> u64 {
         self.moment.load(Ordering::SeqCst)
+    }
+
+    /// How many lines say no statement.
+    pub fn lines_faulty(&self) -> u64 {
+        self.faulty.load(Ordering::SeqCst)
+    }
+
+    /// For how many microseconds the checkpointer waited for a turn at most, and took it.
+    pub fn longest_turn(&self) -> u64 {
+        self.longest.load(Ordering::SeqCst)
     }
 
     /// How many statements of the kind at this place of [`KINDS`] were read.

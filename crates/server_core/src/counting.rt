@@ -63,4 +63,12 @@ impl<'a, R: Wait + Clock, G: Log> Witness for Counting<'a, R, G> {
             self.log.denied(self.rt, self.number, user, reply);
         }
     }
+
+    fn faulty(&self) {
+        self.counters.faulty();
+    }
+
+    fn unread(&self) {
+        self.counters.unread();
+    }
 }

@@ -24,7 +24,7 @@ pub core_send : (K : RattleType) (k : keeper.Ghosts K.Denot) → IsSend K → Is
 core_send K k s = let basis = basis_send K in search (sendable, crosses, system.the_send) depth 30
 
 pub desk_sync : (K : RattleType) (k : keeper.Ghosts K.Denot) → IsSend K → IsSync (Desk.the_row K k)
-desk_sync K k s = let core = core_send K k s in search (sendable, turnstile.the_sync) depth 20
+desk_sync K k s = let core = core_send K k s in search (sendable, crosses, turnstile.the_sync) depth 20
 
 pub worker_send : (K L : RattleType) (k : keeper.Ghosts K.Denot) (l : ledger.Ghosts L.Denot) → IsSend K → IsSend (Worker.the_row K L k l)
 worker_send K L k l s = let core = core_send K k s in search (sendable, crosses, pass.the_send, share.the_send) depth 20

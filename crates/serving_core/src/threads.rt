@@ -3,10 +3,9 @@ ghost use Rattle.std.specs.Prelude.{◌≡◌, All, IfOk};
 ghost use Rattle.std.specs.Thread.{IsSend, IsSync};
 ghost use Rattle.server_core.specs.Sessions.{IsNew, IsNewWorker, IsWorkers, IsCheckpointers};
 
-use base_core::NoGate;
 use desk_core::{Desk, Pass};
 use journal_core::Keeper;
-use server_core::{Control, Door, Log, ServeFault, Service, Worker, watch, work};
+use server_core::{Control, Door, Log, Lookout, ServeFault, Service, Worker, watch, work};
 use session_core::checkpointer;
 use std::alloc::Global;
 use std::snapshot::Snapshot;
@@ -49,14 +48,16 @@ fn check<K: Keeper + Drop, R: Wait + Clock>(
     desk: &Desk<K>,
     begun: &Snapshot<System>,
     pass: Pass<K>,
+    service: &Service<'_>,
     stop: &AtomicBool,
 ) -> Pass<K>
     requires { IsNew begun.now.value.journal desk.now pass }
     ensures { IsCheckpointers begun.now.value.journal desk.now result }
 {
     let mut pass = pass;
+    let lookout = Lookout::new(&service.counters);
     // Where a change could not be kept, or all turns are drawn, each session is told too.
-    let _ = checkpointer(rt, desk, &mut pass, &NoGate, stop);
+    let _ = checkpointer(rt, desk, &mut pass, &lookout, stop);
     pass
 }
 
@@ -160,7 +161,7 @@ where
                 move || -> Pass<K>
                     requires { IsNew begun.now.value.journal desk.now own }
                     ensures { IsCheckpointers begun.entry.now.value.journal desk.entry.now result }
-                { check(rt, desk, begun, own, stop) },
+                { check(rt, desk, begun, own, service, stop) },
             ) else {
                 return Err(ServeFault::NoMemory);
             };
@@ -179,7 +180,7 @@ where
                 }
             }
             drop(closed);
-            watch(rt, service, door, threads.len() as u64, control);
+            watch(rt, desk, service, door, threads.len() as u64, control);
             let back = join_all(rt, desk, begun, threads);
             stop.store(true, Ordering::SeqCst);
             let last = checks.join(rt);

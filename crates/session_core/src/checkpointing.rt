@@ -3,13 +3,14 @@ ghost use Rattle.std.specs.Prelude.{◌≡◌, ◌^◌, Some, OnErr};
 ghost use Rattle.session_core.specs.Checking.{Looks, LooksRepeatedly};
 ghost use Rattle.session_core.specs.Gains.{Watches};
 
-use base_core::{Gate, Lack};
+use crate::witness::Witness;
+use base_core::Lack;
 use desk_core::{Desk, Pass};
 use journal_core::Keeper;
 use std::sync::Wait;
 use std::sync::atomic::{AtomicBool, Ordering};
 use std::thread;
-use std::time::{Clock, Duration};
+use std::time::{Clock, Duration, Instant};
 use system_core::Reply;
 use turnstile::Worn;
 
@@ -19,7 +20,7 @@ const SHORTEST_MILLIS: u64 = 2;
 const LONGEST_MILLIS: u64 = 40;
 
 /// A step of the active checkpoint, which is given up exactly where the step was refused memory.
-fn step<K: Keeper + Drop, R: Wait>(rt: &R, desk: &Desk<K>, pass: &mut Pass<K>) -> Reply
+fn look<K: Keeper + Drop, R: Wait>(rt: &R, desk: &Desk<K>, pass: &mut Pass<K>) -> Reply
     requires { pass.old.lock ≡ Some desk.now }
     ensures { Looks desk.now result pass.old pass.new }
 {
@@ -32,12 +33,33 @@ fn step<K: Keeper + Drop, R: Wait>(rt: &R, desk: &Desk<K>, pass: &mut Pass<K>) -
     }
 }
 
+/// The same. The witness is told how long it took, if the clock says it.
+fn step<K: Keeper + Drop, R: Wait + Clock, G: Witness>(
+    rt: &R,
+    desk: &Desk<K>,
+    pass: &mut Pass<K>,
+    witness: &G,
+) -> Reply
+    requires { pass.old.lock ≡ Some desk.now }
+    ensures { Looks desk.now result pass.old pass.new }
+{
+    let since = Instant::now(rt).ok();
+    let reply = look(rt, desk, pass);
+    if let Some(since) = since
+        && let Ok(took) = since.elapsed(rt)
+    {
+        witness.took(took);
+    }
+    reply
+}
+
 /// Takes steps of the active checkpoint, each in a turn of the pass, until the flag is set. A
 /// checkpoint is given up exactly where its step was refused memory, in the turn of the pass behind
 /// that. The pass makes no entry. Where no checkpoint is active it sleeps two milliseconds before it
 /// looks again, and twice as long each further time, up to 40 milliseconds; between two steps it
-/// calls the gate with the number of records that are left. `Worn` where all turns are drawn.
-pub fn checkpointer<K: Keeper + Drop, R: Wait + Clock, G: Gate>(
+/// calls the gate with the number of records that are left, and tells it how long each turn took.
+/// `Worn` where all turns are drawn.
+pub fn checkpointer<K: Keeper + Drop, R: Wait + Clock, G: Witness>(
     rt: &R,
     desk: &Desk<K>,
     pass: &mut Pass<K>,
@@ -54,7 +76,7 @@ pub fn checkpointer<K: Keeper + Drop, R: Wait + Clock, G: Gate>(
         if stop.load(Ordering::SeqCst) {
             return Ok(());
         }
-        let reply = step(rt, desk, pass);
+        let reply = step(rt, desk, pass, gate);
         match &reply {
             Reply::Idle => {
                 thread::sleep(rt, Duration::from_millis(pause));

@@ -73,6 +73,7 @@ pub fn serve_line<K: Keeper + Drop, R: Wait, W: Sink, G: Witness>(
         (W.taken writer.old) (W.taken writer.new)) }
 {
     if line.len() > MAX_LINE {
+        gate.faulty();
         let written = write_fault(buffer, Code::TooLong, MAX_LINE, writer);
         return tell(gate, None, written);
     }
@@ -90,8 +91,12 @@ pub fn serve_line<K: Keeper + Drop, R: Wait, W: Sink, G: Witness>(
             tell(gate, at, written)
         }
         Err(ReadFault::At { code, offset }) => {
+            gate.faulty();
             tell(gate, None, write_fault(buffer, code, offset, writer))
         }
-        Err(ReadFault::NoMemory) => tell(gate, None, write_unread(writer)),
+        Err(ReadFault::NoMemory) => {
+            gate.unread();
+            tell(gate, None, write_unread(writer))
+        }
     }
 }

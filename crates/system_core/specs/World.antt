@@ -5,8 +5,9 @@ use Rattle.base_core.specs.declared.name.User.{User}
 use Rattle.base_core.specs.declared.value.Moment.{Moment}
 use Rattle.base_core.specs.declared.limits.Limits.{Limits}
 use Rattle.reader_core.specs.declared.statement.Statement.{Statement}
-use Rattle.capture_core.specs.Image.{records}
+use Rattle.capture_core.specs.Image.{records, row_total}
 use Rattle.system_core.specs.declared.machine.event.Entry.{Entry}
+use Rattle.system_core.specs.declared.machine.size.Size.{Size}
 use Rattle.system_core.specs.Journal.{tables_at, rights_at, IsLawful}
 use Rattle.system_core.specs.Exports.{journal_at}
 
@@ -43,6 +44,15 @@ next_moment w = record { 0 = length w.journal + 1 }
 
 abbrev pub with_entry : World → Entry → World
 with_entry w e = record w { journal = w.journal ++ e ∷ [] }
+
+-- how many tables and rows the journal makes, grants it leaves in force, and checkpoints are kept
+abbrev pub size_of : World → Size
+size_of w = record {
+  tables = length (tables_at w.journal);
+  rows = row_total (tables_at w.journal);
+  grants = length (rights_at w.journal).in_force;
+  checkpoints = length w.finished;
+}
 
 -- how many records a checkpoint of this point has
 abbrev pub records_at : List Entry → Moment → ℕ

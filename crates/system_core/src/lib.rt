@@ -74,4 +74,5 @@ mod machine;
 
 pub use machine::event::{Checkpoint, Entry, Event, Reply};
 pub use machine::parting::Parting;
+pub use machine::size::Size;
 pub use machine::system::System;

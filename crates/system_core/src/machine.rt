@@ -10,4 +10,5 @@ pub mod checkpoints;
 pub mod event;
 pub mod ledger;
 pub mod parting;
+pub mod size;
 pub mod system;

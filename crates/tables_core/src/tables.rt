@@ -1,5 +1,5 @@
 //! All tables, by name.
-ghost use Rattle.std.specs.Prelude.{IfSome, ◌≡◌, ◌+◌, ◌<◌, ◌^◌, ◌↔◌, ◌++◌, ◌∷◌, [], IfOk, OnOk, OnErr, IsTrue, IsSome, IsSomeAnd, Some, None, slice_get, min, length, option_map};
+ghost use Rattle.std.specs.Prelude.{IfSome, ◌≡◌, ◌+◌, ◌<◌, ◌^◌, ◌%◌, ◌↔◌, ◌++◌, ◌∷◌, [], IfOk, OnOk, OnErr, IsTrue, IsSome, IsSomeAnd, Some, None, slice_get, min, length, option_map};
 ghost use Rattle.std.specs.Option.{option_copied, option_map_or};
 ghost use Rattle.std.specs.List.{IsDistinct};
 ghost use Rattle.std.specs.Map.{keys_of};
@@ -179,6 +179,13 @@ impl Tables {
             Some(table) => table.row_count(),
             None => 0,
         }
+    }
+
+    /// How many rows all tables have now, as far as 64 bits count. It is constant.
+    pub fn row_total(&self) -> usize
+        ensures { result ≡ length (all_rows self.now.tables) % 2 ^ 64 }
+    {
+        self.total
     }
 
     /// How many rows were ever inserted into the table of this name: the number of the next one.

@@ -7,7 +7,7 @@ ghost use Rattle.tables_core.specs.Contents.{table_of};
 ghost use Rattle.reader_core.specs.declared.statement.Statement.TheVariants as statements;
 ghost use Rattle.grants_core.specs.Lawful.{AreLawful};
 ghost use Rattle.system_core.specs.Journal.{verdict_at, tables_at, changes, rights_at};
-ghost use Rattle.system_core.specs.World.{opening, entry, moment_of, IsLawfulWorld};
+ghost use Rattle.system_core.specs.World.{opening, entry, moment_of, size_of, IsLawfulWorld};
 ghost use Rattle.system_core.specs.Judging.{checkpoint_checks, verdict_of};
 ghost use Rattle.system_core.specs.Step.{change_reply, lack_reply, CarriesOut, Responds, Advances, GivesUp, Step, Run, IsRunOfSome};
 
@@ -15,6 +15,7 @@ use crate::machine::checkpoints::{judged_at, listed, may_export};
 use crate::machine::event::{Entry, Event, Reply};
 use crate::machine::ledger::Ledger;
 use crate::machine::parting::Parting;
+use crate::machine::size::Size;
 use base_core::{Condition, Distinct, Lack, Limits, Moment, Name, NoMemory, Sequence, User};
 use capture_core::{Capture, Progress};
 use catalogue_core::Catalogue;
@@ -109,6 +110,19 @@ impl System {
         ensures { result ≡ self.now.chunk }
     {
         self.chunk
+    }
+
+    /// How large it is now. It is constant.
+    pub fn size(&self) -> Size
+        ensures { result ≡ size_of self.now }
+    {
+        let (tables, rights) = (self.ledger.tables(), self.ledger.rights());
+        Size {
+            tables: tables.len() as u64,
+            rows: tables.row_total() as u64,
+            grants: rights.grant_count() as u64,
+            checkpoints: self.catalogue.len() as u64,
+        }
     }
 
     /// The accepted changes, in order: entry m, counted from 1, made moment m. Each was allowed at

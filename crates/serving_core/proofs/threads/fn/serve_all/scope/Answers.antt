@@ -15,7 +15,8 @@ spawn_with-requires-send-F g c κs within =
     let rt = c.requires.crosses.1 in
     let core = core_send (param 0 g.row.K) g.K.Keeper k in
     let desk = desk_sync (param 0 g.row.K) g.K.Keeper k in
-    search (param_send, arg_send, sendable, crosses, pass.the_send) depth 20 fits 4000
+    let service = service_sync in
+    search (param_send, arg_send, sendable, crosses, pass.the_send) depth 40 fits 20000
 
 pub spawn_with-requires-send-T : goal.spawn_with-requires-send-T
 spawn_with-requires-send-T g c κs within =

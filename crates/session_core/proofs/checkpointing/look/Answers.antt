@@ -5,7 +5,7 @@ use Rattle.system_core.specs.declared.machine.event.Reply.TheVariants as replies
 use Rattle.desk_core.specs.declared.object.Ask.TheVariants as asks
 use Rattle.desk_core.specs.Turns.{Answered}
 use Rattle.session_core.specs.Checking.{gave_up}
-use Rattle.session_core.proofs.checkpointing.step.Goals as goal
+use Rattle.session_core.proofs.checkpointing.look.Goals as goal
 
 pub returns-in-NoMemory : goal.returns-in-NoMemory
 returns-in-NoMemory g c =
