@@ -53,6 +53,12 @@ class Watching:
     def status(self, form):
         return self.ends("status", "--control", self.control, "--format", form)
 
+    def await_sessions(self, count):
+        """Returns when so many sessions have begun, or it took too long."""
+        late = time.monotonic() + WAIT
+        while json.loads(self.status("json")[1])["sessions_begun"] < count and time.monotonic() < late:
+            time.sleep(0.02)
+
     def stop(self):
         return self.ends("stop", "--control", self.control)
 
@@ -98,8 +104,9 @@ def socket_files(watching):
     refused = watching.ends("serve", "--socket", watching.socket)
     taken = 1, "", f"sysr: {watching.socket}: in use by another sysr\n"
     watching.check("a socket file has one server", refused == taken, refused)
-    stopped = watching.stop(), child.communicate(timeout=WAIT), child.returncode
     # (who looked whether a server listens there was a session too)
+    watching.await_sessions(3)
+    stopped = watching.stop(), child.communicate(timeout=WAIT), child.returncode
     watching.check("stopped at both", stopped == ((0, "", ""), (b"served 3\n", b""), 0), stopped)
     left = os.listdir(watching.folder)
     watching.check("no socket file is left", left == [], left)
@@ -212,11 +219,11 @@ def figures(watching):
 
 
 def asked_often(watching):
-    """While 8 clients send lines, it is asked 200 times how the server fares, within some seconds."""
-    child, _ = watching.serving("--socket", watching.socket, "--workers", "8")
-    lines = b"USER ann\n" + 4000 * b"CHECKPOINTS\n"
+    """While 16 clients send lines, it is asked 200 times how the server fares, within some seconds."""
+    child, _ = watching.serving("--socket", watching.socket, "--workers", "16")
+    lines = b"USER ann\n" + 2000 * b"CHECKPOINTS\n"
     told = []
-    clients = [threading.Thread(target=lambda: told.append(answered(at_file(watching.socket), lines))) for _ in range(8)]
+    clients = [threading.Thread(target=lambda: told.append(answered(at_file(watching.socket), lines))) for _ in range(16)]
     for client in clients:
         client.start()
     begun = time.monotonic()
@@ -226,7 +233,7 @@ def asked_often(watching):
         client.join()
     moments = [json.loads(line)["statements"]["checkpoints"] for line in seen]
     watching.check("asked often", moments == sorted(moments) and took < 20, (took, moments))
-    watching.check("clients meanwhile", [len(it) for it in told] == 8 * [len("welcome ann\n") + 4000 * 17], [*map(len, told)])
+    watching.check("clients meanwhile", [len(it) for it in told] == 16 * [len("welcome ann\n") + 2000 * 17], [*map(len, told)])
     watching.stop()
     child.communicate(timeout=WAIT)
 
