@@ -1,0 +1,11 @@
+pub mod ClientFinal
+pub mod ClientFirst
+pub mod Decoding
+pub mod Exchange
+pub mod Hmac
+pub mod Login
+pub mod Pbkdf2
+pub mod Scram
+pub mod ServerMessages
+pub mod Users
+pub mod Verifiers
