@@ -138,9 +138,9 @@ def socket_file_of_a_killed_server(watching):
 
 def refused_words(watching):
     for words, told in (
-        (["serve"], "error: serve needs --port, --socket, or a socket of a supervisor\n"),
+        (["serve"], "error: serve needs --port, --socket, --user-socket, or a socket of a supervisor\n"),
         (["serve", "--port", "1", "--listen", "0.0.0.0"],
-            "error: --listen takes 127.0.0.1 alone: there is no login for other machines\n"),
+            "error: --listen takes another address than 127.0.0.1 only with --users\n"),
     ):
         seen = watching.ends(*words)
         watching.check(f"refused: {words}", seen == (2, "", told), seen)

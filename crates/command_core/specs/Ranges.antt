@@ -4,6 +4,7 @@ use Rattle.base_core.specs.Full.{IsFullBut}
 use Rattle.base_core.specs.declared.limits.Limits.{Limits}
 use Rattle.command_core.specs.declared.command_line.CommandLine.{CommandLine}
 use Rattle.command_core.specs.declared.command_line.CommandLine.TheVariants as asked
+use Rattle.command_core.specs.declared.command_line.Serving.{Serving}
 
 -- as many records as a step of the checkpointer may take
 abbrev pub IsChunk : ℕ → Type 0
@@ -25,12 +26,9 @@ IsPort port = IfSome port (λ p. (0 < p) × (p ≤ 65535))
 abbrev pub IsMoment : Option ℕ → Type 0
 IsMoment at = IfSome at (λ m. m ≤ 1000000000)
 
--- each number that is asked for is in its range
-abbrev pub IsInRange : CommandLine → Type 0
-IsInRange (asked.Run r) = IsChunk r.chunk × AreAsked r.limits
-IsInRange (asked.Journal reading) = AreAsked reading.limits
-IsInRange (asked.Dump load reading) = AreAsked reading.limits
-IsInRange (asked.Serve s) =
+-- each number that is asked of a server is in its range
+abbrev pub ServesInRange : Serving → Type 0
+ServesInRange s =
     IsPort s.port
     × ((0 < s.workers) × (s.workers ≤ 16))
     × (0 < s.sessions)
@@ -38,6 +36,15 @@ IsInRange (asked.Serve s) =
     × AreAsked s.limits
     × IsIdle s.idle
     × (s.grace ≤ 86400)
+
+-- each number that is asked for is in its range
+abbrev pub IsInRange : CommandLine → Type 0
+IsInRange (asked.Run r) = IsChunk r.chunk × AreAsked r.limits
+IsInRange (asked.Journal reading) = AreAsked reading.limits
+IsInRange (asked.Dump load reading) = AreAsked reading.limits
+IsInRange (asked.Serve s sockets) = ServesInRange s
+IsInRange (asked.Verifier user) = Unit {0}
 IsInRange (asked.Stop control) = Unit {0}
 IsInRange (asked.Status control form) = Unit {0}
+IsInRange (asked.Reload control) = Unit {0}
 IsInRange (asked.Explain e) = IsMoment e.at × AreAsked e.reading.limits

@@ -1,10 +1,11 @@
 //! What the command line says.
-ghost use Rattle.std.specs.Prelude.{◌<◌, ◌≤◌, IfOk};
-ghost use Rattle.command_core.specs.Ranges.{AreAsked, IsChunk, IsIdle, IsMoment, IsPort, IsInRange};
+ghost use Rattle.std.specs.Prelude.{◌<◌, ◌≤◌, IfOk, IfSome};
+ghost use Rattle.command_core.specs.Ranges.{AreAsked, IsChunk, IsIdle, IsMoment, IsPort, ServesInRange, IsInRange};
 
 use crate::commands::program;
 use crate::reading::{Reading, limits_of, reading_of};
-use base_core::Limits;
+use crate::users::{UserSocketWord, user_of, user_sockets_of};
+use base_core::{Limits, User};
 use clap::error::ErrorKind;
 use clap::{ArgMatches, Error};
 use explain_text::Question;
@@ -33,7 +34,7 @@ const MAX_GRACE: u32 = 86_400;
 const MAX_MOMENT: u32 = 1_000_000_000;
 
 /// What the command line asks for.
-#[derive(Clone, Copy)]
+#[derive(Drop)]
 pub enum CommandLine<'a> {
     /// To answer the lines of standard input.
     Run(Running<'a>),
@@ -44,8 +45,12 @@ pub enum CommandLine<'a> {
         load: Option<&'a str>,
         reading: Reading,
     },
-    /// To serve sessions.
-    Serve(Serving<'a>),
+    /// To serve sessions, at these socket files of users' own too.
+    Serve(Serving<'a>, Vec<UserSocketWord>),
+    /// To make this user's line of a file of users.
+    Verifier {
+        user: User,
+    },
     /// To tell the server of this control socket to stop.
     Stop {
         control: &'a str,
@@ -55,13 +60,17 @@ pub enum CommandLine<'a> {
         control: &'a str,
         form: StatusForm,
     },
+    /// To have the server of this control socket read its file of users anew.
+    Reload {
+        control: &'a str,
+    },
     /// To explain the rights that the lines of standard input make.
     Explain(Explaining<'a>),
 }
 
-/// How lines are answered: how many records a step of the checkpointer takes, how much there may be,
-/// from which file the first changes come, to which each change is written, and whether to audit at
-/// the end.
+/// How lines are answered: how many records a step of the checkpointer takes, how much there may
+/// be, from which file the first changes come, to which each change is written, and whether to
+/// audit at the end.
 #[derive(Clone, Copy)]
 pub struct Running<'a> {
     pub chunk: usize,
@@ -72,18 +81,20 @@ pub struct Running<'a> {
 }
 
 /// The sessions that are asked for: at which port, and of which address, if that is said; at which
-/// socket file, and of which mode that is; how many, by how many threads, how many records a step of
-/// the checkpointer takes, how much there may be, for how many seconds a session waits for its client,
-/// if not for ever, whether it is told where sessions begin and end, who is denied what, and when that
-/// was; from which file the first changes come, to which each change is written, to which the state
-/// is written at the end, and whether to audit then; at which control socket it may be told to stop,
-/// whether the end of standard input tells it so, and how many seconds sessions then have.
+/// socket file, and of which mode that is; by which file of users they log in; how many, by how
+/// many threads, how many records a step of the checkpointer takes, how much there may be, for how
+/// many seconds a session waits for its client, if not for ever, whether it is told where sessions
+/// begin and end, who is denied what, and when that was; from which file the first changes come, to
+/// which each change is written, to which the state is written at the end, and whether to audit
+/// then; at which control socket it may be told to stop, whether the end of standard input tells it
+/// so, and how many seconds sessions then have.
 #[derive(Clone, Copy)]
 pub struct Serving<'a> {
     pub port: Option<u16>,
     pub listen: Option<&'a str>,
     pub socket: Option<&'a str>,
     pub mode: u32,
+    pub users: Option<&'a str>,
     pub workers: usize,
     pub sessions: u64,
     pub chunk: usize,
@@ -174,8 +185,8 @@ fn status_form_of(matches: &ArgMatches<'_>) -> StatusForm {
     }
 }
 
-// clap has refused a number out of range. Without one there is no end to them: 64 bits count all that
-// a server will ever take.
+// clap has refused a number out of range. Without one there is no end to them: 64 bits count all
+// that a server will ever take.
 fn sessions_of(matches: &ArgMatches<'_>) -> u64
     ensures { 0 < result }
 {
@@ -187,7 +198,7 @@ fn sessions_of(matches: &ArgMatches<'_>) -> u64
 
 // clap has refused a number out of range.
 fn serving_of<'a>(matches: &ArgMatches<'a>) -> Serving<'a>
-    ensures { IsInRange (CommandLine.Serve result) }
+    ensures { ServesInRange result }
 {
     let workers = matches.get_one::<u8>("workers").unwrap_or(WORKERS);
     Serving {
@@ -195,6 +206,7 @@ fn serving_of<'a>(matches: &ArgMatches<'a>) -> Serving<'a>
         listen: matches.get_str("listen"),
         socket: matches.get_str("socket"),
         mode: mode_of(matches),
+        users: matches.get_str("users"),
         workers: workers.clamp(1, MAX_WORKERS) as usize,
         sessions: sessions_of(matches),
         chunk: chunk_of(matches),
@@ -300,20 +312,51 @@ fn explaining_of<'a>(matches: &ArgMatches<'a>) -> Explaining<'a>
     }
 }
 
+/// What is asked of a server, by its control socket.
+fn control_of<'a>(matches: &ArgMatches<'a>) -> Option<CommandLine<'a>>
+    ensures { IfSome result IsInRange }
+{
+    if let Some(stop) = matches.subcommand_matches("stop") {
+        return Some(CommandLine::Stop {
+            control: word_of(stop, "control"),
+        });
+    }
+    if let Some(status) = matches.subcommand_matches("status") {
+        return Some(CommandLine::Status {
+            control: word_of(status, "control"),
+            form: status_form_of(status),
+        });
+    }
+    let reload = matches.subcommand_matches("reload")?;
+    Some(CommandLine::Reload {
+        control: word_of(reload, "control"),
+    })
+}
+
 /// Reads the words of a command line, of which the first is the name of the program. Each number is
-/// in its range: the chunk from 1 to 64, and 16 where none is given; the port, if one is given, from 1
-/// to 65,535; the workers from 1 to 16, and 4 where none are given; the sessions from 1 to
-/// 1,000,000,000, and 2^64 - 1 where none are given, so that there is no end to them; the changes from
-/// 1 to 1,000,000,000, and 1,000,000 where none are given; the seconds of an idle session, if they are
-/// given, from 1 to 86,400; the moment of an explanation, if it is given, from 0 to 1,000,000,000; the
-/// seconds of grace from 0 to 86,400, and 10 where none are given. An error is clap's: the words were
-/// refused, help or the version was asked for, or there was no memory.
+/// in its range: the chunk from 1 to 64, and 16 where none is given; the port, if one is given,
+/// from 1 to 65,535; the workers from 1 to 16, and 4 where none are given; the sessions from 1 to
+/// 1,000,000,000, and 2^64 - 1 where none are given, so that there is no end to them; the changes
+/// from 1 to 1,000,000,000, and 1,000,000 where none are given; the seconds of an idle session, if
+/// they are given, from 1 to 86,400; the moment of an explanation, if it is given, from 0 to
+/// 1,000,000,000; the seconds of grace from 0 to 86,400, and 10 where none are given. An error is
+/// clap's: the words were refused, help or the version was asked for, or there was no memory. Words
+/// are also refused where one that is to name a user names none.
 pub fn options<'a, S: AsStr>(alloc: Global, words: &'a [S]) -> Result<CommandLine<'a>, Error>
     ensures { IfOk result IsInRange }
 {
     let matches = program(alloc)?.try_get_matches_from(words)?;
     if let Some(serve) = matches.subcommand_matches("serve") {
-        return Ok(CommandLine::Serve(serving_of(serve)));
+        let sockets = user_sockets_of(alloc, serve)?;
+        return Ok(CommandLine::Serve(serving_of(serve), sockets));
+    }
+    if let Some(control) = control_of(&matches) {
+        return Ok(control);
+    }
+    if let Some(verifier) = matches.subcommand_matches("verifier") {
+        return Ok(CommandLine::Verifier {
+            user: user_of(alloc, word_of(verifier, "user"))?,
+        });
     }
     if let Some(explain) = matches.subcommand_matches("explain") {
         return Ok(CommandLine::Explain(explaining_of(explain)));
@@ -322,17 +365,6 @@ pub fn options<'a, S: AsStr>(alloc: Global, words: &'a [S]) -> Result<CommandLin
         return Ok(CommandLine::Dump {
             load: dump.get_str("load"),
             reading: reading_of(dump),
-        });
-    }
-    if let Some(stop) = matches.subcommand_matches("stop") {
-        return Ok(CommandLine::Stop {
-            control: word_of(stop, "control"),
-        });
-    }
-    if let Some(status) = matches.subcommand_matches("status") {
-        return Ok(CommandLine::Status {
-            control: word_of(status, "control"),
-            form: status_form_of(status),
         });
     }
     if let Some(journal) = matches.subcommand_matches("journal") {

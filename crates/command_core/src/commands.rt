@@ -20,9 +20,10 @@ A line is `user: statement`, as in `ann: SELECT * FROM pay`. Replies go to stand
 order of the lines; standard error says why the program could not go on.";
 
 const FORM_OF_A_SESSION: &str = "\
-The first line of a session is `USER name`; each later line is a statement of that user, as in
-`SELECT * FROM pay`. Standard error says of each session that ended with a fault which one it was;
-with --log it also says where each session begins and ends.";
+The first line of a session is `USER name`, or with --users a login stands in its place; each later
+line is a statement of that user, as in `SELECT * FROM pay`. Standard error says of each session that
+ended with a fault which one it was, and who was refused a login; with --log it also says where each
+session begins and ends.";
 
 const FORM_OF_A_JOURNAL: &str = "\
 It reads a journal (what `run --journal` kept) or, with --script, a script, and writes the journal
@@ -47,6 +48,16 @@ const FORM_OF_A_STATUS: &str = "\
 It tells of sessions, statements and denials since the server began, of its moment and its limit, of
 its journal and its memory: a line for each, or in the form of Prometheus, or as one object of JSON.
 The status is 0 once it was told.";
+
+const FORM_OF_A_RELOAD: &str = "\
+A line that is wrong leaves the users as they are, and is told. Who is no user any more begins no
+session; his open ones go on. The status is 0 if the file was taken, and 1 if not.";
+
+const FORM_OF_A_VERIFIER: &str = "\
+It reads a password: one line of standard input, of at most 1,024 printable characters of ASCII. It
+writes the user's line of the file that `serve --users` reads, as in `sysr verifier ann >> users`. The
+line does not say the password, but who reads it can try passwords. The status is 0 if it was written,
+and 1 if not.";
 
 /// A command under construction. No call here promises what it keeps, so that in a chain of them the
 /// last is as cheap to prove as the first; and none but the two below has an exit at a fault.
@@ -79,6 +90,14 @@ pub fn value_arg<'a>(alloc: Global, name: &'a str, value: &'a str, help: &'a str
 /// What such an option takes.
 pub fn taking<'a>(arg: Arg<'a>, parser: ValueParser<'a>) -> Arg<'a> {
     arg.value_parser(parser)
+}
+
+/// Something that has to be given, in its place.
+pub fn word_arg<'a>(alloc: Global, id: &'a str, name: &'a str, help: &'a str) -> Arg<'a> {
+    Arg::new(alloc, id)
+        .value_name(name)
+        .required(true)
+        .help(help)
 }
 
 /// An option that takes no value.
@@ -162,7 +181,9 @@ fn port_arg<'a>(alloc: Global) -> Arg<'a> {
 }
 
 fn listen_arg<'a>(alloc: Global) -> Arg<'a> {
-    let help = "The address of the port; 127.0.0.1, and no other yet, as there is no login";
+    let help =
+        "The address of the port: 127.0.0.1, where it is not given, and another one only with \
+        --users";
     value_arg(alloc, "listen", "ADDRESS", help)
 }
 
@@ -177,6 +198,19 @@ fn mode_arg<'a>(alloc: Global) -> Arg<'a> {
         "Who may open the socket file: its owner, its group too (660, where it is not given), or \
         everybody";
     value_arg(alloc, "mode", "MODE", help).value_parser(MODES.as_slice())
+}
+
+fn users_arg<'a>(alloc: Global) -> Arg<'a> {
+    let help =
+        "Begins each session with a login as a user of this file, but those at a --user-socket";
+    value_arg(alloc, "users", "FILE", help)
+}
+
+fn user_socket_arg<'a>(alloc: Global) -> Arg<'a> {
+    let help =
+        "Makes a socket file of this user's own, whose sessions are his, as ann=FILE; may be given \
+        several times";
+    value_arg(alloc, "user-socket", "USER=FILE", help).action(ArgAction::Append)
 }
 
 fn workers_arg<'a>(alloc: Global) -> Arg<'a> {
@@ -255,6 +289,19 @@ fn status_command<'a>(alloc: Global) -> Made<'a> {
     with(made, status_form_arg(alloc))
 }
 
+fn reload_command<'a>(alloc: Global) -> Made<'a> {
+    let about = "Has a server read its file of users anew";
+    let made = command(alloc, "reload", about, FORM_OF_A_RELOAD);
+    let help = "The control socket of the server";
+    with(made, control_arg(alloc, help).required(true))
+}
+
+fn verifier_command<'a>(alloc: Global) -> Made<'a> {
+    let about = "Makes a user's line of a file of users";
+    let made = command(alloc, "verifier", about, FORM_OF_A_VERIFIER);
+    with(made, word_arg(alloc, "user", "USER", "The user's name"))
+}
+
 fn status_form_arg<'a>(alloc: Global) -> Arg<'a> {
     let help = "For people (text), for Prometheus (prometheus), or for programs (json)";
     value_arg(alloc, "format", "f", help).value_parser(STATUS_FORMS.as_slice())
@@ -267,6 +314,8 @@ fn serve_command<'a>(alloc: Global) -> Made<'a> {
     let made = with(made, listen_arg(alloc));
     let made = with(made, socket_arg(alloc));
     let made = with(made, mode_arg(alloc));
+    let made = with(made, users_arg(alloc));
+    let made = with(made, user_socket_arg(alloc));
     let made = with(made, workers_arg(alloc));
     let made = with(made, sessions_arg(alloc));
     let made = with(made, chunk_arg(alloc));
@@ -280,7 +329,8 @@ fn serve_command<'a>(alloc: Global) -> Made<'a> {
     let made = with(made, dump_arg(alloc));
     let made = with(made, audit_arg(alloc));
     let help =
-        "Makes a control socket at this place, at which `sysr stop` and `sysr status` are heard";
+        "Makes a control socket at this place, at which `sysr stop`, `sysr status` and `sysr \
+        reload` are heard";
     let made = with(made, control_arg(alloc, help));
     let made = with(made, until_eof_arg(alloc));
     with(made, grace_arg(alloc))
@@ -305,5 +355,7 @@ pub fn program<'a>(alloc: Global) -> Made<'a> {
     let made = with_command(made, serve_command(alloc));
     let made = with_command(made, stop_command(alloc));
     let made = with_command(made, status_command(alloc));
+    let made = with_command(made, reload_command(alloc));
+    let made = with_command(made, verifier_command(alloc));
     with_command(made, explain_command(alloc))
 }

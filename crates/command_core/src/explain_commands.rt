@@ -1,6 +1,6 @@
 //! The command that explains rights, and its questions.
 
-use crate::commands::{Made, command, taking, value_arg, with, with_command};
+use crate::commands::{Made, command, taking, value_arg, with, with_command, word_arg};
 use crate::reading_flags::with_reading;
 use clap::{Arg, Command};
 use std::alloc::Global;
@@ -56,13 +56,6 @@ fn format_arg<'a>(alloc: Global) -> Arg<'a> {
     let help = "For people (text), for programs (csv), or as a graph for Graphviz (dot)";
     let arg = value_arg(alloc, "format", "f", help);
     arg.global(true).value_parser(FORMATS.as_slice())
-}
-
-fn word_arg<'a>(alloc: Global, id: &'a str, name: &'a str, help: &'a str) -> Arg<'a> {
-    Arg::new(alloc, id)
-        .value_name(name)
-        .required(true)
-        .help(help)
 }
 
 fn user_arg<'a>(alloc: Global) -> Arg<'a> {

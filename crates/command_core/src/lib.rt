@@ -2,10 +2,10 @@
 //!
 //! The crate knows the commands of the program, what each may be given, and the help that tells of
 //! it. [`options`] reads the words of a command line as a [`CommandLine`]: to answer a script
-//! ([`Running`]), to serve sessions ([`Serving`]), to stop a server or ask how it fares, to write a
-//! journal or a dump of what is read, or to explain the rights that it makes ([`Explaining`]). The last
-//! three bear a [`Reading`], which
-//! says whether standard input is a journal or a script, what becomes of a journal's last line that
+//! ([`Running`]), to serve sessions ([`Serving`]) also at socket files of users' own
+//! ([`UserSocketWord`]), to stop a server, ask how it fares or have it read its users anew, to make a
+//! user's verifier, to write a journal or a dump of what is read, or to explain the rights that it makes
+//! ([`Explaining`]). The last three bear a [`Reading`], which says whether standard input is a journal or a script, what becomes of a journal's last line that
 //! was cut off, and whether the status tells of lines that were left out. [`refuse`] shows the help
 //! that was asked for, or tells why the words were refused.
 //!
@@ -30,7 +30,9 @@ mod reading;
 mod reading_flags;
 #[cfg(test)]
 mod tests;
+mod users;
 
 pub use command_line::{CommandLine, Explaining, Running, Serving, StatusForm, options, refuse};
 pub use commands::VERSION;
 pub use reading::Reading;
+pub use users::UserSocketWord;

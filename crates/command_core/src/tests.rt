@@ -1,8 +1,8 @@
-//! Which words say how standard input is read, and which commands refuse them.
+//! Which words say how standard input is read, and who users are, and which words are refused.
 
 use crate::command_line::{CommandLine, options};
 use crate::reading::Reading;
-use base_core::Limits;
+use base_core::{Limits, Name, User};
 use clap::Error;
 use clap::error::ErrorKind;
 use load_core::{CutLine, Form};
@@ -26,9 +26,11 @@ fn read(alloc: Global, words: &[&str]) -> Result<Option<Reading>, Error> {
         CommandLine::Dump { load: _, reading } => Some(reading),
         CommandLine::Explain(asked) => Some(asked.reading),
         CommandLine::Run(_)
-        | CommandLine::Serve(_)
+        | CommandLine::Serve(..)
         | CommandLine::Stop { .. }
-        | CommandLine::Status { .. } => None,
+        | CommandLine::Status { .. }
+        | CommandLine::Reload { .. }
+        | CommandLine::Verifier { .. } => None,
     })
 }
 
@@ -152,4 +154,70 @@ fn what_answers_statements_takes_no_flag_of_a_reading(rt: HostRuntime) -> Result
     all_refused(&rt, rt.alloc(), &unknown, ErrorKind::UnknownArgument)?;
     let other_words = ["sysr journal --cut-line keep", "sysr dump --cut-line keep"];
     all_refused(&rt, rt.alloc(), &other_words, ErrorKind::InvalidValue)
+}
+
+// The user of this name, which is one.
+fn user(rt: &impl Abort, name: &str) -> User {
+    User(Name::read(name.as_bytes()).expect(rt, "a name"))
+}
+
+#[test]
+fn sockets_of_users_are_told_in_order(rt: HostRuntime) -> Result<(), Fail> {
+    let line = "sysr serve --user-socket Ann=run/ann --user-socket bob=b=1 --users users --port 1";
+    let words: Vec<&str> = line.split(' ').collect(rt.alloc())?;
+    let CommandLine::Serve(asked, sockets) = options(rt.alloc(), words.as_slice())? else {
+        assert!(&rt; false, "{line}");
+        return Ok(());
+    };
+    let wanted = [("ann", "run/ann"), ("bob", "b=1")];
+    assert_eq!(&rt; sockets.len(), wanted.len());
+    for (socket, (name, path)) in sockets.iter().zip(wanted) {
+        assert!(&rt;
+            socket.user == user(&rt, name) && socket.path.as_str() == path,
+            "{name}"
+        );
+    }
+    assert_eq!(&rt; asked.users, Some("users"));
+    Ok(())
+}
+
+#[test]
+fn users_are_named_in_any_case(rt: HostRuntime) -> Result<(), Fail> {
+    let words = ["sysr", "verifier", "ANN"];
+    let CommandLine::Verifier { user: named } = options(rt.alloc(), &words)? else {
+        assert!(&rt; false, "no verifier");
+        return Ok(());
+    };
+    assert!(&rt; named == user(&rt, "ann"));
+    Ok(())
+}
+
+#[test]
+fn users_have_names(rt: HostRuntime) -> Result<(), Fail> {
+    let no_users = [
+        "sysr verifier select",
+        "sysr verifier 1ann",
+        "sysr serve --user-socket ann",
+        "sysr serve --user-socket ann=",
+        "sysr serve --user-socket =run/ann",
+        "sysr serve --user-socket select=run/ann",
+    ];
+    all_refused(&rt, rt.alloc(), &no_users, ErrorKind::ValueValidation)?;
+    let missing = ["sysr verifier", "sysr reload"];
+    all_refused(
+        &rt,
+        rt.alloc(),
+        &missing,
+        ErrorKind::MissingRequiredArgument,
+    )
+}
+
+#[test]
+fn servers_are_asked_by_their_control_sockets(rt: HostRuntime) -> Result<(), Fail> {
+    let words = ["sysr", "reload", "--control", "control"];
+    match options(rt.alloc(), &words)? {
+        CommandLine::Reload { control } => assert_eq!(&rt; control, "control"),
+        _ => assert!(&rt; false, "no reload"),
+    }
+    Ok(())
 }

@@ -15,6 +15,8 @@ pub enum Call {
     Stop,
     /// How it fares, in this form.
     Status(StatusForm),
+    /// That it reads its file of users anew.
+    Reload,
     Unknown,
 }
 
@@ -25,16 +27,18 @@ pub fn line_of(call: Call) -> &'static [u8] {
         Call::Status(StatusForm::Text) => b"STATUS\n",
         Call::Status(StatusForm::Prometheus) => b"STATUS prometheus\n",
         Call::Status(StatusForm::Json) => b"STATUS json\n",
+        Call::Reload => b"RELOAD\n",
         Call::Unknown => b"\n",
     }
 }
 
 // All that can be asked.
-const KNOWN: [Call; 4] = [
+const KNOWN: [Call; 5] = [
     Call::Stop,
     Call::Status(StatusForm::Text),
     Call::Status(StatusForm::Prometheus),
     Call::Status(StatusForm::Json),
+    Call::Reload,
 ];
 
 fn call_of(line: &[u8]) -> Call {

@@ -1,5 +1,5 @@
-//! Who may tell a server to stop, or ask how it fares: whoever speaks at its control socket, and who
-//! ends its input.
+//! Who may tell a server to stop, or to read its file of users anew, or ask how it fares: whoever
+//! speaks at its control socket; and who ends its input.
 ghost use Rattle.std.specs.Prelude.{◌≡◌, IfErr};
 ghost use Rattle.std.specs.Process.{exit_status};
 
@@ -7,9 +7,12 @@ use crate::calls::{Call, line_of, read_call};
 use crate::end_of_input::flag_at_end;
 use crate::figures::{Facts, seconds_now, tell_status};
 use crate::files::give_up_on;
-use crate::socket_files::{connected, listener_at};
+use crate::reloading::{tell_no_file, tell_taken, tell_untaken};
+use crate::socket_files::{OWNERS, connected, listener_at};
+use crate::users::{Untaken, read_user_file};
 use command_core::Serving;
 use lines_core::{NO_MEMORY, give_up};
+use login_core::{UserFile, UsersFault};
 use server_core::{Control, Counters, Order, wait_for_any};
 use std::cell::Cell;
 use std::io::{Read, Write};
@@ -17,8 +20,8 @@ use std::mem::forget;
 use std::os::fd::AsRawFd;
 use std::os::unix::net::{UnixListener, UnixStream};
 use std::process::ExitCode;
-use std::sync::Arc;
 use std::sync::atomic::{AtomicBool, Ordering};
+use std::sync::{Arc, Mutex};
 use std::thread::Threads;
 use system_core::Size;
 
@@ -30,10 +33,15 @@ const UNKNOWN: &[u8] = b"unknown\n";
 // For how many milliseconds it waits for somebody who says something.
 const PAUSE_MILLIS: i32 = 40;
 
-// Who owns a control socket may open it.
-const MODE: u32 = 0o600;
+/// Who asked that the file of users is read anew, once it was taken, and how many users it has. He
+/// is told when the server has them.
+#[derive(Drop)]
+struct Owed {
+    stream: UnixStream,
+    users: usize,
+}
 
-/// Who may tell a server to stop, and ask how it fares.
+/// Who may tell a server to stop, or to read its file of users anew, and ask how it fares.
 #[derive(Drop)]
 pub struct Controls<'a> {
     host: &'a HostRuntime,
@@ -43,13 +51,17 @@ pub struct Controls<'a> {
     ended: Option<Arc<AtomicBool>>,
     /// How many seconds sessions have then.
     grace: u64,
+    /// The file of users, if there is one.
+    users: Option<&'a str>,
+    // One thread alone asks for it.
+    owed: Mutex<Option<Owed>>,
     /// Whether the end of standard input was told.
     told: Cell<bool>,
     facts: Facts<'a>,
 }
 
-/// Answers who says that the server is to stop. He hears the end of the connection when the server has
-/// ended.
+/// Answers who says that the server is to stop. He hears the end of the connection when the server
+/// has ended.
 fn promise_to_stop(stream: UnixStream) {
     let mut stream = stream;
     let _ = stream.write_all(STOPPING);
@@ -78,19 +90,53 @@ impl<'a> Controls<'a> {
         }
     }
 
-    /// Answers a caller. Whether he says that the server is to stop.
-    fn answer(&self, stream: UnixStream, counters: &Counters, size: Size) -> bool {
+    /// The users of the file, read anew, if it is taken. Else he is told why not who asked for
+    /// that.
+    fn reread(&self, stream: UnixStream) -> Option<Arc<UserFile>> {
+        let Some(path) = self.users else {
+            tell_no_file(&stream);
+            return None;
+        };
+        let file = match read_user_file(self.host, path) {
+            Ok(file) => file,
+            Err(why) => {
+                tell_untaken(&stream, path, why);
+                return None;
+            }
+        };
+        let users = file.users.len();
+        let Ok(file) = Arc::new(self.host.alloc(), file) else {
+            tell_untaken(&stream, path, Untaken::Users(UsersFault::NoMemory));
+            return None;
+        };
+        *self.owed.try_lock()? = Some(Owed { stream, users });
+        Some(file)
+    }
+
+    /// Answers a caller. What he says to the server is given, if it is anything.
+    fn answer(&self, stream: UnixStream, counters: &Counters, size: Size) -> Option<Order> {
         match read_call(&stream) {
             Call::Stop => {
                 promise_to_stop(stream);
-                return true;
+                return Some(Order::Stop);
             }
+            Call::Reload => return Some(Order::Reload(self.reread(stream)?)),
             Call::Status(form) => {
                 let _ = tell_status(self.host, &stream, form, self.facts, counters, size);
             }
             Call::Unknown => tell_unknown(&stream),
         }
-        false
+        None
+    }
+
+    /// Tells who asked for it that the server has the users now that were read.
+    fn tell_owed(&self) {
+        let Some(mut owed) = self.owed.try_lock() else {
+            return;
+        };
+        if let Some(Owed { stream, users }) = owed.take() {
+            tell_taken(&stream, users);
+        }
     }
 
     fn descriptor(&self) -> i32 {
@@ -107,16 +153,13 @@ impl<'a> Control for Controls<'a> {
     }
 
     fn heard(&self, counters: &Counters, size: Size) -> Option<Order> {
+        self.tell_owed();
         wait_for_any([self.descriptor(), -1, -1], PAUSE_MILLIS);
         if !self.told.get() && self.has_ended() {
             self.told.set(true);
             return Some(Order::Stop);
         }
-        if self.answer(self.caller()?, counters, size) {
-            Some(Order::Stop)
-        } else {
-            None
-        }
+        self.answer(self.caller()?, counters, size)
     }
 
     fn grace(&self) -> u64 {
@@ -124,20 +167,21 @@ impl<'a> Control for Controls<'a> {
     }
 }
 
-/// A control socket of this name, which its owner alone may open. The error is the status, where there
-/// is none to be had, which is told.
+/// A control socket of this name, which its owner alone may open. The error is the status, where
+/// there is none to be had, which is told.
 fn control_at(rt: &HostRuntime, path: &str) -> Result<UnixListener, ExitCode>
     ensures { IfErr result (λ status. exit_status status ≡ 1) }
 {
-    let listener = listener_at(rt, path, MODE)?;
+    let listener = listener_at(rt, path, OWNERS)?;
     if listener.set_nonblocking(true).is_err() {
         return Err(give_up_on(rt, path, b"cannot be listened at"));
     }
     Ok(listener)
 }
 
-/// Who may tell the server to stop that is asked for. The error is the status, where there is no control
-/// socket to be had, or no memory for what waits for the end of standard input, which is told.
+/// Who may tell the server to stop that is asked for. The error is the status, where there is no
+/// control socket to be had, or no memory for what waits for the end of standard input, which is
+/// told.
 pub fn controls_of<'a, R: Threads>(
     host: &'a HostRuntime,
     rt: &R,
@@ -162,6 +206,8 @@ pub fn controls_of<'a, R: Threads>(
         listener,
         ended,
         grace: asked.grace,
+        users: asked.users,
+        owed: Mutex::new(None),
         told: Cell::new(false),
         facts: Facts {
             started: seconds_now(host),
@@ -172,8 +218,8 @@ pub fn controls_of<'a, R: Threads>(
     })
 }
 
-/// Tells the server of this control socket to stop, and waits until it has ended. The status is 0 then,
-/// and 1 where no server listens there, or it does not say that it stops, which is told.
+/// Tells the server of this control socket to stop, and waits until it has ended. The status is 0
+/// then, and 1 where no server listens there, or it does not say that it stops, which is told.
 pub fn stop(rt: &HostRuntime, path: &str) -> ExitCode {
     let mut stream = match connected(rt, path) {
         Ok(stream) => stream,

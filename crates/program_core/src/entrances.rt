@@ -1,40 +1,31 @@
 //! Where a server listens.
+ghost use Rattle.std.specs.Prelude.{◌≡◌, IfOk, map};
+ghost use Rattle.std.specs.Option.{is_some};
+ghost use Rattle.program_core.specs.Kept.{admittance_of};
 
 use crate::lent::{Listeners, lent_listeners};
+use crate::places::{Place, place_of, refuse};
 use crate::socket_files;
-use command_core::Serving;
-use lines_core::{SessionFault, fault_text, give_up};
-use server_core::Entrance;
+use command_core::{Serving, UserSocketWord};
+use lines_core::{NO_MEMORY, SessionFault, fault_text, give_up};
+use server_core::{Entrance, Login, UserSocket};
 use std::fs;
 use std::net::TcpListener;
 use std::os::unix::net::UnixListener;
 use std::process::ExitCode;
 
-// The address at which a port listens.
-const ADDRESS: &str = "127.0.0.1";
-
-// The status of a command line that is refused.
-const REFUSED: u8 = 2;
-
-/// Tells on standard error why the command line is refused.
-fn refuse(host: &HostRuntime, why: &str) -> ExitCode {
-    let _ = eprintln!(host; "error: {why}");
-    ExitCode::from(REFUSED)
-}
-
-/// Refuses words that name no place to listen at, or an address that asks for a login.
-fn check(host: &HostRuntime, asked: Serving<'_>, is_lent: bool) -> Result<(), ExitCode> {
-    if !is_lent && asked.port.is_none() && asked.socket.is_none() {
-        let why = "serve needs --port, --socket, or a socket of a supervisor";
-        return Err(refuse(host, why));
+/// Refuses words that name no place to listen at.
+fn check(
+    host: &HostRuntime,
+    asked: Serving<'_>,
+    sockets: &[UserSocketWord],
+    is_lent: bool,
+) -> Result<(), ExitCode> {
+    if is_lent || asked.port.is_some() || asked.socket.is_some() || !sockets.is_empty() {
+        return Ok(());
     }
-    match asked.listen {
-        None | Some("127.0.0.1") => Ok(()),
-        Some(_) => {
-            let why = "--listen takes 127.0.0.1 alone: there is no login for other machines";
-            Err(refuse(host, why))
-        }
-    }
+    let why = "serve needs --port, --socket, --user-socket, or a socket of a supervisor";
+    Err(refuse(host, why))
 }
 
 fn told(host: &HostRuntime, written: std::io::Result<()>) -> Result<(), ExitCode> {
@@ -44,13 +35,13 @@ fn told(host: &HostRuntime, written: std::io::Result<()>) -> Result<(), ExitCode
     }
 }
 
-/// Listens at the port, and says so.
-fn port_at(host: &HostRuntime, port: u16) -> Result<TcpListener, ExitCode> {
-    let Ok(listener) = TcpListener::bind(host, (ADDRESS, port)) else {
-        let _ = eprintln!(host; "sysr: cannot listen on {port}");
+/// Listens there, and says so.
+fn port_at(host: &HostRuntime, place: Place) -> Result<TcpListener, ExitCode> {
+    let Ok(listener) = TcpListener::bind(host, (place.address, place.port)) else {
+        let _ = eprintln!(host; "sysr: cannot listen on {place}");
         return Err(ExitCode::FAILURE);
     };
-    told(host, println!(host; "listening on {port}"))?;
+    told(host, println!(host; "listening on {place}"))?;
     Ok(listener)
 }
 
@@ -61,10 +52,43 @@ fn file_at(host: &HostRuntime, path: &str, mode: u32) -> Result<UnixListener, Ex
     Ok(listener)
 }
 
-/// The listeners that are asked for.
-fn listeners_of(host: &HostRuntime, asked: Serving<'_>) -> Result<Listeners, ExitCode> {
-    let port = match asked.port {
-        Some(port) => Some(port_at(host, port)?),
+/// Listens at a socket file of a user's own, and says so.
+fn user_socket_at(host: &HostRuntime, word: &UserSocketWord) -> Result<UserSocket, ExitCode>
+    ensures { IfOk result (λ socket. socket.user ≡ word.now.user) }
+{
+    let path = word.path.as_str();
+    let listener = socket_files::user_listener_at(host, word.user, path)?;
+    told(host, println!(host; "listening at {path}"))?;
+    let user = word.user;
+    Ok(UserSocket { user, listener })
+}
+
+/// Listens at the socket files of users' own, and says so.
+fn user_sockets_at(
+    host: &HostRuntime,
+    words: &[UserSocketWord],
+) -> Result<Vec<UserSocket>, ExitCode>
+    ensures { IfOk result (λ sockets.
+        map (λ s. s.user) sockets.items ≡ map (λ w. w.user) words.now) }
+{
+    let mut sockets = Vec::new(host.alloc());
+    for word in words {
+        let socket = user_socket_at(host, word)?;
+        if sockets.push(socket).is_err() {
+            return Err(give_up(host, NO_MEMORY));
+        }
+    }
+    Ok(sockets)
+}
+
+/// The listeners that are asked for, of which the port's is to be there.
+fn listeners_of(
+    host: &HostRuntime,
+    asked: Serving<'_>,
+    place: Option<Place>,
+) -> Result<Listeners, ExitCode> {
+    let port = match place {
+        Some(place) => Some(port_at(host, place)?),
         None => None,
     };
     let file = match asked.socket {
@@ -77,10 +101,17 @@ fn listeners_of(host: &HostRuntime, asked: Serving<'_>) -> Result<Listeners, Exi
 fn entrance_at(
     host: &HostRuntime,
     listeners: Listeners,
+    sockets: Vec<UserSocket>,
+    login: Option<Login>,
     is_lent: bool,
-) -> Result<Entrance, ExitCode> {
+) -> Result<Entrance, ExitCode>
+    ensures { IfOk result (λ entrance. entrance ≡ record {
+      login = is_some login;
+      sockets = map (λ s. s.user) sockets.items;
+    }) }
+{
     let Listeners { port, file } = listeners;
-    match Entrance::new(host, port, file, is_lent) {
+    match Entrance::new(host, port, file, sockets, login, is_lent) {
         Ok(entrance) => Ok(entrance),
         Err(_) => {
             let _ = eprintln!(host; "sysr: cannot listen");
@@ -96,28 +127,44 @@ pub struct Opened<'a> {
     pub made: Option<&'a str>,
 }
 
-/// Where clients come in: at the listeners of a supervisor, where it has opened some for this process,
-/// and else at the port and the socket file that are asked for. It says where it listens. The error is
-/// the status, where it cannot, which is told.
-pub fn entrance_of<'a>(host: &HostRuntime, asked: Serving<'a>) -> Result<Opened<'a>, ExitCode> {
+/// Where clients come in: at the listeners of a supervisor, where it has opened some for this
+/// process, and else at the port and the socket file that are asked for; and at socket files of
+/// users' own. It says where it listens. The error is the status, where it cannot, which is told.
+pub fn entrance_of<'a>(
+    host: &HostRuntime,
+    asked: Serving<'a>,
+    sockets: &[UserSocketWord],
+    login: Option<Login>,
+) -> Result<Opened<'a>, ExitCode>
+    requires { is_some login ≡ is_some asked.users }
+    ensures { IfOk result
+        (λ opened. opened.entrance ≡ admittance_of asked.entry.users sockets.now) }
+{
     let lent = lent_listeners(host);
-    check(host, asked, lent.is_some())?;
-    let Some(lent) = lent else {
-        let entrance = entrance_at(host, listeners_of(host, asked)?, false)?;
-        let made = asked.socket;
-        return Ok(Opened { entrance, made });
+    check(host, asked, sockets, lent.is_some())?;
+    let place = place_of(host, asked)?;
+    let (listeners, made, is_lent) = match lent {
+        Some(lent) => {
+            told(host, println!(host; "listening where the supervisor does"))?;
+            (lent, None, true)
+        }
+        None => (listeners_of(host, asked, place)?, asked.socket, false),
     };
-    told(host, println!(host; "listening where the supervisor does"))?;
-    let entrance = entrance_at(host, lent, true)?;
-    Ok(Opened {
-        entrance,
-        made: None,
-    })
+    let sockets = user_sockets_at(host, sockets)?;
+    let entrance = entrance_at(host, listeners, sockets, login, is_lent)?;
+    Ok(Opened { entrance, made })
 }
 
 /// Removes the socket file, if there is one.
 pub fn remove(host: &HostRuntime, path: Option<&str>) {
     if let Some(path) = path {
         let _ = fs::remove_file(host, path);
+    }
+}
+
+/// Removes the socket files of users' own.
+pub fn remove_all(host: &HostRuntime, sockets: &[UserSocketWord]) {
+    for socket in sockets {
+        let _ = fs::remove_file(host, socket.path.as_str());
     }
 }

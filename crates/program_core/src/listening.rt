@@ -1,12 +1,12 @@
 //! Sessions of clients.
 ghost use Rattle.std.specs.Prelude.{◌≡◌, false, IfOk, IfSome};
-ghost use Rattle.command_core.specs.Ranges.{IsInRange};
-ghost use Rattle.command_core.specs.declared.command_line.CommandLine.TheVariants.{Serve};
+ghost use Rattle.std.specs.Option.{is_some};
+ghost use Rattle.command_core.specs.Ranges.{ServesInRange};
 ghost use Rattle.desk_core.specs.Guarded.{origin_at};
 ghost use Rattle.desk_core.specs.Kept.{HasKept};
 ghost use Rattle.server_core.specs.Sessions.{Leaves};
 ghost use Rattle.load_core.specs.Ready.{IsReady};
-ghost use Rattle.program_core.specs.Kept.{IsServed, ServesFrom};
+ghost use Rattle.program_core.specs.Kept.{admittance_of, IsServed, ServesFrom};
 
 use crate::controls::{Controls, controls_of};
 use crate::entrances;
@@ -17,13 +17,14 @@ use crate::loading::{Start, begun};
 use crate::naming::{Named, apart_from_each_other};
 use crate::reading_time::tell_reading;
 use crate::recording::dump_to;
+use crate::users::login_of;
 use base_core::{Resume, Sink};
-use command_core::Serving;
+use command_core::{Serving, UserSocketWord};
 use journal_core::{Keeper, NoKeeper};
 use lines_core::{NO_MEMORY, SessionFault, fault_text, give_up};
 use run_core::{Left, status_of};
 use script_core::{ScriptFault, script_fault_text};
-use server_core::{Entrance, Manners, ServeFault, Taken};
+use server_core::{Entrance, Login, Manners, ServeFault, Taken};
 use serving_core::{Served, serve_on};
 use std::mem::forget;
 use std::process::ExitCode;
@@ -40,9 +41,9 @@ fn serve_fault_text(fault: ServeFault) -> &'static str {
     }
 }
 
-/// Serves the sessions that are asked for at the entrance, from this core on, whose changes are kept,
-/// or until it is told to stop, and gives what they left, and how many they were. The error is the
-/// status, where the server ended by a fault, which is told.
+/// Serves the sessions that are asked for at the entrance, from this core on, whose changes are
+/// kept, or until it is told to stop, and gives what they left, and how many they were. The error
+/// is the status, where the server ended by a fault, which is told.
 fn served<R, K>(
     host: &HostRuntime,
     rt: &R,
@@ -55,13 +56,13 @@ fn served<R, K>(
 where
     R: Threads + Wait + Clock + Sync,
     K: Keeper + Drop + Send,
-    requires range { IsInRange (Serve asked) }
+    requires range { ServesInRange asked }
     requires ready { IsReady system }
     requires settled { K.owing keeper ≡ false }
     ensures count { IfOk result
         (λ b. b.1.stopped ≡ false → b.1.sessions ≡ asked.entry.sessions) }
     ensures leaves { IfOk result
-        (λ b. Leaves asked.entry.workers b.1.sessions keeper system b.0.system) }
+        (λ b. Leaves entrance.now asked.entry.workers b.1.sessions keeper system b.0.system) }
     ensures kept { IfOk result (λ b. HasKept K.Keeper (origin_at system keeper)
         b.0.system.journal b.0.keeper) }
 {
@@ -110,12 +111,12 @@ fn kept<R, W>(
 where
     R: Threads + Wait + Clock + Sync,
     W: Sink + Resume + Drop + Send,
-    requires range { IsInRange (Serve asked) }
+    requires range { ServesInRange asked }
     requires ready { IsReady begun.system }
     requires works { IfSome begun.journal (λ sink. W.failed sink ≡ false) }
     ensures count { IfOk result
         (λ b. b.1.stopped ≡ false → b.1.sessions ≡ asked.entry.sessions) }
-    ensures served { IfOk result (λ b. IsServed W.taken W.handed_on
+    ensures served { IfOk result (λ b. IsServed W.taken W.handed_on entrance.now
         asked.entry.workers b.1.sessions begun b.0) }
 {
     let Start { system, journal } = begun;
@@ -136,8 +137,9 @@ where
     }
 }
 
-/// Has the journal on its disk, says how many sessions were served, writes the dump of what they left,
-/// and audits it, each if that is asked for. The error is the status, where that could not be done.
+/// Has the journal on its disk, says how many sessions were served, writes the dump of what they
+/// left, and audits it, each if that is asked for. The error is the status, where that could not be
+/// done.
 fn tell_end(
     host: &HostRuntime,
     asked: Serving<'_>,
@@ -159,7 +161,8 @@ fn tell_end(
     Ok(status_of(host, system, asked.audit))
 }
 
-/// This status; or where what is left of a change is owed to the journal, that of a fault, which is told.
+/// This status; or where what is left of a change is owed to the journal, that of a fault, which is
+/// told.
 fn status_kept<W>(host: &HostRuntime, kept: &Kept<W>, status: ExitCode) -> ExitCode
 where
     W: Sink + Resume + Drop,
@@ -199,12 +202,14 @@ fn dump_of(host: &HostRuntime, named: Named<'_>) -> Result<Option<DumpSink>, Exi
     }
 }
 
-/// Serves the sessions that are asked for, and tells the end, where the files are open. To load what was
-/// loaded began then, if the clock says it.
-fn listen_and_serve<R, W>(
-    host: &HostRuntime,
+/// Serves the sessions that are asked for, and tells the end, where the files are open. To load
+/// what was loaded began then, if the clock says it.
+fn listen_and_serve<'a, R, W>(
+    host: &'a HostRuntime,
     rt: &R,
-    asked: Serving<'_>,
+    asked: Serving<'a>,
+    sockets: &[UserSocketWord],
+    login: Option<Login>,
     since: Option<Instant>,
     begun: Start<W>,
     dump: Option<DumpSink>,
@@ -212,16 +217,18 @@ fn listen_and_serve<R, W>(
 where
     R: Threads + Wait + Clock + Sync,
     W: Sink + Resume + Drop + Send,
-    requires range { IsInRange (Serve asked) }
+    requires range { ServesInRange asked }
     requires ready { IsReady begun.system }
     requires works { IfSome begun.journal (λ sink. W.failed sink ≡ false) }
     requires dump { IfSome dump (λ sink. sink.failed ≡ false) }
+    requires login { is_some login ≡ is_some asked.users }
     ensures count { IfOk result
         (λ b. b.1.stopped ≡ false → b.1.sessions ≡ asked.entry.sessions) }
     ensures served { IfOk result (λ b. IsServed W.taken W.handed_on
+        (admittance_of asked.entry.users sockets.now)
         asked.entry.workers b.1.sessions begun b.0.kept) }
 {
-    let (controls, opened) = match heard_and_served(host, rt, asked, since) {
+    let (controls, opened) = match heard_and_served(host, rt, asked, sockets, login, since) {
         Ok(opened) => opened,
         Err(status) => {
             // The process ends here, and its memory goes back as a whole.
@@ -236,50 +243,61 @@ where
     let status = status_kept(host, &kept, status);
     entrances::remove(host, asked.control);
     entrances::remove(host, opened.made);
+    entrances::remove_all(host, sockets);
     Ok((Ended { kept, status }, taken))
 }
 
-/// What listens to who may tell the server to stop, and to its clients. It says where; and before that how
-/// long it took to load a file, if one was loaded, which began then.
+/// What listens to who may tell the server to stop, and to its clients. It says where; and before
+/// that how long it took to load a file, if one was loaded, which began then.
 fn heard_and_served<'a, R: Threads + Clock>(
     host: &'a HostRuntime,
     rt: &R,
     asked: Serving<'a>,
+    sockets: &[UserSocketWord],
+    login: Option<Login>,
     since: Option<Instant>,
-) -> Result<(Controls<'a>, Opened<'a>), ExitCode> {
+) -> Result<(Controls<'a>, Opened<'a>), ExitCode>
+    requires { is_some login ≡ is_some asked.users }
+    ensures { IfOk result
+        (λ b. b.1.entrance ≡ admittance_of asked.entry.users sockets.now) }
+{
     tell_reading(host, rt, asked.load, since)?;
     let controls = controls_of(host, rt, asked)?;
-    let opened = entrance_of(host, asked)?;
+    let opened = entrance_of(host, asked, sockets, login)?;
     Ok((controls, opened))
 }
 
-/// Serves the sessions that are asked for, or until it is told to stop. It says where it
-/// listens, and at the end how many sessions it served, and how an audit ended. What they left is given
-/// too, and how many they were.
-pub fn serve<R>(
-    host: &HostRuntime,
+/// Serves the sessions that are asked for, or until it is told to stop. It says where it listens,
+/// and at the end how many sessions it served, and how an audit ended. What they left is given too,
+/// and how many they were. Where a file of users is named each session began with a login, but
+/// those at the sockets of users' own, each of which was that user's.
+pub fn serve<'a, R>(
+    host: &'a HostRuntime,
     rt: &R,
-    asked: Serving<'_>,
+    asked: Serving<'a>,
+    sockets: &[UserSocketWord],
 ) -> Result<(Ended<JournalSink>, Taken), ExitCode>
 where
     R: Threads + Wait + Clock + Sync,
-    requires { IsInRange (Serve asked) }
+    requires { ServesInRange asked }
     ensures count { IfOk result
         (λ b. b.1.stopped ≡ false → b.1.sessions ≡ asked.entry.sessions) }
     ensures served { IfOk result (λ b. ServesFrom ⟦<JournalSink as Sink>⟧.taken
-        ⟦<JournalSink as Sink>⟧.handed_on
+        ⟦<JournalSink as Sink>⟧.handed_on (admittance_of asked.entry.users sockets.now)
         asked.entry.workers b.1.sessions asked.entry.journal b.0.kept) }
 {
     let named = Named {
         load: asked.load,
         journal: asked.journal,
         dump: asked.dump,
+        users: asked.users,
     };
     apart_from_each_other(host, named)?;
+    let login = login_of(host, asked.users)?;
     let since = Instant::now(rt).ok();
     let begun = begun(host, named, asked.chunk, asked.limits)?;
     match dump_of(host, named) {
-        Ok(dump) => listen_and_serve(host, rt, asked, since, begun, dump),
+        Ok(dump) => listen_and_serve(host, rt, asked, sockets, login, since, begun, dump),
         Err(status) => {
             forget(begun);
             Err(status)

@@ -10,13 +10,14 @@ use std::process::ExitCode;
 /// The status of a command line that is refused.
 const REFUSED_STATUS: u8 = 2;
 
-/// The names of the files: which is loaded, to which each change is written, and to which the state
-/// is written at the end.
+/// The names of the files: which is loaded, to which each change is written, to which the state is
+/// written at the end, and by which users log in.
 #[derive(Clone, Copy)]
 pub struct Named<'a> {
     pub load: Option<&'a str>,
     pub journal: Option<&'a str>,
     pub dump: Option<&'a str>,
+    pub users: Option<&'a str>,
 }
 
 impl<'a> Named<'a> {
@@ -64,8 +65,8 @@ fn refuse_names(rt: &HostRuntime, path: &str, other: &str) -> ExitCode {
     ExitCode::from(REFUSED_STATUS)
 }
 
-/// Refuses two names of one file that is loaded and gone on with: whether it is the same one is seen
-/// by its name.
+/// Refuses two names of one file that is loaded and gone on with: whether it is the same one is
+/// seen by its name.
 fn one_name(rt: &HostRuntime, load: Option<&str>, journal: Option<&str>) -> Result<(), ExitCode> {
     let (Some(path), Some(other)) = (load, journal) else {
         return Ok(());
@@ -84,8 +85,11 @@ pub fn apart_from_each_other(rt: &HostRuntime, named: Named<'_>) -> Result<(), E
         load,
         journal,
         dump,
+        users,
     } = named;
     apart(rt, ("--journal", journal), ("--dump", dump))?;
     apart(rt, ("--load", load), ("--dump", dump))?;
+    apart(rt, ("--users", users), ("--journal", journal))?;
+    apart(rt, ("--users", users), ("--dump", dump))?;
     one_name(rt, load, journal)
 }

@@ -60,6 +60,7 @@ pub fn run(rt: &HostRuntime, asked: Running<'_>) -> Result<Ended<JournalSink>, E
         load: asked.load,
         journal: asked.journal,
         dump: None,
+        users: None,
     };
     apart_from_each_other(rt, named)?;
     let mut writer = output(rt)?;

@@ -1,4 +1,5 @@
 pub mod Door
+pub mod Entrance
 pub mod Sessions
 pub mod Telling
 pub use Rattle.turnstile.specs.Passes

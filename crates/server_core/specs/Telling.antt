@@ -41,7 +41,12 @@ abbrev pub user_text : Option User → List ℕ
 user_text (Some user) = user.0
 user_text None = codes "-"
 
--- and for a moment where no reply bore one
+-- the line of a login that was refused
+abbrev pub refused_text : Option User → List ℕ → List ℕ
+refused_text user peer =
+    codes "login refused: user " ++ (user_text user ++ (codes ", peer " ++ (peer ++ codes "\n")))
+
+-- `-` stands too for a moment where no reply bore one
 abbrev pub moment_text : Option Moment → List ℕ
 moment_text (Some at) = decimal at.0
 moment_text None = codes "-"

@@ -1,5 +1,6 @@
 //! One session over a socket.
 ghost use Rattle.std.specs.Prelude.{◌≡◌, None, Some, Err};
+ghost use Rattle.server_core.specs.Entrance.{MayPass};
 ghost use Rattle.server_core.specs.Sessions.{IsOf, Attends};
 
 use crate::counting::Counting;
@@ -9,12 +10,13 @@ use crate::log::Log;
 use crate::permit::{Permit, Yielding};
 use crate::service::Service;
 use crate::timed::Timed;
+use crate::unsent::Unsent;
 use crate::until_stopped::UntilStopped;
 use base_core::{StdSink, StdSource};
 use desk_core::{Desk, Pass};
 use journal_core::Keeper;
 use lines_core::Steady;
-use session_core::{SessionEnd, SessionFault, Summary, serve_session};
+use session_core::{SessionEnd, SessionFault, Summary, serve_admitted};
 use std::alloc::Global;
 use std::cell::Cell;
 use std::io::{BufWriter, Read};
@@ -65,10 +67,11 @@ fn unserved() -> Summary
     }
 }
 
-/// Serves one session to its end, through the pass and through nothing else. A read or a write that
-/// waits for longer than the service lets it is its fault, and is noted as late; and so is the end of
-/// its input where the server was stopped, which is noted too. No permit is held before and behind the
-/// call.
+/// Serves one session to its end, through the pass and through nothing else. It comes by its user
+/// as the passage of the guest says: where he has logged in, it reads first what was read of him,
+/// and what he was sent is not sent again. A read or a write that waits for longer than the service
+/// lets it is its fault, and is noted as late; and so is the end of its input where the server was
+/// stopped, which is noted too. No permit is held before and behind the call.
 pub(crate) fn attend<K: Keeper + Drop, R: Wait + Clock, G: Log>(
     rt: &R,
     alloc: Global,
@@ -80,10 +83,12 @@ pub(crate) fn attend<K: Keeper + Drop, R: Wait + Clock, G: Log>(
     is_late: &Cell<bool>,
     was_stopped: &Cell<bool>,
 ) -> Summary
-    requires { IsOf desk.now pass.old }
-    ensures { Attends desk.now result pass.old pass.new }
+    requires pass { IsOf desk.now pass.old }
+    requires right { MayPass service.now.entrance.now guest.now.passage }
+    ensures { Attends service.now.entrance.now desk.now result pass.old pass.new }
 {
-    let (stream, sign) = (&guest.stream, &service.sign);
+    let (stream, sign, passage) = (&guest.stream, &service.sign, &guest.passage);
+    let admission = passage.admission();
     // A stream that refuses such a setting serves as well.
     let _ = stream.set_nodelay(true);
     let _ = stream.set_read_timeout(service.idle);
@@ -91,17 +96,27 @@ pub(crate) fn attend<K: Keeper + Drop, R: Wait + Clock, G: Log>(
     keep_alive(stream);
     sign.enter(rt, stream);
     let permit = Permit::new(rt, &service.permits);
-    let output = Yielding::new(&permit, Timed::new(is_late, Steady::new(stream)));
+    let unsent = Unsent::new(passage.sent(), Steady::new(stream));
+    let output = Yielding::new(&permit, Timed::new(is_late, unsent));
     let Ok(buffered) = BufWriter::with_capacity(alloc, OUTPUT_BYTES, output) else {
         sign.leave(rt, stream);
         return unserved();
     };
-    let timed = Timed::new(is_late, Steady::new(stream));
+    let timed = Timed::new(is_late, passage.read().chain(Steady::new(stream)));
     let input = Yielding::new(&permit, UntilStopped::new(sign, was_stopped, timed));
     let mut reader = StdSource::new(input);
     let mut writer = StdSink::new(buffered);
     let gate = Counting::new(rt, &permit, &service.counters, log, guest.number);
-    let summary = serve_session(rt, alloc, desk, pass, &mut reader, &mut writer, &gate);
+    let summary = serve_admitted(
+        rt,
+        alloc,
+        desk,
+        pass,
+        &admission,
+        &mut reader,
+        &mut writer,
+        &gate,
+    );
     permit.rest();
     sign.leave(rt, stream);
     let_go(stream);

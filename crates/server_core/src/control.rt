@@ -2,21 +2,25 @@
 
 use crate::counters::Counters;
 use crate::door::Door;
+use crate::entrance::Entrance;
 use crate::service::Service;
 use desk_core::Desk;
 use journal_core::Keeper;
+use login_core::UserFile;
 use std::sync::ledger::Ledger;
-use std::sync::{Mutex, Wait};
+use std::sync::{Arc, Mutex, Wait};
 use std::time::{Clock, Duration, Instant};
 use system_core::Size;
 
 /// What is said to a server.
-#[derive(Clone, Copy, Debug, PartialEq, Eq)]
+#[derive(Drop)]
 pub enum Order {
     /// To take no further session, and end those that run behind the lines that they were sent.
     Stop,
     /// To end them at once.
     Cut,
+    /// That from now on these users may log in, and no others.
+    Reload(Arc<UserFile>),
 }
 
 /// Who may say that a server is to end, and may ask how it fares.
@@ -75,9 +79,17 @@ impl Ordered {
     }
 }
 
-/// Listens until so many workers take no further session: to a control that says that the server is to
-/// stop. Then no further session is taken, and each that runs ends behind the lines that it was sent;
-/// at a second word, or once the grace is over, it is cut.
+/// Where clients do not log in, nobody may.
+fn reload<R: Wait>(rt: &R, entrance: &Entrance, file: Arc<UserFile>) {
+    if let Some(login) = entrance.login() {
+        login.replace(rt, file);
+    }
+}
+
+/// Listens until so many workers take no further session: to a control that says that the server is
+/// to stop. Then no further session is taken, and each that runs ends behind the lines that it was
+/// sent; at a second word, or once the grace is over, it is cut. It has users log in by another
+/// file, where the control has read one.
 pub fn watch<K: Keeper + Drop, L: Ledger, R: Wait + Clock, C: Control>(
     rt: &R,
     desk: &Desk<K>,
@@ -100,6 +112,7 @@ pub fn watch<K: Keeper + Drop, L: Ledger, R: Wait + Clock, C: Control>(
         match control.heard(&service.counters, desk.size()) {
             Some(Order::Stop) => ordered.carry_out(rt, service, door, control),
             Some(Order::Cut) => service.sign.cut(rt),
+            Some(Order::Reload(file)) => reload(rt, service.entrance, file),
             None => {}
         }
         ordered.look_at_the_clock(rt, service);

@@ -2,8 +2,10 @@
 use crate::clock::time_text;
 use crate::door::Guest;
 use crate::entrance::Peer;
-use crate::telling::{begun_line, denied_line, ended_line, numbered_fault, plain_fault};
-use base_core::{NoMemory, User};
+use crate::telling::{
+    begun_line, denied_line, ended_line, numbered_fault, plain_fault, refused_line,
+};
+use base_core::{Name, NoMemory, User};
 use reply_core::reply_text;
 use session_core::{SessionEnd, Summary};
 use std::alloc::Global;
@@ -24,14 +26,17 @@ pub trait Log {
     /// Tells that a session ended, and what is told of it.
     fn ended<R: Wait + Clock>(&self, rt: &R, guest: &Guest, summary: &Summary);
 
+    /// Tells that a login of this user, if he has said who he is, was refused.
+    fn login_refused<R: Wait + Clock>(&self, rt: &R, peer: Peer, user: Option<Name>);
+
     /// Tells what the desk denied the user of the session of this number.
     fn denied<R: Wait + Clock>(&self, rt: &R, number: u64, user: &User, reply: &Reply);
 }
 
-/// A writer that threads share. Faults are told always. Where sessions begin and end is told only if
-/// it is so said; then faults are told with the session's number and, of an idle client, as such,
-/// unless there was no memory for that. Denials are told only if it is so said, and so is the time of
-/// day before each line.
+/// A writer that threads share. Faults and refused logins are told always. Where sessions begin and
+/// end is told only if it is so said; then faults are told with the session's number and, of an
+/// idle client, as such, unless there was no memory for that. Denials are told only if it is so
+/// said, and so is the time of day before each line.
 #[derive(Drop)]
 pub struct SharedLog<'a, W> {
     pub alloc: Global,
@@ -42,8 +47,8 @@ pub struct SharedLog<'a, W> {
 }
 
 impl<'a, W: Write> SharedLog<'a, W> {
-    /// Writes a line by one call, behind the time of day, if that is told. A fault of the log can be told
-    /// nowhere.
+    /// Writes a line by one call, behind the time of day, if that is told. A fault of the log can
+    /// be told nowhere.
     fn write<R: Wait + Clock>(&self, rt: &R, line: &[u8]) {
         let time = if self.times {
             time_text(rt, self.alloc)
@@ -66,21 +71,26 @@ impl<'a, W: Write> SharedLog<'a, W> {
 }
 
 /// The client's address as text.
-fn peer_text(alloc: Global, guest: &Guest) -> Result<String, NoMemory> {
-    match guest.peer {
+fn peer_text(alloc: Global, peer: Peer) -> Result<String, NoMemory> {
+    match peer {
         Peer::Address(address) => Ok(format!(in alloc; "{address}")?),
         Peer::Local => Ok(format!(in alloc; "local")?),
     }
 }
 
 fn begun(alloc: Global, guest: &Guest) -> Result<Vec<u8>, NoMemory> {
-    let peer = peer_text(alloc, guest)?;
+    let peer = peer_text(alloc, guest.peer)?;
     begun_line(alloc, guest.number, peer.as_str())
 }
 
 fn ended(alloc: Global, guest: &Guest, summary: &Summary) -> Result<Vec<u8>, NoMemory> {
-    let peer = peer_text(alloc, guest)?;
+    let peer = peer_text(alloc, guest.peer)?;
     ended_line(alloc, guest.number, peer.as_str(), summary)
+}
+
+fn login_refused(alloc: Global, peer: Peer, user: Option<Name>) -> Result<Vec<u8>, NoMemory> {
+    let peer = peer_text(alloc, peer)?;
+    refused_line(alloc, user.map(User), peer.as_str())
 }
 
 fn denied(alloc: Global, number: u64, user: &User, reply: &Reply) -> Result<Vec<u8>, NoMemory> {
@@ -108,6 +118,10 @@ impl<'a, W: Write> Log for SharedLog<'a, W> {
         if self.sessions {
             self.write_made(rt, ended(self.alloc, guest, summary));
         }
+    }
+
+    fn login_refused<R: Wait + Clock>(&self, rt: &R, peer: Peer, user: Option<Name>) {
+        self.write_made(rt, login_refused(self.alloc, peer, user));
     }
 
     fn denied<R: Wait + Clock>(&self, rt: &R, number: u64, user: &User, reply: &Reply) {

@@ -3,7 +3,11 @@
 use libc::net::POLLIN;
 use libc::types::pollfd;
 
-fn asked(descriptor: i32) -> pollfd {
+/// It waits without a limit.
+pub(crate) const NO_LIMIT: i32 = -1;
+
+/// What asks whether something comes at the descriptor. A negative one is none.
+pub(crate) fn asked(descriptor: i32) -> pollfd {
     pollfd {
         fd: descriptor,
         events: POLLIN,

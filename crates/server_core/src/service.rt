@@ -1,4 +1,5 @@
 //! What the threads of a server share, beside the desk.
+ghost use Rattle.std.specs.Prelude.{◌≡◌, IfOk};
 
 use crate::counters::Counters;
 use crate::entrance::Entrance;
@@ -30,7 +31,9 @@ impl<'a> Service<'a> {
         processors: usize,
         idle: Option<Duration>,
         moment: Moment,
-    ) -> Result<Service<'a>, NoMemory> {
+    ) -> Result<Service<'a>, NoMemory>
+        ensures { IfOk result (λ service. service.entrance.now ≡ entrance.now) }
+    {
         let sign = Sign::new(alloc, workers)?;
         let counters = Counters::new(alloc, moment)?;
         Ok(Service {

@@ -1,6 +1,6 @@
 //! The lines of a log, each in new memory.
 ghost use Rattle.std.specs.Prelude.{◌≡◌, ◌++◌, IfOk, OnOk};
-ghost use Rattle.server_core.specs.Telling.{fault_cause, numbered_fault, plain_fault, begun_text, counts_text, denied_text, moment_text, user_text, ended_text};
+ghost use Rattle.server_core.specs.Telling.{fault_cause, numbered_fault, plain_fault, begun_text, counts_text, denied_text, moment_text, refused_text, user_text, ended_text};
 
 use base_core::{Moment, NoMemory, User};
 use itoa::Buffer;
@@ -92,6 +92,23 @@ fn user_text(user: &Option<User>) -> &[u8]
         Some(user) => user.0.as_bytes(),
         None => b"-",
     }
+}
+
+/// `login refused: user u, peer a`.
+pub(crate) fn refused_line(
+    alloc: Global,
+    user: Option<User>,
+    peer: &str,
+) -> Result<Vec<u8>, NoMemory>
+    ensures { IfOk result (λ text. text.items ≡ refused_text user peer.now) }
+{
+    let mut text = Vec::new(alloc);
+    text.extend_from_slice(b"login refused: user ")?;
+    text.extend_from_slice(user_text(&user))?;
+    text.extend_from_slice(b", peer ")?;
+    text.extend_from_slice(peer.as_bytes())?;
+    text.push(b'\n')?;
+    Ok(text)
 }
 
 /// Appends the moment, or `-` where there is none.

@@ -71,7 +71,7 @@ pub fn work<K: Keeper + Drop, L: Ledger, R: Wait + Clock, G: Log>(
     log: &G,
 ) -> Worker<K, L>
     requires { IsOf desk.now worker.pass }
-    ensures { Attended desk.now worker result }
+    ensures { Attended service.now.entrance.now desk.now worker result }
 {
     let Worker {
         mut pass,
@@ -79,7 +79,7 @@ pub fn work<K: Keeper + Drop, L: Ledger, R: Wait + Clock, G: Log>(
     } = worker;
     for _ in rt.forever() {
         let (entrance, sign) = (service.entrance, &service.sign);
-        let Some(guest) = door.lock(rt).admit(rt, entrance, sign, &mut token) else {
+        let Some(guest) = door.lock(rt).admit(rt, entrance, sign, log, &mut token) else {
             break;
         };
         service.counters.begin();

@@ -1,3 +1,4 @@
 mod Back
 mod PassLemmas
 mod Sends
+pub mod Rightful

@@ -5,7 +5,6 @@ use denote.Param.Send.{IsSend, IsSync, sendable}
 use Rattle.std.proofs.Crossing.{crosses}
 use Rattle.std.specs.declared.sync.ledger.Ledger as ledger
 use Rattle.std.proofs.sync.ledger.Share.TheSendSync as share
-use Rattle.std.proofs.sync.ledger.Book.TheSendSync as book
 use Rattle.journal_core.specs.declared.keeper.Keeper as keeper
 use Rattle.system_core.proofs.machine.system.System.TheSendSync as system
 use Rattle.turnstile.proofs.turnstile.Turnstile.TheSendSync as turnstile
@@ -13,6 +12,8 @@ use Rattle.turnstile.proofs.pass.Pass.TheSendSync as pass
 use Rattle.desk_core.specs.contracts.object.Basis as Basis
 use Rattle.desk_core.specs.contracts.object.Core as Core
 use Rattle.desk_core.specs.contracts.desk.Desk as Desk
+use Rattle.server_core.proofs.door.Door.TheSendSync as door
+use Rattle.server_core.proofs.entrance.Entrance.TheSendSync as entrances
 use Rattle.server_core.specs.contracts.door.Door as Door
 use Rattle.server_core.specs.contracts.service.Service as Service
 use Rattle.server_core.specs.contracts.worker.Worker as Worker
@@ -30,7 +31,7 @@ pub worker_send : (K L : RattleType) (k : keeper.Ghosts K.Denot) (l : ledger.Gho
 worker_send K L k l s = let core = core_send K k s in search (sendable, crosses, pass.the_send, share.the_send) depth 20
 
 pub door_send : (L : RattleType) (l : ledger.Ghosts L.Denot) → IsSend (Door.the_row L l)
-door_send L l = search (sendable, crosses, book.the_send) depth 20
+door_send L l = door.the_send L l
 
 pub service_sync : (entrance : NamedLft) → IsSync (Service.the_row entrance)
-service_sync entrance = search (sendable, crosses) depth 30
+service_sync entrance = search (sendable, crosses, entrances.the_sync) depth 30

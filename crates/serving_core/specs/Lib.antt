@@ -1,3 +1,5 @@
+pub mod Promises
+pub mod Rightful
 pub use Rattle.base_core.specs.Full
 pub use Rattle.system_core.specs.World
 pub use Rattle.desk_core.specs.Guarded

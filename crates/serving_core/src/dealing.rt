@@ -5,7 +5,7 @@ ghost use Rattle.server_core.specs.Sessions.{IsNew, IsNewWorker, IsWorkers, IsCh
 use base_core::NoMemory;
 use desk_core::{Desk, Pass};
 use journal_core::Keeper;
-use server_core::{ServeFault, Worker};
+use server_core::{Entrance, ServeFault, Worker};
 use std::alloc::Global;
 use std::snapshot::Snapshot;
 use std::sync::ledger::{Ledger, Share};
@@ -43,16 +43,18 @@ pub fn workers_of<K: Keeper + Drop, L: Ledger>(
 pub fn gathered<K: Keeper + Drop, L: Ledger>(
     alloc: Global,
     desk: &Desk<K>,
+    entrance: &Entrance,
     begun: &Snapshot<System>,
     workers: Vec<Worker<K, L>>,
     own: Pass<K>,
     rest: Share<L>,
 ) -> Result<(Vec<Pass<K>>, Share<L>), NoMemory>
-    requires workers { All (IsWorkers begun.now.value.journal desk.now) workers.items }
+    requires workers { All (IsWorkers entrance.now begun.now.value.journal desk.now)
+        workers.items }
     requires own { IsCheckpointers begun.now.value.journal desk.now own }
     requires nothing { rest.amount ≡ 0 }
     ensures servers { IfOk result
-        (λ b. AreServers begun.now.value.journal desk.now b.1.amount b.0.items) }
+        (λ b. AreServers entrance.now begun.now.value.journal desk.now b.1.amount b.0.items) }
     ensures parts { IfOk result (λ b. b.1.parts ≡ rest.parts + length workers.items) }
 {
     let mut passes = Vec::with_capacity(alloc, workers.len())?;

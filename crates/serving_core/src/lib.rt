@@ -2,9 +2,9 @@
 //!
 //! [`serve_on`] hands the passes of a desk to threads, which take sessions from one entrance, and
 //! gives back the core and the keeper that they leave. **The one contract** is its clauses: so many
-//! sessions were served as were asked for, unless it was told to stop; what is left came of these sessions alone, from the core
-//! that was handed in; and the keeper, unless it has failed, kept each change since then, in order and
-//! each once, from the state in which it was handed in.
+//! sessions were served as were asked for, unless it was told to stop; what is left came of these
+//! sessions alone, from the core that was handed in; and the keeper, unless it has failed, kept
+//! each change since then, in order and each once, from the state in which it was handed in.
 //!
 //! ```text
 //! let served =
@@ -17,11 +17,11 @@
 //!
 //! # Mechanism
 //!
-//! A desk is built with a pass for each worker and one for the checkpointer. Each worker has besides
-//! one part of a token that takes no bytes, to which the door adds one for each session that it
-//! admits. When all threads have ended their passes close the desk, and all parts of the token
-//! together count what the door has taken. So the number that is told is that of the sessions which
-//! went through the passes.
+//! A desk is built with a pass for each worker and one for the checkpointer. Each worker has
+//! besides one part of a token that takes no bytes, to which the door adds one for each session
+//! that it admits. When all threads have ended their passes close the desk, and all parts of the
+//! token together count what the door has taken. So the number that is told is that of the sessions
+//! which went through the passes.
 //!
 //! # Cost
 //!
@@ -33,5 +33,5 @@ mod laws;
 mod serving;
 mod threads;
 
-pub use laws::gone_on_server_is_kept;
+pub use laws::{entries_are_by_right, gone_on_server_is_kept};
 pub use serving::{Served, serve_on};

@@ -63,14 +63,14 @@ where
     requires passes { length passes.items ≡ workers + 1 }
     ensures count { IfOk result (λ b. b.0.stopped ≡ false → b.0.sessions ≡ sessions) }
     ensures servers { IfOk result
-        (λ b. AreServers begun.now.value.journal desk.now b.0.sessions b.1.items) }
+        (λ b. AreServers entrance.now begun.now.value.journal desk.now b.0.sessions b.1.items) }
 {
     let mut passes = passes;
     let Some(own) = passes.pop() else {
         return Err(ServeFault::NoMemory);
     };
     let (book, mut rest) = blank.open::<L>();
-    let door = Mutex::new(Door::new(sessions, book));
+    let door = Mutex::new(Door::new(alloc, sessions, book));
     let service = Service::new(alloc, entrance, workers, processors(rt), idle, moment)?;
     let stop = AtomicBool::new(false);
     let dealt = workers_of(alloc, desk, begun, passes, &mut rest)?;
@@ -80,7 +80,7 @@ where
     if back.len() != workers {
         return Err(ServeFault::NoMemory);
     }
-    let (passes, all) = gathered(alloc, desk, begun, back, own, rest)?;
+    let (passes, all) = gathered(alloc, desk, entrance, begun, back, own, rest)?;
     let taken = door.into_inner().served(sessions, all)?;
     Ok((taken, passes))
 }
@@ -94,8 +94,8 @@ pub struct Served<K> {
     pub keeper: K,
 }
 
-/// What so many sessions left, where these are all passes of the desk: they are what the threads gave
-/// back.
+/// What so many sessions left, where these are all passes of the desk: they are what the threads
+/// gave back.
 fn close<K: Keeper + Drop>(
     desk: Desk<K>,
     passes: Vec<Pass<K>>,
@@ -149,7 +149,8 @@ where
     ensures count { IfOk result
         (λ served. served.taken.stopped ≡ false → served.taken.sessions ≡ sessions) }
     ensures leaves { IfOk result
-        (λ served. Leaves workers served.taken.sessions keeper system served.system) }
+        (λ served. Leaves entrance.now workers served.taken.sessions keeper system
+        served.system) }
     ensures kept { IfOk result (λ served. HasKept K.Keeper (origin_at system keeper)
         served.system.journal served.keeper) }
 {
@@ -169,29 +170,30 @@ where
     }
 }
 
-/// Serves so many sessions that come in at the entrance, by so many threads, from 1 to 16, beside one
-/// that takes the steps of checkpoints, of so many records as the core's chunk says. They
-/// begin with this core, and the keeper keeps each change before its reply is written. Behind the
-/// last session that is wanted the entrance is closed, so that further clients are refused. Then it
-/// closes the desk, and answers the number of sessions, and the core and the keeper that they left.
-/// Where the control says that it is to stop, it takes no further session, those that run answer the
-/// lines that they were sent, and it ends likewise.
+/// Serves so many sessions that come in at the entrance, by so many threads, from 1 to 16, beside
+/// one that takes the steps of checkpoints, of so many records as the core's chunk says. Where
+/// clients have to log in, a session is one that was proved to be its user's. They begin with this
+/// core, and the keeper keeps each change before its reply is written. Behind the last session that
+/// is wanted the entrance is closed, so that further clients are refused. Then it closes the desk,
+/// and answers the number of sessions, and the core and the keeper that they left. Where the
+/// control says that it is to stop, it takes no further session, those that run answer the lines
+/// that they were sent, and it ends likewise.
 ///
 /// Each session that ends with a fault is told on `err`, as `session fault: read`, or `write`,
 /// `bound`, `journal`, `no memory`. By the manners a session whose client sends nothing for so long
 /// ends with `read`, and one whose client takes nothing for so long with `write`. Where they have a
-/// log, a fault is told as `session 3 fault: read`, and of an idle client as `idle, sent nothing` or
-/// `idle, took nothing`; and each session is told on `err` as it begins and ends, with its number
-/// from 1, its user, its client's address, the lines behind the first, and the moment of its last
-/// reply that bore one. Where they have denials, each that is denied is told, with its session's number
-/// and its user. A fault of `err` itself is forgotten.
+/// log, a fault is told as `session 3 fault: read`, and of an idle client as `idle, sent nothing`
+/// or `idle, took nothing`; and each session is told on `err` as it begins and ends, with its
+/// number from 1, its user, its client's address, the lines behind the first, and the moment of its
+/// last reply that bore one. Where they have denials, each that is denied is told, with its
+/// session's number and its user. A fault of `err` itself is forgotten.
 ///
-/// `Accept` where a listener is gone: no further session is taken, and those that run are ended
-/// by their clients. Of any other fault of accepting a session nothing is told, and it is tried
-/// again. A session whose change could not be kept ends with a fault, and the server goes on: what is
-/// owed of that change is tried again before the next is entered, and once more at the end.
-/// `NoMemory` where a request for memory was refused or a thread could not be started, before the
-/// first session or behind the last.
+/// `Accept` where a listener is gone: no further session is taken, and those that run are ended by
+/// their clients. Of any other fault of accepting a session nothing is told, and it is tried again.
+/// A session whose change could not be kept ends with a fault, and the server goes on: what is owed
+/// of that change is tried again before the next is entered, and once more at the end. `NoMemory`
+/// where a request for memory was refused or a thread could not be started, before the first
+/// session or behind the last.
 pub fn serve_on<K, R, W, C>(
     rt: &R,
     alloc: Global,
@@ -215,7 +217,8 @@ where
     ensures count { IfOk result
         (λ served. served.taken.stopped ≡ false → served.taken.sessions ≡ sessions) }
     ensures leaves { IfOk result
-        (λ served. Leaves workers served.taken.sessions keeper system served.system) }
+        (λ served. Leaves entrance.now workers served.taken.sessions keeper system
+        served.system) }
     ensures kept { IfOk result (λ served. HasKept K.Keeper (origin_at system keeper)
         served.system.journal served.keeper) }
 {

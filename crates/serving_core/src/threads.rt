@@ -2,10 +2,13 @@
 ghost use Rattle.std.specs.Prelude.{◌≡◌, All, IfOk};
 ghost use Rattle.std.specs.Thread.{IsSend, IsSync};
 ghost use Rattle.server_core.specs.Sessions.{IsNew, IsNewWorker, IsWorkers, IsCheckpointers};
+ghost use Rattle.serving_core.specs.Promises.{IsOfServer};
 
 use desk_core::{Desk, Pass};
 use journal_core::Keeper;
-use server_core::{Control, Door, Log, Lookout, ServeFault, Service, Worker, watch, work};
+use server_core::{
+    Control, Door, Entrance, Log, Lookout, ServeFault, Service, Worker, watch, work,
+};
 use session_core::checkpointer;
 use std::alloc::Global;
 use std::snapshot::Snapshot;
@@ -20,10 +23,10 @@ use system_core::System;
 /// The promise of a thread that sessions were served through its pass, as many as its token counts,
 /// and nothing else was done.
 #[derive_where(Clone, Copy)]
-pub struct Works<'a, K: Keeper + Drop>(&'a Desk<K>, &'a Snapshot<System>);
+pub struct Works<'a, K: Keeper + Drop>(&'a Desk<K>, &'a Snapshot<System>, &'a Entrance);
 
 impl<'a, K: Keeper + Drop, L: Ledger> Promise<Worker<K, L>> for Works<'a, K> {
-    ghost kept_by = { λ p worker. IsWorkers p.1.now.value.journal p.0.now worker };
+    ghost kept_by = { λ p worker. IsWorkers p.2.now p.1.now.value.journal p.0.now worker };
 }
 
 /// The promise of a thread that its pass looked after checkpoints, and nothing else was done.
@@ -73,7 +76,7 @@ fn attend<K: Keeper + Drop, L: Ledger, R: Wait + Clock, G: Log>(
     log: &G,
 ) -> Worker<K, L>
     requires { IsNewWorker begun.now.value.journal desk.now worker }
-    ensures { IsWorkers begun.now.value.journal desk.now result }
+    ensures { IsWorkers service.now.entrance.now begun.now.value.journal desk.now result }
 {
     work(rt, alloc, desk, worker, service, door, log)
 }
@@ -82,13 +85,14 @@ fn attend<K: Keeper + Drop, L: Ledger, R: Wait + Clock, G: Log>(
 fn keep<'a, K: Keeper + Drop, L: Ledger>(
     desk: &'a Desk<K>,
     begun: &'a Snapshot<System>,
+    entrance: &'a Entrance,
     threads: &mut Vec<PromisedHandle<Worker<K, L>, Works<'a, K>>>,
     thread: PromisedHandle<Worker<K, L>, Works<'a, K>>,
 )
-    requires all { All (λ w. (w.promise.0.now ≡ desk.now) × (w.promise.1.now ≡ begun.now))
+    requires all { All (λ w. IsOfServer desk.now begun.now entrance.now w.promise)
         threads.old.items }
-    requires one { (thread.promise.0.now ≡ desk.now) × (thread.promise.1.now ≡ begun.now) }
-    ensures { All (λ w. (w.promise.0.now ≡ desk.now) × (w.promise.1.now ≡ begun.now))
+    requires one { IsOfServer desk.now begun.now entrance.now thread.promise }
+    ensures { All (λ w. IsOfServer desk.now begun.now entrance.now w.promise)
         threads.new.items }
 {
     let _ = threads.push(thread);
@@ -99,11 +103,12 @@ fn join_all<'a, K: Keeper + Drop, L: Ledger, R: Threads>(
     rt: &R,
     desk: &'a Desk<K>,
     begun: &'a Snapshot<System>,
+    entrance: &'a Entrance,
     threads: Vec<PromisedHandle<Worker<K, L>, Works<'a, K>>>,
 ) -> Result<Vec<Worker<K, L>>, ServeFault>
-    requires { All (λ w. (w.promise.0.now ≡ desk.now) × (w.promise.1.now ≡ begun.now))
-        threads.items }
-    ensures { IfOk result (λ v. All (IsWorkers begun.now.value.journal desk.now) v.items) }
+    requires { All (λ w. IsOfServer desk.now begun.now entrance.now w.promise) threads.items }
+    ensures { IfOk result
+        (λ v. All (IsWorkers entrance.now begun.now.value.journal desk.now) v.items) }
 {
     match thread::join_promised(rt, threads) {
         Ok(workers) => Ok(workers),
@@ -135,7 +140,8 @@ where
     requires workers { All (IsNewWorker begun.now.value.journal desk.now) workers.items }
     requires own { IsNew begun.now.value.journal desk.now own }
     ensures workers { IfOk result
-        (λ b. All (IsWorkers begun.now.value.journal desk.now) b.0.items) }
+        (λ b. All (IsWorkers service.now.entrance.now begun.now.value.journal desk.now)
+        b.0.items) }
     ensures own { IfOk result (λ b. IsCheckpointers begun.now.value.journal desk.now b.1) }
 {
     let dealt = Dealt { workers, own };
@@ -148,7 +154,8 @@ where
                 dealt.workers.items }
             requires own { IsNew begun.now.value.journal desk.now dealt.own }
             ensures workers { IfOk result
-                (λ b. All (IsWorkers begun.entry.now.value.journal desk.entry.now) b.0.items) }
+                (λ b. All (IsWorkers service.entry.now.entrance.now begun.entry.now.value.journal
+                desk.entry.now) b.0.items) }
             ensures own { IfOk result
                 (λ b. IsCheckpointers begun.entry.now.value.journal desk.entry.now b.1) }
         {
@@ -169,19 +176,20 @@ where
             let mut closed = door.lock(rt);
             for worker in workers {
                 match scope.spawn_with(
-                    Works(desk, begun),
+                    Works(desk, begun, service.entrance),
                     move || -> Worker<K, L>
                         requires { IsNewWorker begun.now.value.journal desk.now worker }
-                        ensures { IsWorkers begun.entry.now.value.journal desk.entry.now result }
+                        ensures { IsWorkers service.entry.now.entrance.now
+                            begun.entry.now.value.journal desk.entry.now result }
                     { attend(rt, alloc, desk, begun, worker, service, door, log) },
                 ) {
-                    Ok(thread) => keep(desk, begun, &mut threads, thread),
+                    Ok(thread) => keep(desk, begun, service.entrance, &mut threads, thread),
                     Err(_) => closed.shut(ServeFault::NoMemory),
                 }
             }
             drop(closed);
             watch(rt, desk, service, door, threads.len() as u64, control);
-            let back = join_all(rt, desk, begun, threads);
+            let back = join_all(rt, desk, begun, service.entrance, threads);
             stop.store(true, Ordering::SeqCst);
             let last = checks.join(rt);
             Ok((back?, last))

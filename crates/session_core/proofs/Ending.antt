@@ -1,11 +1,12 @@
 -- How a session ends of which a reply was withheld.
-use Rattle.std.proofs.Common.{◌≡◌, ◌⊎◌, ℕ, Bool, true, false, List, Option, Ok, Err, inl, inr, refl, sym, ◌∙◌, subst, ⊎_elim}
+use Rattle.std.proofs.Common.{◌≡◌, ◌⊎◌, Bool, true, false, Ok, Err, inl, inr, refl, subst, ⊎_elim}
 use Rattle.std.specs.Prelude.{◌↔◌, Result, IsErrOf}
 use Rattle.lines_core.specs.Serving.{Traffic}
 use Rattle.lines_core.specs.declared.serving.SessionFault.{SessionFault}
 use Rattle.lines_core.specs.declared.serving.SessionFault.TheVariants as session_faults
 use Rattle.desk_core.specs.Guarded.{DeskLock, DeskPass}
 use Rattle.session_core.specs.declared.session_end.SessionEnd.TheVariants as session_ends
+use Rattle.session_core.specs.declared.admission.Admission.{Admission}
 use Rattle.session_core.specs.Session.{SessionState, EndsAt, EndsBy, end_of}
 
 pub either-end : (P : Result (Unit {0}) SessionFault → Type 0) (ending : Result (Unit {0}) SessionFault) → (ending ≡ Ok tt) ⊎ (ending ≡ Err session_faults.Write) → P ending → P (Ok tt) ⊎ P (Err session_faults.Write)
@@ -16,10 +17,10 @@ pub not-read : (ending : Result (Unit {0}) SessionFault) → (ending ≡ Ok tt) 
 not-read ending (inl e) r = cc
 not-read ending (inr e) r = cc
 
-module _ {K : Type 0} (desk : DeskLock K) (last : SessionState K) (old new : DeskPass K) (traffic : Traffic) where
-  pub ends-by : (unkept : Bool) (served : Result (Unit {0}) SessionFault) → last.unkept ≡ unkept → EndsAt desk served last old new traffic
-      → (unkept ≡ true → (served ≡ Ok tt) ⊎ (served ≡ Err session_faults.Write)) → EndsBy desk (end_of unkept served) last old new traffic
-  ends-by true served is ends how = (is, either-end (λ r. EndsAt desk r last old new traffic) served (how refl) ends)
+module _ {K : Type 0} (desk : DeskLock K) (admission : Admission) (last : SessionState K) (old new : DeskPass K) (traffic : Traffic) where
+  pub ends-by : (unkept : Bool) (served : Result (Unit {0}) SessionFault) → last.unkept ≡ unkept → EndsAt desk admission served last old new traffic
+      → (unkept ≡ true → (served ≡ Ok tt) ⊎ (served ≡ Err session_faults.Write)) → EndsBy desk admission (end_of unkept served) last old new traffic
+  ends-by true served is ends how = (is, either-end (λ r. EndsAt desk admission r last old new traffic) served (how refl) ends)
   ends-by false (Ok x) is ends how = (is, ends)
   ends-by false (Err f) is ends how = (is, ends)
 

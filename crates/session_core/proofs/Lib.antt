@@ -3,3 +3,4 @@ pub mod Telling
 pub mod Growing
 pub mod Sessions
 pub mod Checked
+pub mod Login

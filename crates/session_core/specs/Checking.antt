@@ -1,5 +1,5 @@
 -- What the checkpointer does through its pass.
-use Rattle.std.specs.Prelude.{◌≡◌, Bool, true, false}
+use Rattle.std.specs.Prelude.{◌≡◌, false}
 use Rattle.base_core.specs.declared.value.Moment.{Moment}
 use Rattle.base_core.specs.declared.lack.Lack.TheVariants as lacks
 use Rattle.turnstile.specs.Passes.{IsSamePass}

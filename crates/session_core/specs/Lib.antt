@@ -1,7 +1,9 @@
 pub mod Greeting
+pub mod Admission
 pub mod Gains
 pub mod Checking
 pub mod EndNames
+pub mod LoggedIn
 pub mod Session
 pub mod TooLong
 pub use Rattle.base_core.specs.Words

@@ -1,5 +1,5 @@
 -- What the lines of a session say, what may be written for them, and how a session ends.
-use Rattle.std.specs.Prelude.{◌≡◌, ℕ, ◌+◌, ◌-◌, ◌^◌, ◌≤◌, ◌⊎◌, min, Bool, true, false, List, [], ◌++◌, length, codes, Option, Some, None, Result, Ok, Err}
+use Rattle.std.specs.Prelude.{◌≡◌, ℕ, ◌+◌, ◌-◌, ◌^◌, ◌≤◌, ◌⊎◌, min, Bool, true, false, List, [], length, Option, Some, None, Result, Ok, Err}
 use Rattle.base_core.specs.declared.name.User.{User}
 use Rattle.lexer_core.specs.declared.fault.Code.{Code}
 use Rattle.lexer_core.specs.declared.lexer.TheConstants.{MAX_LINE}
@@ -11,7 +11,6 @@ use Rattle.lines_core.specs.declared.serving.SessionFault.{SessionFault}
 use Rattle.system_core.specs.Replies.{told_moment}
 use Rattle.turnstile.specs.Passes.{IsSamePass}
 use Rattle.system_core.specs.declared.machine.event.Reply.{Reply}
-use Rattle.system_core.specs.declared.machine.event.Reply.TheVariants as replies
 use Rattle.reply_core.specs.Texts.{fault_text, unread_text}
 use Rattle.reply_core.specs.Telling.{TellsReply}
 use Rattle.base_core.specs.declared.value.Moment.{Moment}
@@ -22,7 +21,12 @@ use Rattle.session_core.specs.declared.session_end.SessionEnd.{SessionEnd}
 use Rattle.session_core.specs.declared.summary.Summary.{Summary}
 use Rattle.session_core.specs.declared.session_end.SessionEnd.TheVariants as session_ends
 use Rattle.lines_core.specs.declared.serving.SessionFault.TheVariants as session_faults
-use Rattle.session_core.specs.Greeting.{greeting}
+use Rattle.session_core.specs.declared.admission.Admission.{Admission}
+use Rattle.session_core.specs.declared.reception.Reception.{Reception}
+use Rattle.session_core.specs.declared.reception.Reception.TheVariants as receptions
+use Rattle.session_core.specs.declared.answering.Session.{Session}
+use Rattle.login_core.specs.Login.{Beginning}
+use Rattle.session_core.specs.Admission.{Receives, reception_text}
 use Rattle.session_core.specs.Gains.{Gains}
 
 -- A line of a user at a desk: this text, which bears this moment, may be written for it, and the pass
@@ -64,10 +68,12 @@ pub record Withholds {K : Type 0} (desk : DeskLock K) (user : User) (line : List
   pub same : IsSamePass old new
   pub took : Took desk (asks.Say (record { user = user; statement = asked })) reply old new
 
--- How far a session has come: its user, once the first line has named one; whether it is over;
--- whether a reply was withheld; how many lines came after the first; the moment of the last of their
--- replies that bore one; and what its pass knows.
+-- How far a session has come: how it comes by its user; the login that was begun, if one was; the user,
+-- once he is welcome; whether it is over; whether a reply was withheld; how many lines came behind his
+-- welcome; the moment of the last of their replies that bore one; and what its pass knows.
 pub record SessionState (K : Type 0) : Type 0 where
+  pub admission : Admission
+  pub begun : Option Beginning
   pub user : Option User
   pub over : Bool
   pub unkept : Bool
@@ -75,40 +81,52 @@ pub record SessionState (K : Type 0) : Type 0 where
   pub moment : Option Moment
   pub pass : DeskPass K
 
-abbrev pub progress : {K : Type 0}
-    → Option User → Bool → Bool → ℕ → Option Moment → DeskPass K → SessionState K
-progress user over unkept answered moment pass =
+-- a session of which no line was answered yet
+abbrev pub opened : {K : Type 0} → Admission → DeskPass K → SessionState K
+opened admission pass =
     record {
-      user = user;
-      over = over;
-      unkept = unkept;
-      answered = answered;
-      moment = moment;
+      admission = admission;
+      begun = None;
+      user = None;
+      over = false;
+      unkept = false;
+      answered = 0;
+      moment = None;
       pass = pass;
     }
 
--- a session of which no line was answered yet
-abbrev pub opened : {K : Type 0} → DeskPass K → SessionState K
-opened pass = progress None false false 0 None pass
+-- how far the session of this server of lines has come
+abbrev pub progress_of : {K R G : Type 0} → Session K R G → SessionState K
+progress_of server =
+    record {
+      admission = server.admission.now;
+      begun = server.begun.now;
+      user = server.user;
+      over = server.over;
+      unkept = server.unkept;
+      answered = server.answered;
+      moment = server.moment;
+      pass = server.pass.now;
+    }
 
--- what is written for a first line that names the user
-abbrev pub welcome_text : User → List ℕ
-welcome_text user = codes "welcome " ++ user.0 ++ codes "\n"
+-- how far a session has come behind a line that nobody was welcome before
+abbrev pub behind_reception : {K : Type 0} → Reception → SessionState K → SessionState K
+behind_reception (receptions.Welcomed user answer) old = record old { user = Some user }
+behind_reception (receptions.Challenged begun) old = record old { begun = Some begun }
+behind_reception _ old = record old { over = true }
 
 -- one more, as far as 64 bits count
 abbrev pub one_more : ℕ → ℕ
 one_more n = min (n + 1) (2 ^ 64 - 1)
 
--- A line of a session: the first is greeted, or else it ends the session; each later one is its
--- user's, and ends the session if its reply is withheld. Once the session is over nothing is written.
+-- A line of a session: until a user is welcome it is received, and may end the session; each later one
+-- is his, and ends the session if its reply is withheld. Once it is over nothing is written.
 pub data AnswersSession {K : Type 0} (desk : DeskLock K) (old : SessionState K) (line : List ℕ)
     : List ℕ → SessionState K → Type 0 where
   ended : old.over ≡ true → AnswersSession desk old line [] old
-  greeted : {user : User} → old.over ≡ false → old.user ≡ None → greeting line ≡ Ok user
-      → AnswersSession desk old line (welcome_text user) (record old { user = Some user })
-  dismissed : {code : Code} {offset : ℕ} → old.over ≡ false → old.user ≡ None
-      → greeting line ≡ Err (code, offset)
-      → AnswersSession desk old line (fault_text code offset) (record old { over = true })
+  received : (reception : Reception) → old.over ≡ false → old.user ≡ None
+      → Receives old.admission old.begun line reception
+      → AnswersSession desk old line (reception_text reception) (behind_reception reception old)
   served : {text : List ℕ} {at : Option Moment} {pass : DeskPass K} (user : User)
       → old.over ≡ false
       → old.user ≡ Some user
@@ -128,15 +146,16 @@ pub data AnswersSession {K : Type 0} (desk : DeskLock K) (old : SessionState K) 
 abbrev pub is_over : {K : Type 0} → SessionState K → Bool
 is_over progress = progress.over
 
--- what the session's pass gained: entries of its user, and nothing before a line has named him
+-- what the session's pass gained: entries of its user, and nothing before he was welcome
 abbrev pub GainsOf : {K : Type 0} → Option User → DeskPass K → DeskPass K → Type 0
 GainsOf (Some user) old new = Gains user old new
 GainsOf None old new = new ≡ old
 
 -- how a session ends: its lines were answered one after another up to here
-pub record EndsAt {K : Type 0} (desk : DeskLock K) (ending : Result (Unit {0}) SessionFault)
-    (last : SessionState K) (old new : DeskPass K) (traffic : Traffic) : Type 0 where
-  pub ends : Ends (AnswersSession desk) is_over ending (opened old) last traffic
+pub record EndsAt {K : Type 0} (desk : DeskLock K) (admission : Admission)
+    (ending : Result (Unit {0}) SessionFault) (last : SessionState K)
+    (old new : DeskPass K) (traffic : Traffic) : Type 0 where
+  pub ends : Ends (AnswersSession desk) is_over ending (opened admission old) last traffic
   pub pass_is : last.pass ≡ new
   pub gained : GainsOf last.user old new
 
@@ -148,24 +167,23 @@ end_of false (Err fault) = Err (session_ends.Session fault)
 
 -- The end is that of the journal exactly where a reply was withheld; then the session was over, or the
 -- writer failed besides.
-abbrev pub EndsBy : {K : Type 0} → DeskLock K → Result (Unit {0}) SessionEnd → SessionState K
-    → DeskPass K → DeskPass K
-    → Traffic → Type 0
-EndsBy desk (Ok x) last old new traffic =
-    (last.unkept ≡ false) × EndsAt desk (Ok tt) last old new traffic
-EndsBy desk (Err (session_ends.Session fault)) last old new traffic =
-    (last.unkept ≡ false) × EndsAt desk (Err fault) last old new traffic
-EndsBy desk (Err session_ends.Journal) last old new traffic =
+abbrev pub EndsBy : {K : Type 0} → DeskLock K → Admission → Result (Unit {0}) SessionEnd
+    → SessionState K → DeskPass K → DeskPass K → Traffic → Type 0
+EndsBy desk admission (Ok x) last old new traffic =
+    (last.unkept ≡ false) × EndsAt desk admission (Ok tt) last old new traffic
+EndsBy desk admission (Err (session_ends.Session fault)) last old new traffic =
+    (last.unkept ≡ false) × EndsAt desk admission (Err fault) last old new traffic
+EndsBy desk admission (Err session_ends.Journal) last old new traffic =
     (last.unkept ≡ true)
-    × (EndsAt desk (Ok tt) last old new traffic
-    ⊎ EndsAt desk (Err session_faults.Write) last old new traffic)
+    × (EndsAt desk admission (Ok tt) last old new traffic
+    ⊎ EndsAt desk admission (Err session_faults.Write) last old new traffic)
 
 -- How a session ends, and what is told of it: its user, how many lines came after the first, and the
 -- moment of the last reply that bore one, as they are where its lines were answered up to.
-pub record EndsSession {K : Type 0} (desk : DeskLock K) (summary : Summary)
+pub record EndsSession {K : Type 0} (desk : DeskLock K) (admission : Admission) (summary : Summary)
     (old new : DeskPass K) (traffic : Traffic) : Type 0 where
   pub last : SessionState K
   pub user_is : summary.user ≡ last.user
   pub lines_are : summary.lines ≡ last.answered
   pub moment_is : summary.moment ≡ last.moment
-  pub ends : EndsBy desk summary.ended last old new traffic
+  pub ends : EndsBy desk admission summary.ended last old new traffic

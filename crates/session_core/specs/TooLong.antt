@@ -1,6 +1,6 @@
 -- Lines that are too long are answered alike.
-use Rattle.std.specs.Prelude.{◌≡◌, ℕ, ◌<◌, List, length, Option, Err}
-use Rattle.std.proofs.Common.{arith, sym, ◌∙◌}
+use Rattle.std.specs.Prelude.{◌≡◌, ℕ, ◌<◌, List, length, Option, Some, None, Err}
+use Rattle.std.proofs.Common.{arith, sym, inl, inr, ◌∙◌}
 use Rattle.std.proofs.lemmas.Bool.Decides.{nat_tests}
 use Rattle.base_core.specs.declared.name.User.{User}
 use Rattle.base_core.specs.declared.value.Moment.{Moment}
@@ -11,8 +11,15 @@ use Rattle.lines_core.specs.declared.line.TheConstants.{LONGEST_LINE}
 use Rattle.lexer_core.specs.Lexing.{long_line, behind}
 use Rattle.reader_core.specs.Language.{IsReadFault, lexical, nothing, ungrammatical}
 use Rattle.desk_core.specs.Guarded.{DeskLock, DeskPass}
+use Rattle.session_core.specs.declared.admission.Admission.{Admission}
+use Rattle.session_core.specs.declared.admission.Admission.TheVariants as admissions
+use Rattle.session_core.specs.declared.reception.Reception.{Reception}
+use Rattle.session_core.specs.declared.reception.Reception.TheVariants as receptions
 use Rattle.session_core.specs.Greeting.{greeting}
-use Rattle.session_core.specs.Session.{SessionState, AnswersUser, faulty, said, unread, AnswersSession, ended, greeted, dismissed, served, withheld}
+use Rattle.login_core.specs.Users.{Users}
+use Rattle.login_core.specs.Login.{Beginning}
+use Rattle.session_core.specs.Admission.{ReceivesName, ReceivesKnown, ReceivesOpening, ReceivesLast, Receives, longest_message}
+use Rattle.session_core.specs.Session.{SessionState, AnswersUser, faulty, said, unread, AnswersSession, ended, received, served, withheld}
 
 greeting-too_long : (line : List ℕ) → MAX_LINE < length line → greeting line ≡ Err (faults.TooLong, MAX_LINE)
 greeting-too_long line h = grind (arith, nat_tests)
@@ -37,15 +44,81 @@ AnswersUser-too_long desk user old new line other text _ h k (said asked reply s
     let s = spelled.says.short in absurd (omega (arith, h, s))
 AnswersUser-too_long desk user old _ line other _ _ h k (unread s) = absurd (omega (arith, h, s))
 
+-- both are greeted alike
+same-greeting : (line other : List ℕ) → LONGEST_LINE < length line → LONGEST_LINE < length other
+    → greeting line ≡ greeting other
+same-greeting line other h k =
+    greeting-too_long line (omega (arith, h)) ∙ sym (greeting-too_long other (omega (arith, k)))
+
+ReceivesName-too_long : (line other : List ℕ) (reception : Reception) → greeting line ≡ greeting other
+    → ReceivesName line reception
+    → ReceivesName other reception
+ReceivesName-too_long line other (receptions.Welcomed user answer) same r = (sym same ∙ r.0, r.1)
+ReceivesName-too_long line other (receptions.Faulty code offset) same r = sym same ∙ r
+ReceivesName-too_long line other (receptions.Challenged begun) same r = r
+ReceivesName-too_long line other receptions.Refused same r = r
+ReceivesName-too_long line other receptions.Unread same r = r
+
+ReceivesKnown-too_long : (known : User) (line other : List ℕ) (reception : Reception)
+    → greeting line ≡ greeting other
+    → ReceivesKnown known line reception
+    → ReceivesKnown known other reception
+ReceivesKnown-too_long known line other (receptions.Welcomed user answer) same r =
+    (sym same ∙ r.0, r.1, r.2)
+ReceivesKnown-too_long known line other (receptions.Faulty code offset) same (inl e) = inl (sym same ∙ e)
+ReceivesKnown-too_long known line other (receptions.Faulty code offset) same (inr n) =
+    inr ((n.0.0, sym same ∙ n.0.1, n.0.2), n.1, n.2)
+ReceivesKnown-too_long known line other (receptions.Challenged begun) same r = r
+ReceivesKnown-too_long known line other receptions.Refused same r = r
+ReceivesKnown-too_long known line other receptions.Unread same r = r
+
+-- neither line is a message of a login
+module _ (line other : List ℕ) (h : longest_message < length line) (k : longest_message < length other) where
+  ReceivesOpening-too_long : (users : Users) (secret own : List ℕ) (reception : Reception)
+      → ReceivesOpening users secret own line reception
+      → ReceivesOpening users secret own other reception
+  ReceivesOpening-too_long users secret own (receptions.Challenged begun) r =
+      let short = r.0 in absurd (omega (arith, h, short))
+  ReceivesOpening-too_long users secret own (receptions.Faulty code offset) r =
+      (r.0, r.1, λ short. absurd (omega (arith, k, short)))
+  ReceivesOpening-too_long users secret own receptions.Unread r = absurd (omega (arith, h, r))
+  ReceivesOpening-too_long users secret own (receptions.Welcomed user answer) r = r
+  ReceivesOpening-too_long users secret own receptions.Refused r = r
+
+  ReceivesLast-too_long : (users : Users) (begun : Beginning) (reception : Reception)
+      → ReceivesLast users begun line reception
+      → ReceivesLast users begun other reception
+  ReceivesLast-too_long users begun (receptions.Welcomed user answer) r =
+      let short = r.0 in absurd (omega (arith, h, short))
+  ReceivesLast-too_long users begun receptions.Refused r = λ short. absurd (omega (arith, k, short))
+  ReceivesLast-too_long users begun receptions.Unread r = absurd (omega (arith, h, r))
+  ReceivesLast-too_long users begun (receptions.Challenged other_begun) r = r
+  ReceivesLast-too_long users begun (receptions.Faulty code offset) r = r
+
+Receives-too_long : (admission : Admission) (begun : Option Beginning) (line other : List ℕ)
+    (reception : Reception)
+    → LONGEST_LINE < length line
+    → LONGEST_LINE < length other
+    → Receives admission begun line reception
+    → Receives admission begun other reception
+Receives-too_long admissions.Anyone begun line other reception h k r =
+    ReceivesName-too_long line other reception (same-greeting line other h k) r
+Receives-too_long (admissions.Known user) begun line other reception h k r =
+    ReceivesKnown-too_long user line other reception (same-greeting line other h k) r
+Receives-too_long (admissions.Login users secret own) None line other reception h k r =
+    ReceivesOpening-too_long line other (omega (arith, h)) (omega (arith, k)) users.now secret.now own.now
+    reception r
+Receives-too_long (admissions.Login users secret own) (Some begun) line other reception h k r =
+    ReceivesLast-too_long line other (omega (arith, h)) (omega (arith, k)) users.now begun reception r
+
 pub AnswersSession-too_long : {K : Type 0} (desk : DeskLock K) (old new : SessionState K) (line other text : List ℕ)
     → LONGEST_LINE < length line
     → LONGEST_LINE < length other
     → AnswersSession desk old line text new
     → AnswersSession desk old other text new
 AnswersSession-too_long desk old _ line other _ h k (ended o) = ended o
-AnswersSession-too_long desk old _ line other _ h k (greeted o n e) = let l = greeting-too_long line (omega (arith, h)) in cc
-AnswersSession-too_long desk old _ line other _ h k (dismissed o n e) =
-    dismissed o n (greeting-too_long other (omega (arith, k)) ∙ sym (greeting-too_long line (omega (arith, h))) ∙ e)
+AnswersSession-too_long desk old _ line other _ h k (received reception o n r) =
+    received reception o n (Receives-too_long old.admission old.begun line other reception h k r)
 AnswersSession-too_long desk old _ line other _ h k (served {text} {at} {pass} user o u a) =
     served user o u (AnswersUser-too_long desk user old.pass pass line other text at (omega (arith, h)) (omega (arith, k)) a)
 AnswersSession-too_long desk old _ line other _ h k (withheld {pass} user o u w) =

@@ -1,18 +1,22 @@
 //! Sessions: lines of one user, answered through a pass of a desk.
 //!
-//! [`serve_session`] is the one contract, and it is over bytes. The first line names the user; each
-//! later line is one statement, and is answered by what the desk makes of it in a turn of the pass:
-//! the text of the reply and, of an export, its records; or the text of the line's one fault. What
-//! was written is such answers, one after another; each turn begins where the one before left what
-//! the pass has seen; and the entries that the pass gains bear that user (`specs/Session.antt`).
-//! [`serve_line`] is one such line. The [`Summary`] that comes of it says whose session it was, how
-//! many lines came after the first, and the moment of the last reply that bore one.
+//! [`serve_admitted`] is the one contract, and it is over bytes. An [`Admission`] says how the
+//! session comes by its user: its first line names him, and nobody asks whether it is he; or it has
+//! to name the one who is known; or the first two lines log him in, by SCRAM-SHA-256
+//! (`specs/Admission.antt`). Each later line is one statement, and is answered by what the desk
+//! makes of it in a turn of the pass: the text of the reply and, of an export, its records; or the
+//! text of the line's one fault. What was written is such answers, one after another; each turn
+//! begins where the one before left what the pass has seen; and the entries that the pass gains
+//! bear that user (`specs/Session.antt`). So whose session it is that had to log in has shown it by
+//! a message of it (law [`laws::user_has_come`]). [`serve_session`] is the call for which anyone is
+//! who he says, and [`serve_line`] is one line. The [`Summary`] that comes of a session says whose
+//! it was, how many lines came behind his welcome, and the moment of the last reply that bore one.
 //!
-//! A reply that the desk withholds, that to a change which could not be kept, is not written, and the
-//! session is over: it ends with [`SessionEnd::Journal`].
+//! A reply that the desk withholds, that to a change which could not be kept, is not written, and
+//! the session is over: it ends with [`SessionEnd::Journal`].
 //!
-//! [`checkpointer`] steps the active checkpoint through a pass of its own until it is told to stop. It
-//! makes no entry.
+//! [`checkpointer`] steps the active checkpoint through a pass of its own until it is told to stop.
+//! It makes no entry.
 //!
 //! ```text
 //! let (desk, mut passes) = Desk::build(alloc, System::new(alloc, 16)?, NoKeeper, 2)?;
@@ -38,18 +42,24 @@
 //! what queries and exports answer, and for the tokens of a line where none before had so many.
 #![tactic(auto)]
 
+mod admission;
+mod answering;
 mod checkpointing;
 mod greeting;
+pub mod laws;
 mod line;
+mod reception;
 mod session;
 mod session_end;
 mod summary;
 mod witness;
 
+pub use admission::Admission;
 pub use checkpointing::checkpointer;
 pub use line::serve_line;
 pub use lines_core::SessionFault;
-pub use session::serve_session;
+pub use reception::Reception;
+pub use session::{serve_admitted, serve_session};
 pub use session_end::{SessionEnd, end_name};
 pub use summary::Summary;
 pub use witness::Witness;

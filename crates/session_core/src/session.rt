@@ -1,41 +1,28 @@
 //! A session: a line that names a user, and then lines of his.
-ghost use Rattle.std.specs.Prelude.{◌≡◌, ◌↔◌, Some, None, true, false, OnOk, OnErr, MatchResult, IsErrOf};
+ghost use Rattle.std.specs.Prelude.{◌≡◌, ◌↔◌, ◌++◌, Some, None, true, false, OnOk, OnErr, MatchResult, IsErrOf, codes};
 ghost use Rattle.base_core.specs.Streams.{MayWrite, MayWriteText};
 ghost use Rattle.lines_core.specs.Serving.{traffic_of};
 ghost use Rattle.turnstile.specs.Passes.{IsSamePass};
-ghost use Rattle.session_core.specs.Session.{AnswersSession, progress, welcome_text, end_of, EndsSession};
+ghost use Rattle.session_core.specs.Admission.{welcome_text, refused_login_text};
+ghost use Rattle.session_core.specs.Session.{AnswersSession, progress_of, end_of, EndsSession};
 
-use crate::greeting::greeting;
+use crate::admission::Admission;
+use crate::answering::Session;
 use crate::line::serve_line;
+use crate::reception::{Reception, received};
 use crate::session_end::SessionEnd;
 use crate::summary::Summary;
 use crate::witness::Witness;
-use base_core::{Broken, Moment, Sink, Source, User, write_all};
+use base_core::{Broken, Sink, Source, User, write_all};
 use desk_core::{Desk, Pass, Unkept};
 use journal_core::Keeper;
-use lexer_core::Token;
 use lines_core::{LineServer, SessionFault, serve};
-use reply_core::{ReplyBuffer, write_fault};
+use reply_core::{ReplyBuffer, write_fault, write_unread};
 use std::alloc::Global;
 use std::sync::Wait;
 
-/// What answers the lines of a session.
-#[derive(Drop)]
-struct Session<'a, K: Keeper + Drop, R, G> {
-    rt: &'a R,
-    alloc: Global,
-    desk: &'a Desk<K>,
-    pass: &'a mut Pass<K>,
-    gate: &'a G,
-    tokens: &'a mut Vec<Token>,
-    buffer: &'a mut ReplyBuffer,
-    user: Option<User>,
-    over: bool,
-    unkept: bool,
-    answered: u64,
-    moment: Option<Moment>,
-    ghost own: { pass.now.lock ≡ Some desk.now },
-}
+// What is written where a login proves nothing.
+const REFUSED_LOGIN: &[u8] = b"refused: login\n";
 
 fn write_welcome<W: Sink>(writer: &mut W, user: &User) -> Result<(), Broken>
     requires { W.failed writer.old ≡ false }
@@ -46,30 +33,60 @@ fn write_welcome<W: Sink>(writer: &mut W, user: &User) -> Result<(), Broken>
     write_all(writer, b"\n")
 }
 
-impl<'a, K: Keeper + Drop, R: Wait, G: Witness> Session<'a, K, R, G> {
-    /// Answers the first line. One that names no user ends the session.
+/// Writes the server's first message of a login.
+fn write_challenge<W: Sink>(writer: &mut W, message: &[u8]) -> Result<(), Broken>
+    requires { W.failed writer.old ≡ false }
+    ensures { MayWriteText W.failed W.taken (message.now ++ codes "\n")
+        result writer.old writer.new }
+{
+    write_all(writer, message)?;
+    write_all(writer, b"\n")
+}
+
+/// Writes the answer to the line that made a user welcome, and the welcome behind it.
+fn write_admitted<W: Sink>(writer: &mut W, answer: &[u8], user: &User) -> Result<(), Broken>
+    requires { W.failed writer.old ≡ false }
+    ensures { MayWriteText W.failed W.taken (answer.now ++ welcome_text user.now)
+        result writer.old writer.new }
+{
+    write_all(writer, answer)?;
+    write_welcome(writer, user)
+}
+
+impl<'a, 'b, K: Keeper + Drop, R: Wait, G: Witness> Session<'a, 'b, K, R, G> {
+    /// Answers a line before a user is welcome.
     fn greet<W: Sink>(&mut self, writer: &mut W, line: &[u8]) -> Result<(), Broken>
         requires first { (self.old.over ≡ false) × (self.old.user ≡ None) }
         requires sink { W.failed writer.old ≡ false }
         ensures holds { (self.new.pass.ghost_name ≡ self.old.pass.ghost_name)
             × (self.new.desk ≡ self.old.desk) }
         ensures text { MayWrite W.failed W.taken
-            (λ text. AnswersSession self.old.desk.now
-            (progress self.old.user self.old.over self.old.unkept self.old.answered
-            self.old.moment self.old.pass.now) line.now text
-            (progress self.new.user self.new.over self.new.unkept self.new.answered
-            self.new.moment self.new.pass.now))
+            (λ text. AnswersSession self.old.desk.now (progress_of self.old) line.now text
+            (progress_of self.new))
             result writer.old writer.new }
     {
-        match greeting(line) {
-            Ok(user) => {
+        match received(self.alloc, self.admission, &*self.begun, line) {
+            Reception::Welcomed { user, answer } => {
                 self.user = Some(user);
                 self.gate.named(&user);
-                write_welcome(writer, &user)
+                write_admitted(writer, answer.as_slice(), &user)
             }
-            Err((code, offset)) => {
+            Reception::Challenged(begun) => {
+                let written = write_challenge(writer, begun.server_first());
+                let _ = self.begun.replace(begun);
+                written
+            }
+            Reception::Faulty { code, offset } => {
                 self.over = true;
                 write_fault(self.buffer, code, offset, writer)
+            }
+            Reception::Refused => {
+                self.over = true;
+                write_all(writer, REFUSED_LOGIN)
+            }
+            Reception::Unread => {
+                self.over = true;
+                write_unread(writer)
             }
         }
     }
@@ -81,11 +98,8 @@ impl<'a, K: Keeper + Drop, R: Wait, G: Witness> Session<'a, K, R, G> {
         ensures holds { (self.new.pass.ghost_name ≡ self.old.pass.ghost_name)
             × (self.new.desk ≡ self.old.desk) }
         ensures text { MayWrite W.failed W.taken
-            (λ text. AnswersSession self.old.desk.now
-            (progress self.old.user self.old.over self.old.unkept self.old.answered
-            self.old.moment self.old.pass.now) line.now text
-            (progress self.new.user self.new.over self.new.unkept self.new.answered
-            self.new.moment self.new.pass.now))
+            (λ text. AnswersSession self.old.desk.now (progress_of self.old) line.now text
+            (progress_of self.new))
             result writer.old writer.new }
     {
         self.answered = self.answered.saturating_add(1);
@@ -110,7 +124,7 @@ impl<'a, K: Keeper + Drop, R: Wait, G: Witness> Session<'a, K, R, G> {
     }
 }
 
-impl<'a, K: Keeper + Drop, R: Wait, G: Witness> Session<'a, K, R, G> {
+impl<'a, 'b, K: Keeper + Drop, R: Wait, G: Witness> Session<'a, 'b, K, R, G> {
     /// What is told of the session, if the answering of its lines ended so.
     fn summary(&self, served: Result<(), SessionFault>) -> Summary
         ensures { result ≡ record {
@@ -129,15 +143,13 @@ impl<'a, K: Keeper + Drop, R: Wait, G: Witness> Session<'a, K, R, G> {
     }
 }
 
-impl<'a, K: Keeper + Drop, R: Wait, G: Witness> LineServer for Session<'a, K, R, G> {
+impl<'a, 'b, K: Keeper + Drop, R: Wait, G: Witness> LineServer for Session<'a, 'b, K, R, G> {
     ghost use Rattle.std.specs.Prelude.{◌≡◌};
-    ghost use Rattle.session_core.specs.Session.{progress, AnswersSession};
+    ghost use Rattle.session_core.specs.Session.{progress_of, AnswersSession};
     ghost use Rattle.session_core.specs.TooLong.{AnswersSession-too_long};
 
     ghost answers = { λ old line text new.
-        AnswersSession old.desk.now
-        (progress old.user old.over old.unkept old.answered old.moment old.pass.now) line text
-        (progress new.user new.over new.unkept new.answered new.moment new.pass.now)
+        AnswersSession old.desk.now (progress_of old) line text (progress_of new)
         × (new.pass.ghost_name ≡ old.pass.ghost_name)
         × (new.desk ≡ old.desk) };
 
@@ -174,15 +186,80 @@ fn end_of(unkept: bool, served: Result<(), SessionFault>) -> Result<(), SessionE
     }
 }
 
+/// A session through a pass of the desk, which comes by its user as the admission says: by its
+/// first line, or by its first two, where he has to log in. Each later line is answered as his. It
+/// gives what is told of it.
+///
+/// A line that names no user, or begins no login, is told its fault; one that proves nothing
+/// `refused: login`; and one that there was no memory to look at `refused: no memory`. Each ends
+/// the session. What was answered to the lines read is handed on before more is read, and at the
+/// end. It has `ended` with `Journal` exactly where the desk withholds the reply to a change:
+/// nothing is written for that line, and the session is over. Else it has ended with `Read` and
+/// `Write` exactly where the reader or the writer has failed, with `Bound` where 2^32 bytes were
+/// read and the end had not come, and with `NoMemory` before the first read.
+pub fn serve_admitted<K: Keeper + Drop, R: Wait, S: Source, W: Sink, G: Witness>(
+    rt: &R,
+    alloc: Global,
+    desk: &Desk<K>,
+    pass: &mut Pass<K>,
+    admission: &Admission<'_>,
+    reader: &mut S,
+    writer: &mut W,
+    gate: &G,
+) -> Summary
+    requires pass { pass.old.lock ≡ Some desk.now }
+    requires source { S.failed reader.old ≡ false }
+    requires sink { W.failed writer.old ≡ false }
+    ensures read { IsErrOf result.ended (SessionEnd.Session SessionFault.Read)
+        ↔ (S.failed reader.new ≡ true) }
+    ensures write { IsErrOf result.ended (SessionEnd.Session SessionFault.Write)
+        ↔ ((W.failed writer.new ≡ true) × ¬ IsErrOf result.ended SessionEnd.Journal) }
+    ensures flushed { W.flushed writer.old ≡ true → W.failed writer.new ≡ false
+        → W.flushed writer.new ≡ true }
+    ensures same { IsSamePass pass.old pass.new }
+    ensures ends { EndsSession desk.now admission.now result pass.old pass.new
+        (traffic_of (S.left reader.old) (S.left reader.new)
+        (W.taken writer.old) (W.taken writer.new)) }
+{
+    let Ok(mut buffer) = ReplyBuffer::new(alloc) else {
+        return Summary {
+            user: None,
+            lines: 0,
+            moment: None,
+            ended: Err(SessionEnd::Session(SessionFault::NoMemory)),
+        };
+    };
+    let mut tokens = Vec::new(alloc);
+    let mut begun = None;
+    let mut session = Session {
+        rt,
+        alloc,
+        desk,
+        pass,
+        gate,
+        tokens: &mut tokens,
+        buffer: &mut buffer,
+        admission,
+        begun: &mut begun,
+        user: None,
+        over: false,
+        unkept: false,
+        answered: 0,
+        moment: None,
+    };
+    let served = serve(alloc, &mut session, reader, writer);
+    session.summary(served)
+}
+
 /// A session through a pass of the desk: its first line names the user, and each later line is
 /// answered as his. It gives what is told of it.
 ///
 /// A first line that names no user is told its fault, and ends the session. What was answered to
 /// the lines read is handed on before more is read, and at the end. It has `ended` with `Journal`
-/// exactly where the desk withholds the reply to a change: nothing is written for that line, and the
-/// session is over. Else it has ended with `Read` and `Write` exactly where the reader or the writer
-/// has failed, with `Bound` where 2^32 bytes were read and the end had not come, and with `NoMemory`
-/// before the first read.
+/// exactly where the desk withholds the reply to a change: nothing is written for that line, and
+/// the session is over. Else it has ended with `Read` and `Write` exactly where the reader or the
+/// writer has failed, with `Bound` where 2^32 bytes were read and the end had not come, and with
+/// `NoMemory` before the first read.
 pub fn serve_session<K: Keeper + Drop, R: Wait, S: Source, W: Sink, G: Witness>(
     rt: &R,
     alloc: Global,
@@ -202,33 +279,18 @@ pub fn serve_session<K: Keeper + Drop, R: Wait, S: Source, W: Sink, G: Witness>(
     ensures flushed { W.flushed writer.old ≡ true → W.failed writer.new ≡ false
         → W.flushed writer.new ≡ true }
     ensures same { IsSamePass pass.old pass.new }
-    ensures ends { EndsSession desk.now result pass.old pass.new
+    ensures ends { EndsSession desk.now Admission.Anyone result pass.old pass.new
         (traffic_of (S.left reader.old) (S.left reader.new)
         (W.taken writer.old) (W.taken writer.new)) }
 {
-    let Ok(mut buffer) = ReplyBuffer::new(alloc) else {
-        return Summary {
-            user: None,
-            lines: 0,
-            moment: None,
-            ended: Err(SessionEnd::Session(SessionFault::NoMemory)),
-        };
-    };
-    let mut tokens = Vec::new(alloc);
-    let mut session = Session {
+    serve_admitted(
         rt,
         alloc,
         desk,
         pass,
+        &Admission::Anyone,
+        reader,
+        writer,
         gate,
-        tokens: &mut tokens,
-        buffer: &mut buffer,
-        user: None,
-        over: false,
-        unkept: false,
-        answered: 0,
-        moment: None,
-    };
-    let served = serve(alloc, &mut session, reader, writer);
-    session.summary(served)
+    )
 }

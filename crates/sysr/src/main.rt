@@ -1,7 +1,8 @@
 //! `sysr run` answers the lines of standard input on standard output, and `sysr serve` those of
 //! sessions over TCP. `sysr journal` writes the accepted changes of standard input as lines, and
 //! `sysr dump` lines that make what it leaves. `sysr explain` says why somebody holds a right that
-//! these lines make, or how he lost it. `sysr stop` tells a server to stop.
+//! these lines make, or how he lost it. `sysr stop` tells a server to stop, `sysr status` asks how it
+//! fares, and `sysr reload` has it read its file of users anew, for which `sysr verifier` makes a line.
 //!
 //! Each line of `run` is `user: statement`, and what was read is answered before more is read. What
 //! `journal`, `dump` and `explain` read is a journal, or with `--script` what `run` reads. The exit
@@ -21,7 +22,9 @@
 //! that of [`load`](load_core::load), and standard input that of [`replay`](load_core::replay); what
 //! a dump says that of [`write_dump`](dump_core::write_dump); what is explained that of
 //! [`explain`](explain_text::explain); what the command line may say that of
-//! [`options`](command_core::options); and what the threads of a server do to its core that of
+//! [`options`](command_core::options); what stands for a password that of
+//! [`verifier`](program_core::verifier); who speaks in a session of a server that of
+//! [`serve`](program_core::serve); and what the threads of a server do to its core that of
 //! [`serve_on`](serving_core::serve_on). [`program_core`] joins them with files and streams, and this
 //! crate joins its commands with the words of the process.
 #![tactic(auto)]
@@ -30,7 +33,7 @@ ghost use Rattle.command_core.specs.Ranges.{IsInRange};
 
 use command_core::{CommandLine, Reading, options, refuse};
 use lines_core::{NO_MEMORY, give_up};
-use program_core::{dump, explained, journal, run, serve, status, stop};
+use program_core::{dump, explained, journal, reload, run, serve, status, stop, verifier};
 use run_core::{fill_closed_streams, input, output};
 use std::mem::forget;
 use std::process::ExitCode;
@@ -65,12 +68,16 @@ where
             journal(host, &mut input(host), &mut output(host)?, reading)
         }
         CommandLine::Dump { load, reading } => dumped(host, load, reading),
-        CommandLine::Serve(asked) => {
-            let (ended, _) = serve(host, rt, asked)?;
+        CommandLine::Serve(asked, sockets) => {
+            let (ended, _) = serve(host, rt, asked, sockets.as_slice())?;
             Ok(ended.into_status())
+        }
+        CommandLine::Verifier { user } => {
+            verifier(host, &mut input(host), &mut output(host)?, user)
         }
         CommandLine::Stop { control } => Ok(stop(host, control)),
         CommandLine::Status { control, form } => Ok(status(host, control, form)),
+        CommandLine::Reload { control } => Ok(reload(host, control)),
         CommandLine::Explain(asked) => explained(host, asked),
     }
 }

@@ -1,6 +1,6 @@
 use Rattle.std.proofs.Common.{◌≡◌, Some, ◌∙◌, refl, sym, subst}
-use Rattle.server_core.specs.Sessions.{Working, Attended, nobody, another}
-use Rattle.server_core.proofs.SamePass.{attends_same}
+use Rattle.server_core.specs.Sessions.{Working, nobody}
+use Rattle.server_core.proofs.SamePass.{attends_same, attended_more}
 use Rattle.server_core.proofs.worker.work.Goals as goal
 
 pub loop-init : goal.loop-init
@@ -12,12 +12,30 @@ loop-init g c = record {
 
 pub loop-preserved : goal.loop-preserved
 loop-preserved g c =
-    let same = attends_same c.args.desk.now c.attend-summary.result c.loop.pass c.attend-summary.new.pass c.attend-summary.ensures in
+    let by = c.args.service.now.entrance.now in
+    let desk = c.args.desk.now in
+    let summary = c.attend-summary.result in
+    let pass = c.attend-summary.new.pass in
+    let old : Working g.row.K.Denot = record { pass = c.worker.inside.pass; sessions = c.worker.inside.token.amount } in
     let between : Working g.row.K.Denot = record { pass = c.loop.pass; sessions = c.loop.token.amount } in
+    let same = attends_same by desk summary c.loop.pass pass c.attend-summary.ensures in
     record {
       own = same.0 ∙ c.loop.invariant.own;
       part = c.admit.ensures.parts ∙ c.loop.invariant.part;
-      served = subst (λ n. Attended c.args.desk.now (record { pass = c.worker.inside.pass; sessions = c.worker.inside.token.amount }) (record { pass = c.attend-summary.new.pass; sessions = n }))
-          (sym (c.in-Some-admit.ensures.one refl))
-          (another c.attend-summary.result between c.attend-summary.new.pass c.loop.invariant.served c.attend-summary.ensures);
+      served = attended_more by desk old between summary pass _ (c.in-Some-admit.ensures.one refl) c.loop.invariant.served c.attend-summary.ensures;
+    }
+
+pub loop-preserved-after-summary : goal.loop-preserved-after-summary
+loop-preserved-after-summary g c =
+    let by = c.args.service.now.entrance.now in
+    let desk = c.args.desk.now in
+    let summary = c.attend-summary.result in
+    let pass = c.attend-summary.new.pass in
+    let old : Working g.row.K.Denot = record { pass = c.worker.inside.pass; sessions = c.worker.inside.token.amount } in
+    let between : Working g.row.K.Denot = record { pass = c.loop.pass; sessions = c.loop.token.amount } in
+    let same = attends_same by desk summary c.loop.pass pass c.attend-summary.ensures in
+    record {
+      own = same.0 ∙ c.loop.invariant.own;
+      part = c.admit.ensures.parts ∙ c.loop.invariant.part;
+      served = attended_more by desk old between summary pass _ (c.in-Some-admit.ensures.one refl) c.loop.invariant.served c.attend-summary.ensures;
     }

@@ -8,5 +8,5 @@ abbrev pub invariant-loop : goal.invariant-loop
 invariant-loop g l = record {
   own : l.pass.lock ≡ Some l.desk;
   part : l.token.parts ≡ 1;
-  served : Attended l.desk (record { pass = l.initial.pass; sessions = l.initial.token.amount }) (record { pass = l.pass; sessions = l.token.amount });
+  served : Attended l.service.entrance.now l.desk (record { pass = l.initial.pass; sessions = l.initial.token.amount }) (record { pass = l.pass; sessions = l.token.amount });
 }

@@ -10,7 +10,7 @@ use Rattle.load_core.specs.Loading.{without_pass}
 use Rattle.serving_core.proofs.laws.gone_on_server_is_kept.Goals as goal
 
 pub returns : goal.returns
-returns g c = λ workers sessions start world old begun keeper leaves kept nothing whole loads.
+returns g c = λ by workers sessions start world old begun keeper leaves kept nothing whole loads.
     let taken = g.W.Sink.taken in
     let handed_on = g.W.Sink.handed_on in
     let rest = leaves.begins.0 in

@@ -1,11 +1,11 @@
-use Rattle.std.proofs.Common.{ℕ, List, Option, None, arith, refl, sym, subst}
+use Rattle.std.proofs.Common.{Option, None, arith, refl, sym, subst}
 use Rattle.base_core.specs.declared.value.Moment.{Moment}
 use Rattle.base_core.proofs.Fronts.{write-ok, write-err, write-map, write-text}
 use Rattle.lexer_core.specs.Lexing.{long_line}
 use Rattle.reader_core.specs.Language.{IsReadFault, lexical}
 use Rattle.reply_core.specs.Telling.{TellsReply}
 use Rattle.reply_core.specs.Texts.{unread_text}
-use Rattle.session_core.specs.Session.{AnswersNoted, AnswersUser, faulty, said, unread}
+use Rattle.session_core.specs.Session.{AnswersUser, faulty, said, unread}
 use Rattle.session_core.proofs.Telling.{told_ok, told_err}
 use Rattle.session_core.proofs.line.serve_line.Goals as goal
 

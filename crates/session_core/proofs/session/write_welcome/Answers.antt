@@ -3,7 +3,7 @@ use Rattle.std.specs.Prelude.{codes}
 use Rattle.std.specs.Io.KnownBytes.{Appends}
 use Rattle.base_core.specs.Streams.{WritesFront}
 use Rattle.base_core.proofs.Fronts.{front-first, front-second, text-broken, text-then}
-use Rattle.session_core.specs.Session.{welcome_text}
+use Rattle.session_core.specs.Admission.{welcome_text}
 use Rattle.session_core.proofs.session.write_welcome.Goals as goal
 
 pub returns-in_err-write_all : goal.returns-in_err-write_all

@@ -1,6 +1,7 @@
-use Rattle.std.proofs.Common.{rules, ◌≡◌, ◌+◌, subst, sym}
+use Rattle.std.proofs.Common.{rules, ◌+◌, subst, sym}
 use Rattle.std.specs.Prelude.{All}
 use Rattle.server_core.specs.Sessions.{IsCheckpointers}
+use Rattle.serving_core.specs.Promises.{IsOfServer}
 use denote.Param.{param}
 use denote.Param.Send.{sendable, param_send, arg_send}
 use Rattle.std.proofs.Crossing.{crosses}
@@ -45,8 +46,8 @@ loop-worker-preserved-after-spawn_with-2-2 g c =
     let step = c.in-Some.ensures.steps in (
       (λ k d below. let h = was.0 (k + 1) d in grind rules),
       elim c.match-spawn_with-2.branch [
-        | in-Ok-spawn_with-2 w ↦ subst (λ z. All (λ p. (p.promise.0.now ≡ c.captures.desk.now) × (p.promise.1.now ≡ c.captures.begun.now)) z.items) (sym w.threads-is) w.keep.ensures
-        | in-Err w ↦ subst (λ z. All (λ p. (p.promise.0.now ≡ c.captures.desk.now) × (p.promise.1.now ≡ c.captures.begun.now)) z.items) (sym w.threads-is) was.1
+        | in-Ok-spawn_with-2 w ↦ subst (λ z. All (λ p. IsOfServer c.captures.desk.now c.captures.begun.now c.captures.service.now.entrance.now p.promise) z.items) (sym w.threads-is) w.keep.ensures
+        | in-Err w ↦ subst (λ z. All (λ p. IsOfServer c.captures.desk.now c.captures.begun.now c.captures.service.now.entrance.now p.promise) z.items) (sym w.threads-is) was.1
       ],
     )
 
@@ -56,8 +57,8 @@ loop-worker-preserved g c =
     let step = c.in-Some.ensures.steps in (
       (λ k d below. let h = was.0 (k + 1) d in grind rules),
       elim c.match-spawn_with-2.branch [
-        | in-Ok-spawn_with-2 w ↦ subst (λ z. All (λ p. (p.promise.0.now ≡ c.captures.desk.now) × (p.promise.1.now ≡ c.captures.begun.now)) z.items) (sym w.threads-is) w.keep.ensures
-        | in-Err w ↦ subst (λ z. All (λ p. (p.promise.0.now ≡ c.captures.desk.now) × (p.promise.1.now ≡ c.captures.begun.now)) z.items) (sym w.threads-is) was.1
+        | in-Ok-spawn_with-2 w ↦ subst (λ z. All (λ p. IsOfServer c.captures.desk.now c.captures.begun.now c.captures.service.now.entrance.now p.promise) z.items) (sym w.threads-is) w.keep.ensures
+        | in-Err w ↦ subst (λ z. All (λ p. IsOfServer c.captures.desk.now c.captures.begun.now c.captures.service.now.entrance.now p.promise) z.items) (sym w.threads-is) was.1
       ],
     )
 

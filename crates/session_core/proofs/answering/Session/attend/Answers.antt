@@ -1,11 +1,11 @@
-use Rattle.std.proofs.Common.{ℕ, List, Option, [], true, subst, sym}
+use Rattle.std.proofs.Common.{ℕ, Option, [], true, subst, sym}
 use Rattle.std.proofs.KnownBytes.{Appends-nil}
 use Rattle.std.specs.Io.KnownBytes.{Appends}
 use Rattle.base_core.specs.declared.value.Moment.{Moment}
 use Rattle.base_core.proofs.Fronts.{Writes-map, WritesFrontOf-map, write-broken}
-use Rattle.session_core.specs.Session.{AnswersSession, progress, served, withheld}
+use Rattle.session_core.specs.Session.{AnswersSession, progress_of, served, withheld}
 use Rattle.session_core.proofs.Telling.{ok_holds, err_holds}
-use Rattle.session_core.proofs.session.Session.attend.Goals as goal
+use Rattle.session_core.proofs.answering.Session.attend.Goals as goal
 
 pub returns-in_err-told-clause-text : goal.returns-in_err-told-clause-text
 returns-in_err-told-clause-text g c =
@@ -13,7 +13,7 @@ returns-in_err-told-clause-text g c =
     write-broken g.W.Sink.failed g.W.Sink.taken _ _ _ c.from_residual.result c.from_residual.ensures.0 (
       c.in_err-told.ensures.failed,
       WritesFrontOf-map _ _ _ _ (λ text says.
-          subst (λ (z : ℕ × Option Moment). AnswersSession s.desk.now (progress s.user s.over s.unkept s.answered s.moment s.pass.now) c.args.line.now text (progress s.user s.over s.unkept z.0 z.1 c.serve_line.new.pass))
+          subst (λ (z : ℕ × Option Moment). AnswersSession s.desk.now (progress_of s) c.args.line.now text (record (progress_of s) { answered = z.0; moment = z.1; pass = c.serve_line.new.pass }))
           (λ i. (sym c.saturating_add-self.ensures i, sym says.2 i))
           (served {at = says.0} c.args.user c.requires.later.0 c.requires.later.1 says.1)) c.in_err-told.ensures.err,
     )
@@ -23,7 +23,7 @@ returns-in_default-clause-text g c =
     let s = c.args.self.now in (
       c.in_ok-told.ensures.failed,
       Writes-map _ _ _ _ (λ text says.
-          subst (λ (z : ℕ × Option Moment). AnswersSession s.desk.now (progress s.user s.over s.unkept s.answered s.moment s.pass.now) c.args.line.now text (progress s.user s.over s.unkept z.0 z.1 c.serve_line.new.pass))
+          subst (λ (z : ℕ × Option Moment). AnswersSession s.desk.now (progress_of s) c.args.line.now text (record (progress_of s) { answered = z.0; moment = z.1; pass = c.serve_line.new.pass }))
           (λ i. (sym c.saturating_add-self.ensures i, sym says.2 i))
           (served {at = says.0} c.args.user c.requires.later.0 c.requires.later.1 says.1)) (ok_holds _ c.in_ok-told.told c.in_default.field-0 c.in_default.is c.in_ok-told.ensures.ok),
     )
@@ -36,7 +36,7 @@ returns-in-Err-clause-text g c =
       c.in_ok-told.ensures.failed,
       record {
         text = [];
-        is = subst (λ (z : ℕ × Option Moment). AnswersSession s.desk.now (progress s.user s.over s.unkept s.answered s.moment s.pass.now) c.args.line.now [] (progress s.user true true z.0 z.1 c.serve_line.new.pass))
+        is = subst (λ (z : ℕ × Option Moment). AnswersSession s.desk.now (progress_of s) c.args.line.now [] (record (progress_of s) { over = true; unkept = true; answered = z.0; moment = z.1; pass = c.serve_line.new.pass }))
             (λ i. (sym c.saturating_add-self.ensures i, sym same i))
             (withheld c.args.user c.requires.later.0 c.requires.later.1 h.1);
         wrote = subst (λ w. Appends (g.W.Sink.taken c.args.writer.now) (g.W.Sink.taken w) []) (sym h.0) (Appends-nil _);

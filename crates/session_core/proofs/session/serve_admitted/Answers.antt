@@ -5,17 +5,17 @@ use Rattle.lines_core.specs.Serving.{traffic_of}
 use Rattle.lines_core.specs.declared.serving.SessionFault.TheVariants as session_faults
 use Rattle.session_core.specs.declared.session_end.SessionEnd.TheVariants as session_ends
 use Rattle.session_core.specs.declared.summary.Summary.{Summary}
-use Rattle.session_core.specs.Session.{GainsOf, progress, EndsBy}
+use Rattle.session_core.specs.Session.{GainsOf, progress_of, EndsBy}
 use Rattle.lines_core.proofs.Over.{over-or-broken}
 use Rattle.session_core.proofs.Ending.{ends-by, ends-read, ends-write}
-use Rattle.session_core.specs.declared.session.Session.{Session}
+use Rattle.session_core.specs.declared.answering.Session.{Session}
 use Rattle.session_core.proofs.Sessions.{session_ends, same_pass}
-use Rattle.session_core.proofs.session.serve_session.Goals as goal
+use Rattle.session_core.proofs.session.serve_admitted.Goals as goal
 
 pub returns-clause-same : goal.returns-clause-same
 returns-clause-same g c =
     let X = Session g.row.K.Denot g.row.R.Denot g.row.G.Denot in
-    let e = session_ends {X = X} (λ s. s.user) (λ s. s.over) (λ s. s.unkept) (λ s. s.answered) (λ s. s.moment) (λ s. s.pass.now) (λ s. s.pass.ghost_name) (λ s. s.desk) (λ d. d.now) c.serve-served.result _ c.serve-served.new.server _ refl refl refl refl refl c.serve-served.ensures.ends in
+    let e = session_ends {X = X} progress_of (λ s. s.pass.ghost_name) (λ s. s.desk) (λ d. d.now) c.args.admission.now c.args.pass.now c.serve-served.result _ c.serve-served.new.server _ refl c.serve-served.ensures.ends in
     let now = c.pass-1.given.1 (sym e.1) in
     subst (λ z. IsSamePass c.args.pass.now z) (sym now) (same_pass _ _ _ e.2)
 
@@ -24,7 +24,7 @@ returns-clause-read g c =
     let X = Session g.row.K.Denot g.row.R.Denot g.row.G.Denot in
     let y = c.serve-served.new.server in
     let served = c.serve-served.result in
-    let e = session_ends {X = X} (λ s. s.user) (λ s. s.over) (λ s. s.unkept) (λ s. s.answered) (λ s. s.moment) (λ s. s.pass.now) (λ s. s.pass.ghost_name) (λ s. s.desk) (λ d. d.now) served _ y _ refl refl refl refl refl c.serve-served.ensures.ends in
+    let e = session_ends {X = X} progress_of (λ s. s.pass.ghost_name) (λ s. s.desk) (λ d. d.now) c.args.admission.now c.args.pass.now served _ y _ refl c.serve-served.ensures.ends in
     let how = λ (unkept : y.unkept ≡ true). over-or-broken served (g.W.Sink.failed c.serve-served.new.writer) false y.over c.serve-served.ensures.write.1 c.serve-served.ensures.not_over refl (e.3 unkept) in
     let same = ends-read y.unkept served how in
     let read = c.serve-served.ensures.read in
@@ -47,12 +47,12 @@ returns-clause-ends g c =
     let X = Session g.row.K.Denot g.row.R.Denot g.row.G.Denot in
     let y = c.serve-served.new.server in
     let served = c.serve-served.result in
-    let e = session_ends {X = X} (λ s. s.user) (λ s. s.over) (λ s. s.unkept) (λ s. s.answered) (λ s. s.moment) (λ s. s.pass.now) (λ s. s.pass.ghost_name) (λ s. s.desk) (λ d. d.now) served _ y _ refl refl refl refl refl c.serve-served.ensures.ends in
+    let e = session_ends {X = X} progress_of (λ s. s.pass.ghost_name) (λ s. s.desk) (λ d. d.now) c.args.admission.now c.args.pass.now served _ y _ refl c.serve-served.ensures.ends in
     let now = c.pass-1.given.1 (sym e.1) in
-    let last = progress y.user y.over y.unkept y.answered y.moment y.pass.now in
+    let last = progress_of y in
     let how = λ (unkept : y.unkept ≡ true). over-or-broken served (g.W.Sink.failed c.serve-served.new.writer) false y.over c.serve-served.ensures.write.1 c.serve-served.ensures.not_over refl (e.3 unkept) in
     let traffic = traffic_of (g.S.Source.left c.args.reader.now) (g.S.Source.left c.serve-served.new.reader) (g.W.Sink.taken c.args.writer.now) (g.W.Sink.taken c.serve-served.new.writer) in
-    let by = ends-by c.args.desk.now last c.args.pass.now c.pass-1.given.0 traffic y.unkept served refl
+    let by = ends-by c.args.desk.now c.args.admission.now last c.args.pass.now c.pass-1.given.0 traffic y.unkept served refl
     (record { ends = e.0; pass_is = sym now; gained = subst (λ z. GainsOf y.user c.args.pass.now z) (sym now) e.2 }) how in
     let told = c.summary.ensures in
     record {
@@ -60,5 +60,5 @@ returns-clause-ends g c =
       user_is = ap (λ (s : Summary). s.user) told;
       lines_are = ap (λ (s : Summary). s.lines) told;
       moment_is = ap (λ (s : Summary). s.moment) told;
-      ends = subst (λ z. EndsBy c.args.desk.now z last c.args.pass.now c.pass-1.given.0 traffic) (sym (ap (λ (s : Summary). s.ended) told)) by;
+      ends = subst (λ z. EndsBy c.args.desk.now c.args.admission.now z last c.args.pass.now c.pass-1.given.0 traffic) (sym (ap (λ (s : Summary). s.ended) told)) by;
     }
