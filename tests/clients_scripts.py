@@ -21,9 +21,10 @@ def started(folder, *more):
     return [sys.executable, "-m", "bavgusen.shell", *more], env
 
 
-def piped(given, *more, folder=tempfile.gettempdir()):
-    """Status, output and error of a shell that is not on a terminal."""
+def piped(given, *more, folder=tempfile.gettempdir(), **told):
+    """Status, output and error of a shell that is not on a terminal, and is told more by its environment."""
     command, env = started(folder, *more)
+    env.update(told)
     given = given if isinstance(given, bytes) else "".join(line + "\n" for line in given).encode()
     done = subprocess.run(command, input=given, env=env, cwd=folder, capture_output=True, timeout=WAIT)
     return done.returncode, done.stdout.decode().splitlines(), done.stderr.decode().splitlines()

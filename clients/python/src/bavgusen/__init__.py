@@ -18,8 +18,8 @@ from typing import Any, Callable, NoReturn
 from .connection import Connection, connect
 from .cursor import Cursor
 from .errors import (ConnectionEnded, DatabaseError, DataError, DeniedError, Error, ExportCut, FaultError,
-    IntegrityError, InterfaceError, InternalError, MisfitError, NotSupportedError, OperationalError, ProgrammingError,
-    ProtocolError, RefusedError, TimedOut, UnavailableError, Warning)
+    IntegrityError, InterfaceError, InternalError, LoginError, MisfitError, NotSupportedError, OperationalError,
+    ProgrammingError, ProtocolError, RefusedError, TimedOut, UnavailableError, Warning)
 from .export import Export, ExportedTable, WithheldTable
 from .literals import KEYWORDS, bind, literal, name
 from .pipeline import Pipeline
@@ -69,8 +69,8 @@ __all__ = [
     "Tables", "tables_of", "KEYWORDS", "bind", "literal", "name",
     "Warning", "Error", "InterfaceError", "DatabaseError", "DataError", "OperationalError", "IntegrityError",
     "InternalError", "ProgrammingError", "NotSupportedError",
-    "ProtocolError", "ConnectionEnded", "TimedOut", "ExportCut", "DeniedError", "RefusedError", "MisfitError",
-    "UnavailableError", "FaultError",
+    "ProtocolError", "ConnectionEnded", "LoginError", "TimedOut", "ExportCut", "DeniedError", "RefusedError",
+    "MisfitError", "UnavailableError", "FaultError",
     "apilevel", "threadsafety", "paramstyle", "STRING", "NUMBER", "BINARY", "DATETIME", "ROWID",
     "Date", "Time", "Timestamp", "DateFromTicks", "TimeFromTicks", "TimestampFromTicks", "Binary",
 ]

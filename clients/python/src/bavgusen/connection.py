@@ -7,12 +7,14 @@ from types import TracebackType
 from typing import TYPE_CHECKING, Any, Iterable, List, Mapping, Optional, Type, Union
 
 from . import errors
-from .errors import ConnectionEnded, FaultError, InterfaceError, NotSupportedError, ProgrammingError, TimedOut
+from .errors import (ConnectionEnded, FaultError, InterfaceError, LoginError, NotSupportedError, ProgrammingError,
+    TimedOut)
 from .export import Export
 from .literals import line_of, name
 from .pipeline import Pipeline, Statement
 from .reading import Asked, Reader
-from .replies import Fault, Reply, Row, Rows
+from .replies import Fault, Refused, Reply, Row, Rows
+from .scram import Login
 from .tables import Columns, Tables, checked
 from .wire import Wire
 
@@ -20,21 +22,30 @@ if TYPE_CHECKING:
     from .cursor import Cursor
 
 _FAULT = re.compile("error ([0-9]+) at ([0-9]+): (.+)")
+_REFUSED = re.compile("refused: (.+)")
+_NO_LOGIN = "login"
 _SELECT = re.compile(r"\s*select\b", re.ASCII | re.IGNORECASE)
 
 
-def connect(host: str, port: int, user: str, *, timeout: Optional[float] = None,
+def connect(host: str, port: int, user: str, *, password: Optional[str] = None, timeout: Optional[float] = None,
         tables: Optional[Mapping[str, Columns]] = None) -> Connection:
     """Begins a session of this user, and waits until the server has welcomed him.
+
+    With `password`, of printable ASCII, it logs in by SCRAM-SHA-256: the password itself is never sent, and the server
+    has to show that it knows this user's verifier. A server with a file of users takes no session without a password,
+    and a server without such a file none with one: either is a `FaultError`, and nothing else is tried.
 
     A server whose workers are all busy lets a session wait. `timeout` is in seconds: how long the connection may take,
     and then each wait until a byte comes or goes; None is for ever. `tables` has columns by table, as
     `Connection.declare` takes them.
 
-    Errors: `ProgrammingError` of what is no name or no port; `ConnectionEnded` where nobody listens or the session is
-    ended at once; `TimedOut`; `ProtocolError` where something else than this server answers.
+    Errors: `ProgrammingError` of what is no name, no port or no password; `ConnectionEnded` where nobody listens or the
+    session is ended at once; `LoginError` where the login is refused, which is told a second later, or where the server
+    has not shown that it knows the user; `UnavailableError` where it has no memory for the session; `TimedOut`;
+    `ProtocolError` where something else than this server answers.
     """
     user, known = name(user), Tables()
+    login = None if password is None else Login(password)
     for table, columns in (tables or {}).items():
         known.declare(table, columns)
     if not isinstance(port, int) or not 1 <= port <= 65535:
@@ -48,14 +59,39 @@ def connect(host: str, port: int, user: str, *, timeout: Optional[float] = None,
     link.setsockopt(socket.IPPROTO_TCP, socket.TCP_NODELAY, 1)
     wire = Wire(link, timeout)
     with wire.whole:
-        wire.put(f"USER {user}")
-        welcome = wire.line()
+        if login is None:
+            wire.put(f"USER {user}")
+            welcome = _told(wire, f"USER {user}")
+        else:
+            welcome = _logged_in(wire, user, login)
         if welcome != f"welcome {user}":
-            refused = _FAULT.fullmatch(welcome)
-            if refused:
-                raise FaultError(Fault(int(refused[1]), int(refused[2]), refused[3], f"USER {user}"))
             raise wire.garbled(welcome)
     return Connection(wire, user, known)
+
+
+def _told(wire: Wire, said: str) -> str:
+    """The next line, before the first statement. One that says that there is no session is raised, with what was said.
+    """
+    told = wire.line()
+    fault, refused = _FAULT.fullmatch(told), _REFUSED.fullmatch(told)
+    if fault:
+        raise FaultError(Fault(int(fault[1]), int(fault[2]), fault[3], said))
+    if refused and refused[1] == _NO_LOGIN:
+        raise LoginError("the server refused the login: no such user, or another password")
+    if refused:
+        raise Refused(None, refused[1], said).error()
+    return told
+
+
+def _logged_in(wire: Wire, user: str, login: Login) -> str:
+    """What is said behind a login, once the server has shown that it knows the user."""
+    # (an error shows no more of what was said than this)
+    said = f"LOGIN {user}"
+    wire.put(f"{said} {login.first}")
+    wire.put(login.last(_told(wire, said)))
+    if not login.is_signed(_told(wire, said)):
+        raise LoginError("the server has not shown that it knows this user: it may be another that answers there")
+    return _told(wire, said)
 
 
 class Connection:

@@ -8,6 +8,7 @@
           MisfitError       refused: a value does not fit the table (also a RefusedError)
         OperationalError
           ConnectionEnded   the server ended the session, or could not be reached
+          LoginError        the login was refused, or the server has not shown that it knows the user
           TimedOut          the server said nothing, or took nothing, for too long (also a TimeoutError)
           ExportCut         the server had no memory for the rest of an export
           UnavailableError  refused: something is full, busy, worn, or out of memory (also a RefusedError)
@@ -55,6 +56,10 @@ class DataError(DatabaseError):
 
 class OperationalError(DatabaseError):
     """The server could not, whatever was asked: it ended, was out of memory, or something was full."""
+
+
+class LoginError(OperationalError):
+    """The login was refused, or the server has not shown that it knows the user. The connection is closed."""
 
 
 class ConnectionEnded(OperationalError):

@@ -27,6 +27,7 @@ class Interactive:
     """Reads statements and commands from a person, and shows what is answered."""
 
     def __init__(self, session: Session, program: str, form: Form) -> None:
+        session.waiting = patience
         self._talk = Talk(session, form, sys.stdout, is_script=False)
         self._statements = Statements()
         self._script = Script(self._talk, program, stops=None)
@@ -34,7 +35,7 @@ class Interactive:
 
     def run(self) -> int:
         """Until Ctrl-D or `\\q`. It gives the status: 0, or 2 if the session could not be begun."""
-        if not self._attempt(self._begin):
+        if not self._attempt(self._talk.session.begin):
             return NO_SESSION
         self._talk.tell("sysr-shell: type \\? for help, \\q to end; a statement ends with ;")
         while not self._commands.is_over:
@@ -54,16 +55,6 @@ class Interactive:
         """What a word may go on to be."""
         session = self._talk.session
         return candidates(word, before, self._commands.words, session.tables, session.seen)
-
-    def _begin(self) -> None:
-        """Begins the session, and says so if that takes long: a server whose workers are all busy lets it wait."""
-        late = threading.Timer(PATIENCE, complain, ["waiting for a worker of the server; Ctrl-C gives up"])
-        late.daemon = True
-        late.start()
-        try:
-            self._talk.session.begin()
-        finally:
-            late.cancel()
 
     def _prompt(self) -> str:
         return self._talk.session.place.user + ("-> " if self._statements.is_open else "=> ")
@@ -105,6 +96,18 @@ class Interactive:
         if was_open and not self._talk.session.is_open:
             print(ENDED)
         return is_done
+
+
+@contextlib.contextmanager
+def patience() -> Iterator[None]:
+    """Says so where a connection takes long: a server whose workers are all busy lets a session wait."""
+    late = threading.Timer(PATIENCE, complain, ["waiting for a worker of the server; Ctrl-C gives up"])
+    late.daemon = True
+    late.start()
+    try:
+        yield
+    finally:
+        late.cancel()
 
 
 @contextlib.contextmanager

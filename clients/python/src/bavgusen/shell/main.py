@@ -6,10 +6,12 @@ import contextlib
 import getpass
 import io
 import os
+import stat
 import sys
+import warnings
 from typing import NamedTuple, Optional, Sequence
 
-from ..errors import Error, ProgrammingError
+from ..errors import Error, LoginError, ProgrammingError
 from ..literals import name
 from .forms import CSV, RAW, TABLES
 from .interactive import Interactive, editing
@@ -35,7 +37,9 @@ class Task(NamedTuple):
 def main(words: Optional[Sequence[str]] = None) -> int:
     """Runs the shell, and gives its status: see `STATUSES`."""
     asked = _arguments().parse_args(words)
-    session = Session(Place(asked.host, asked.port, asked.user, asked.journal))
+    password = asked.password if asked.password is not None else os.environ.get("SYSR_PASSWORD") or None
+    place = Place(asked.host, asked.port, asked.user, asked.journal, password)
+    session = Session(place, _typed_password if sys.stdin.isatty() else None)
     try:
         if not asked.tasks and sys.stdin.isatty() and sys.stdout.isatty():
             return _on_terminal(Interactive(session, asked.sysr, asked.form), os.path.expanduser(asked.history))
@@ -96,7 +100,11 @@ def _arguments() -> argparse.ArgumentParser:
     add = words.add_argument
     add("-h", "--host", default="127.0.0.1", help="where the server listens; 127.0.0.1 if it is not given")
     add("-p", "--port", type=_port, default=7878, help="its port; 7878 if it is not given")
-    add("-U", "--user", type=_user, default=_login(), help="whose session it is; your login if it is not given")
+    add("-U", "--user", type=_user, default=_own_name(),
+        help="whose session it is; who you are on this machine if it is not given")
+    add("--password-file", dest="password", type=_password, metavar="FILE",
+        help="the user's password is its first line, and nobody else may read or write it (mode 600); if it is not "
+        "given, the password is what SYSR_PASSWORD says, or on a terminal you are asked, where the server wants one")
     add("-c", "--command", dest="tasks", action="append", default=[], type=Task, metavar="STATEMENTS",
         help="carry these out and end, with status 1 at the first that is not carried out; it may be given again")
     add("-f", "--file", dest="tasks", action="append", type=lambda path: Task(None, path), metavar="FILE",
@@ -126,8 +134,32 @@ def _user(text: str) -> str:
         raise argparse.ArgumentTypeError(str(error)) from None
 
 
-def _login() -> str:
-    """The login of this user; where it is no name of the language, argparse says so."""
+def _password(path: str) -> str:
+    """The first line of a file that its owner alone may read and write."""
+    try:
+        with open(path, encoding="utf-8") as file:
+            mode = stat.S_IMODE(os.fstat(file.fileno()).st_mode)
+            if mode & 0o077:
+                raise argparse.ArgumentTypeError(f"{path}: others may reach it (mode {mode:03o}): chmod 600")
+            return file.readline().rstrip("\n")
+    except UnicodeDecodeError:
+        raise argparse.ArgumentTypeError(f"{path}: a password is of printable ASCII") from None
+    except OSError as error:
+        raise argparse.ArgumentTypeError(f"{path}: {error.strerror}") from None
+
+
+def _typed_password(user: str) -> str:
+    """The password of a user, who is asked for it on the terminal, which does not show it."""
+    try:
+        with warnings.catch_warnings():
+            warnings.simplefilter("error", getpass.GetPassWarning)
+            return getpass.getpass(f"Password of {user}: ")
+    except (EOFError, UnicodeError, getpass.GetPassWarning):
+        raise LoginError("no password was typed") from None
+
+
+def _own_name() -> str:
+    """Who has started the shell; where it is no name of the language, argparse says so."""
     with contextlib.suppress(Exception):
         return getpass.getuser()
     return ""

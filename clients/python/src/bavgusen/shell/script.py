@@ -3,7 +3,7 @@ from __future__ import annotations
 
 from typing import Callable, Iterable, Optional
 
-from ..errors import ConnectionEnded, Error, ProtocolError, TimedOut
+from ..errors import ConnectionEnded, Error, LoginError, ProtocolError, TimedOut
 from ..replies import Fault, Reply
 from .commands import CommandError, Commands
 from .talk import Talk, complain, failure
@@ -74,7 +74,7 @@ class Script:
         """Does what stands in this line, and says what goes wrong."""
         try:
             work()
-        except (ConnectionEnded, TimedOut, ProtocolError) as error:
+        except (ConnectionEnded, LoginError, TimedOut, ProtocolError) as error:
             complain(error)
             raise Stopped(NO_SESSION) from error
         except (Error, CommandError) as error:

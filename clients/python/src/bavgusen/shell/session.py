@@ -2,36 +2,43 @@
 from __future__ import annotations
 
 import contextlib
-from dataclasses import dataclass, replace
-from typing import Dict, Iterator, List, Optional
+from dataclasses import dataclass, field, replace
+from typing import Callable, ContextManager, Dict, Iterator, List, Optional
 
 from ..connection import Connection, connect
-from ..errors import Error
+from ..errors import Error, FaultError, LoginError
 from ..literals import line_of
 from ..replies import Done, Reply
-from ..tables import Creation, Tables, created, creations, selected
+from ..tables import Columns, Creation, Tables, created, creations, selected
 from .words import Seen
+
+Ask = Callable[[str], str]
+Waiting = Callable[[], ContextManager[object]]
 
 
 @dataclass(frozen=True)
 class Place:
-    """Where and as whom a session is begun, and the journal of its server, if it is at hand."""
+    """Where and as whom a session is begun, with the password if there is one, and the journal of its server, if it is
+    at hand.
+    """
 
     host: str
     port: int
     user: str
     journal: Optional[str] = None
+    password: Optional[str] = field(default=None, repr=False)
 
 
 class Session:
     """A session at a place. One that was ended is begun anew by the next statement.
 
     Behind that it may be another server's, so nothing is known of tables but what the journal says. `owners` has the
-    owners of tables, as far as they are known.
+    owners of tables, as far as they are known. `ask` gives the password of a user where the server wants one and none
+    was given, and `waiting` is what each connection is begun within: both are for who has a terminal.
     """
 
-    def __init__(self, place: Place) -> None:
-        self.place = place
+    def __init__(self, place: Place, ask: Optional[Ask] = None, waiting: Waiting = contextlib.nullcontext) -> None:
+        self.place, self.ask, self.waiting = place, ask, waiting
         self.seen = Seen()
         self.owners: Dict[str, str] = {}
         self._connection: Optional[Connection] = None
@@ -42,9 +49,9 @@ class Session:
         Errors: those of `connect`, and `OSError` of the journal.
         """
         if self._connection is None or not self.is_open:
-            place, made = self.place, self._journal()
+            made = self._journal()
             known = {each.table: each.columns for each in made}
-            self._connection = connect(place.host, place.port, place.user, tables=known)
+            self._connection = self._connected(known)
             self.owners = {each.table: each.owner for each in made}
             self.seen = Seen()
         return self._connection
@@ -57,7 +64,8 @@ class Session:
         """
         known, owners, seen = (dict(self.tables), self.owners, self.seen) if self._answers() else ({}, {}, Seen())
         self.end()
-        other = Session(replace(self.place, user=user))
+        password = self.place.password if user == self.place.user else None
+        other = Session(replace(self.place, user=user, password=password), self.ask, self.waiting)
         connection = other.begin()
         for table in {*known} - {*connection.tables}:
             connection.declare(table, known[table])
@@ -105,6 +113,25 @@ class Session:
         if self._connection is not None:
             with contextlib.suppress(Error):
                 self._connection.close()
+
+    def _connected(self, known: Dict[str, Columns]) -> Connection:
+        """A connection; its password is asked for where the server wants one and none was given, and then kept."""
+        try:
+            return self._connect(self.place, known)
+        except FaultError as fault:
+            if self.place.password is not None:
+                raise LoginError("the server takes no logins: leave the password out") from fault
+            if self.ask is None:
+                raise LoginError(f"the server asks for the password of {self.place.user}: give --password-file, or set "
+                    "SYSR_PASSWORD") from fault
+        asked = replace(self.place, password=self.ask(self.place.user))
+        connection = self._connect(asked, known)
+        self.place = asked
+        return connection
+
+    def _connect(self, place: Place, known: Dict[str, Columns]) -> Connection:
+        with self.waiting():
+            return connect(place.host, place.port, place.user, password=place.password, tables=known)
 
     def _answers(self) -> bool:
         """Whether the session is one of a server that still runs."""
