@@ -1,5 +1,5 @@
 -- A server's answers seen as those of another, while something holds of it.
-use Rattle.std.proofs.Common.{◌≡◌, ℕ, Bool, List, [], ◌∷◌, Option, sym, ap, ◌∙◌, subst, inl, inr}
+use Rattle.std.proofs.Common.{◌≡◌, ℕ, Bool, List, [], ◌∷◌, sym, ap, ◌∙◌, subst, inl, inr}
 use Rattle.std.specs.Prelude.{Result, Ok, Err}
 use Rattle.std.specs.Str.Lines.{lines}
 use Rattle.lines_core.specs.Lines.{whole_lines}

@@ -28,26 +28,32 @@ module _ {X : Type 0} (R : X → List ℕ → List ℕ → X → Type 0)
       subst (λ ls. AnswersAll R start ls (text ++ more) new) (sym (map-append strip_carriage_return parts ended))
       (AnswersAll-append R start mid new (map strip_carriage_return parts) (map strip_carriage_return ended) text more p q)
 
-  -- A piece was read and fed.
+  -- A piece was read, and fed behind what is kept.
+  pub Serving-next : (kept line : List ℕ) (start mid new : X) (piece : List ℕ) (unread : ℕ) (left0 left1 left2 taken0 taken1 taken2 : Option (List ℕ))
+      → (s : HasServed R kept start mid unread (traffic_of left0 left1 taken0 taken1)) → Consumes left1 left2 piece → length piece ≤ unread
+      → AnswersPiece R s.fed.now piece line mid new taken1 taken2
+      → HasServed R line start new (unread - length piece) (traffic_of left0 left2 taken0 taken2)
+  Serving-next kept line start mid new piece unread left0 left1 left2 taken0 taken1 taken2 s read fits next = record {
+    bytes = s.bytes ++ piece;
+    count = omega (arith, length-append s.bytes piece, s.count);
+    read = Consumes-trans left0 left1 left2 s.bytes piece s.read read;
+    fed = record {
+      parts = s.fed.parts ++ next.parts;
+      now = next.now;
+      text = s.fed.text ++ next.text;
+      cut = Cut-append s.bytes piece s.fed.parts next.parts s.fed.now next.now s.fed.cut next.cut;
+      kept_is = next.kept_is;
+      answered = answers-parts start mid new s.fed.text next.text s.fed.parts next.parts s.fed.answered next.answered;
+      wrote = Appends-trans taken0 taken1 taken2 s.fed.text next.text s.fed.wrote next.wrote;
+    };
+  }
+
   pub Serving-more : (kept line : List ℕ) (start mid new : X) (piece : List ℕ) (unread : ℕ) (left0 left1 left2 taken0 taken1 taken2 : Option (List ℕ))
       → HasServed R kept start mid unread (traffic_of left0 left1 taken0 taken1) → Consumes left1 left2 piece → length piece ≤ unread
       → ((rest : List ℕ) → NoFeed rest → kept ≡ take KEPT_BYTES rest → AnswersPiece R rest piece line mid new taken1 taken2)
       → HasServed R line start new (unread - length piece) (traffic_of left0 left2 taken0 taken2)
   Serving-more kept line start mid new piece unread left0 left1 left2 taken0 taken1 taken2 s read fits feeds =
-      let next = feeds s.fed.now s.fed.cut.open_rest s.fed.kept_is in record {
-        bytes = s.bytes ++ piece;
-        count = omega (arith, length-append s.bytes piece, s.count);
-        read = Consumes-trans left0 left1 left2 s.bytes piece s.read read;
-        fed = record {
-          parts = s.fed.parts ++ next.parts;
-          now = next.now;
-          text = s.fed.text ++ next.text;
-          cut = Cut-append s.bytes piece s.fed.parts next.parts s.fed.now next.now s.fed.cut next.cut;
-          kept_is = next.kept_is;
-          answered = answers-parts start mid new s.fed.text next.text s.fed.parts next.parts s.fed.answered next.answered;
-          wrote = Appends-trans taken0 taken1 taken2 s.fed.text next.text s.fed.wrote next.wrote;
-        };
-      }
+      Serving-next kept line start mid new piece unread left0 left1 left2 taken0 taken1 taken2 s read fits (feeds s.fed.now s.fed.cut.open_rest s.fed.kept_is)
 
   -- The end of the input, at which no byte was read.
   pub Serving-end : (kept : List ℕ) (start world : X) (unread : ℕ) (left0 left1 left2 taken0 taken1 : Option (List ℕ))
@@ -152,12 +158,11 @@ module _ {X : Type 0} (R : X → List ℕ → List ℕ → X → Type 0)
   }
 
   -- The writer failed at a line of the piece.
-  pub BrokenRun-piece : (kept : List ℕ) (start mid new : X) (piece : List ℕ) (unread : ℕ) (left0 left1 left2 taken0 taken1 taken2 : Option (List ℕ))
+  pub BrokenRun-next : (kept : List ℕ) (start mid new : X) (piece : List ℕ) (unread : ℕ) (left0 left1 left2 taken0 taken1 taken2 : Option (List ℕ))
       → (s : HasServed R kept start mid unread (traffic_of left0 left1 taken0 taken1)) → Consumes left1 left2 piece
-      → ((rest : List ℕ) → NoFeed rest → kept ≡ take KEPT_BYTES rest → BreaksPiece R rest piece mid new taken1 taken2)
+      → BreaksPiece R s.fed.now piece mid new taken1 taken2
       → BreaksInput R start new (traffic_of left0 left2 taken0 taken2)
-  BrokenRun-piece kept start mid new piece unread left0 left1 left2 taken0 taken1 taken2 s read breaks =
-      let broken = breaks s.fed.now s.fed.cut.open_rest s.fed.kept_is in
+  BrokenRun-next kept start mid new piece unread left0 left1 left2 taken0 taken1 taken2 s read broken =
       let cut = Cut-append s.bytes broken.done s.fed.parts broken.parts s.fed.now [] s.fed.cut broken.cut in
       let says = lines-Cut (s.bytes ++ broken.done) (s.fed.parts ++ broken.parts) [] cut ∙ append-nil (map strip_carriage_return (s.fed.parts ++ broken.parts)) in record {
         done = s.bytes ++ broken.done;
@@ -170,3 +175,10 @@ module _ {X : Type 0} (R : X → List ℕ → List ℕ → X → Type 0)
             (Consumes-trans left0 left1 left2 s.bytes piece s.read read);
         wrote = front-second taken0 taken1 taken2 s.fed.text broken.text s.fed.wrote broken.wrote;
       }
+
+  pub BrokenRun-piece : (kept : List ℕ) (start mid new : X) (piece : List ℕ) (unread : ℕ) (left0 left1 left2 taken0 taken1 taken2 : Option (List ℕ))
+      → (s : HasServed R kept start mid unread (traffic_of left0 left1 taken0 taken1)) → Consumes left1 left2 piece
+      → ((rest : List ℕ) → NoFeed rest → kept ≡ take KEPT_BYTES rest → BreaksPiece R rest piece mid new taken1 taken2)
+      → BreaksInput R start new (traffic_of left0 left2 taken0 taken2)
+  BrokenRun-piece kept start mid new piece unread left0 left1 left2 taken0 taken1 taken2 s read breaks =
+      BrokenRun-next kept start mid new piece unread left0 left1 left2 taken0 taken1 taken2 s read (breaks s.fed.now s.fed.cut.open_rest s.fed.kept_is)

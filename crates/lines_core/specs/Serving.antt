@@ -189,17 +189,17 @@ pub record HasServed {X : Type 0} (answers : X → List ℕ → List ℕ → X �
   pub read : Consumes traffic.left traffic.left' bytes
   pub fed : AnswersPiece answers [] bytes kept old new traffic.taken traffic.taken'
 
--- where it stopped: at the end of the input, before which it was not over; or where it was over
+-- where it stopped, with so many bytes that may still come: at the end of the input, before which it was
+-- not over; or where it was over
 abbrev pub EndsReading : {X : Type 0} → (X → List ℕ → List ℕ → X → Type 0) → (X → Bool)
-    → Result Stop SessionFault → List ℕ → X → X
+    → Result Stop SessionFault → List ℕ → ℕ → X → X
     → Traffic → Type 0
-EndsReading answers over (Ok stops.AtEnd) kept old new traffic =
-    (unread : ℕ)
-    × HasServed answers kept old new unread traffic
+EndsReading answers over (Ok stops.AtEnd) kept unread old new traffic =
+    HasServed answers kept old new unread traffic
     × IsAtEnd traffic.left'
     × (over old ≡ false → over new ≡ false)
-EndsReading answers over (Ok stops.Over) kept old new traffic =
+EndsReading answers over (Ok stops.Over) kept unread old new traffic =
     (bytes : List ℕ)
     × AnswersInput answers whole_lines old new traffic bytes × (over new ≡ true)
-EndsReading answers over (Err fault) kept old new traffic =
+EndsReading answers over (Err fault) kept unread old new traffic =
     Ends answers over (Err fault) old new traffic

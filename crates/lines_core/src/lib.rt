@@ -37,11 +37,13 @@
 #![tactic(auto)]
 
 mod ending;
+mod feeding;
 mod line;
 mod serving;
 mod steady;
 
 pub use ending::{NO_MEMORY, audit_end, fault_name, fault_text, give_up};
+pub use feeding::Feeding;
 pub use line::LONGEST_LINE;
 pub use serving::{
     Ending, LineServer, MOST_BYTES, SessionFault, WholeEnding, serve, serve_told, serve_whole,

@@ -5,8 +5,10 @@ ghost use Rattle.std.specs.Str.Lines.{strip_carriage_return};
 ghost use Rattle.base_core.specs.Streams.{Writes, WritesFrontOf, MayWrite};
 ghost use Rattle.lines_core.specs.declared.line.TheConstants.{KEPT_BYTES, LONGEST_LINE};
 ghost use Rattle.lines_core.specs.Lines.{NoFeed};
+ghost use Rattle.lines_core.specs.Feeding.{unfed};
 ghost use Rattle.lines_core.specs.Serving.{AnswersPiece, BreaksPiece, EndsReading, Ends, EndsTold, EndsWhole, ending_at, IsEndingAt, traffic_of};
 
+use crate::feeding::Feeding;
 use crate::line::{Line, without_carriage_return};
 use base_core::{Broken, Sink, Source};
 use memchr::memchr;
@@ -126,7 +128,7 @@ fn answer_line<D: LineServer, W: Sink>(
 }
 
 /// Answers each line that ends in the piece, and keeps the front of what comes after the last.
-fn feed<D: LineServer, W: Sink>(
+pub(crate) fn feed<D: LineServer, W: Sink>(
     server: &mut D,
     line: &mut Line,
     writer: &mut W,
@@ -172,7 +174,11 @@ fn read_up_to<S: Source>(reader: &mut S, buffer: &mut [u8], most: usize) -> Resu
 }
 
 /// Answers the last line, if it has a byte.
-fn finish<D: LineServer, W: Sink>(server: &mut D, line: &Line, writer: &mut W) -> Result<(), Broken>
+pub(crate) fn finish<D: LineServer, W: Sink>(
+    server: &mut D,
+    line: &Line,
+    writer: &mut W,
+) -> Result<(), Broken>
     requires { W.failed writer.old ≡ false }
     ensures failed { MatchResult result (λ _. W.failed writer.new ≡ false)
         (λ _. W.failed writer.new ≡ true) }
@@ -196,7 +202,7 @@ fn finish<D: LineServer, W: Sink>(server: &mut D, line: &Line, writer: &mut W) -
 }
 
 /// How an input ends behind whose last line feed this line has begun.
-fn ending_at(line: &Line) -> Ending
+pub(crate) fn ending_at(line: &Line) -> Ending
     ensures { result ≡ ending_at line.now }
 {
     if line.as_slice().is_empty() {
@@ -206,18 +212,19 @@ fn ending_at(line: &Line) -> Ending
     }
 }
 
-/// Reads to the end and answers each line whose line feed has come, from a line with nothing in it.
-/// What is kept of what stands behind the last line feed is left in the line.
+/// Reads to the end and answers each line whose line feed has come, from before the first piece. What is kept
+/// of what stands behind the last line feed is left.
 fn answer_whole_lines<D: LineServer, S: Source, W: Sink>(
     server: &mut D,
-    line: &mut Line,
+    feeding: &mut Feeding,
     buffer: &mut [u8],
     reader: &mut S,
     writer: &mut W,
 ) -> Result<Stop, SessionFault>
     requires source { S.failed reader.old ≡ false }
     requires sink { W.failed writer.old ≡ false }
-    requires start { (line.old ≡ []) × (0 < length buffer.old) }
+    requires start { feeding.old ≡ unfed }
+    requires room { 0 < length buffer.old }
     ensures read { IsErrOf result SessionFault.Read ↔ (S.failed reader.new ≡ true) }
     ensures write { IsErrOf result SessionFault.Write ↔ (W.failed writer.new ≡ true) }
     ensures memory { IsErrOf result SessionFault.NoMemory → ⊥ }
@@ -225,41 +232,41 @@ fn answer_whole_lines<D: LineServer, S: Source, W: Sink>(
         → OnErr result (D.over server.old ≡ false → D.over server.new ≡ false) }
     ensures flushed { W.flushed writer.old ≡ true → W.failed writer.new ≡ false
         → W.flushed writer.new ≡ true }
-    ensures ends { EndsReading D.answers D.over result line.new server.old server.new
+    ensures ends { EndsReading D.answers D.over result feeding.new.line feeding.new.unread
+        server.old server.new
         (traffic_of (S.left reader.old) (S.left reader.new)
         (W.taken writer.old) (W.taken writer.new)) }
 {
-    let mut unread = MOST_BYTES;
-    while unread > 0 {
-        let most = unread.min(buffer.len() as u64) as usize;
+    while feeding.unread() > 0 {
+        let most = feeding.unread().min(buffer.len() as u64) as usize;
         let Ok(n) = read_up_to(reader, buffer, most) else {
             return Err(SessionFault::Read);
         };
         if n == 0 {
             return Ok(Stop::AtEnd);
         }
-        let Ok(()) = feed(server, line, writer, &buffer[..n]) else {
+        let Ok(()) = feeding.feed(server, writer, &buffer[..n]) else {
             return Err(SessionFault::Write);
         };
         if server.is_over() {
             return Ok(Stop::Over);
         }
-        unread -= n as u64;
     }
     Err(SessionFault::Bound)
 }
 
-/// Reads to the end and answers each line, from a line with nothing in it.
+/// Reads to the end and answers each line, from before the first piece.
 fn serve_lines<D: LineServer, S: Source, W: Sink>(
     server: &mut D,
-    line: &mut Line,
+    feeding: &mut Feeding,
     buffer: &mut [u8],
     reader: &mut S,
     writer: &mut W,
 ) -> Result<Ending, SessionFault>
     requires source { S.failed reader.old ≡ false }
     requires sink { W.failed writer.old ≡ false }
-    requires start { (line.old ≡ []) × (0 < length buffer.old) }
+    requires start { feeding.old ≡ unfed }
+    requires room { 0 < length buffer.old }
     ensures read { IsErrOf result SessionFault.Read ↔ (S.failed reader.new ≡ true) }
     ensures write { IsErrOf result SessionFault.Write ↔ (W.failed writer.new ≡ true) }
     ensures memory { IsErrOf result SessionFault.NoMemory → ⊥ }
@@ -271,10 +278,10 @@ fn serve_lines<D: LineServer, S: Source, W: Sink>(
         (traffic_of (S.left reader.old) (S.left reader.new)
         (W.taken writer.old) (W.taken writer.new)) }
 {
-    match answer_whole_lines(server, line, buffer, reader, writer) {
+    match answer_whole_lines(server, feeding, buffer, reader, writer) {
         Ok(Stop::Over) => Ok(Ending::Over),
-        Ok(Stop::AtEnd) => match finish(server, line, writer) {
-            Ok(()) => Ok(ending_at(line)),
+        Ok(Stop::AtEnd) => match feeding.finish(server, writer) {
+            Ok(ending) => Ok(ending),
             Err(Broken) => Err(SessionFault::Write),
         },
         Err(fault) => Err(fault),
@@ -354,10 +361,10 @@ pub fn serve_told<D: LineServer, S: Source, W: Sink>(
     let Ok(mut buffer) = new_buffer(alloc) else {
         return Err(SessionFault::NoMemory);
     };
-    let Ok(mut line) = Line::new(alloc) else {
+    let Ok(mut feeding) = Feeding::new(alloc) else {
         return Err(SessionFault::NoMemory);
     };
-    serve_lines(server, &mut line, buffer.as_mut_slice(), reader, writer)
+    serve_lines(server, &mut feeding, buffer.as_mut_slice(), reader, writer)
 }
 
 /// Answers the lines whose line feed has come, one by one, until the end of what the reader gives
@@ -387,11 +394,11 @@ pub fn serve_whole<D: LineServer, S: Source, W: Sink>(
     let Ok(mut buffer) = new_buffer(alloc) else {
         return Err(SessionFault::NoMemory);
     };
-    let Ok(mut line) = Line::new(alloc) else {
+    let Ok(mut feeding) = Feeding::new(alloc) else {
         return Err(SessionFault::NoMemory);
     };
-    match answer_whole_lines(server, &mut line, buffer.as_mut_slice(), reader, writer) {
-        Ok(Stop::AtEnd) => Ok(whole_ending(line)),
+    match answer_whole_lines(server, &mut feeding, buffer.as_mut_slice(), reader, writer) {
+        Ok(Stop::AtEnd) => Ok(whole_ending(feeding.into_line())),
         Ok(Stop::Over) => Ok(WholeEnding::Over),
         Err(fault) => Err(fault),
     }

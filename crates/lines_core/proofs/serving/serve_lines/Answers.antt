@@ -17,29 +17,30 @@ returns-in-Ok-clause-ends g c =
     let taken0 = g.W.Sink.taken c.args.writer.now in
     let taken1 = g.W.Sink.taken c.answer_whole_lines.new.writer in
     let taken2 = g.W.Sink.taken c.finish.new.writer in
-    let line = c.answer_whole_lines.new.line in
+    let feeding = c.answer_whole_lines.new.feeding in
+    let line = feeding.line in
     let start = c.args.server.now in
     let old = c.answer_whole_lines.new.server in
     let new = c.finish.new.server in
-    let ends = subst (λ stop. EndsReading R over (Ok stop) line start old (traffic_of left0 left1 taken0 taken1)) c.in-Ok-AtEnd.field-0-is c.in-Ok-AtEnd.ensures.ends in
-    let unread = ends.0 in
-    let s = ends.1 in
-    let h = ends.3 in
+    let ends = subst (λ stop. EndsReading R over (Ok stop) line feeding.unread start old (traffic_of left0 left1 taken0 taken1)) c.in-Ok-AtEnd.field-0-is c.in-Ok-AtEnd.ensures.ends in
+    let unread = feeding.unread in
+    let s = ends.0 in
+    let h = ends.2 in
     let was_open : WasOpen R over start new s.bytes =
     ⊎_elim
-    (λ some. Open-last R law over line start old new unread left0 left1 taken0 taken1 taken2 s h some (c.in-Ok.ensures.ok some))
+    (λ some. Open-last R law over line start old new unread left0 left1 taken0 taken1 taken2 s h some (c.in-Ok.ensures.last some))
     (λ few. let none : length line ≡ 0 = omega arith in
     Open-nothing R law over line start old new unread left0 left1 taken0 taken1 s h none (c.in-Ok.ensures.empty none).0.0)
     (cases_lt 0 (length line)) in
     let run : AnswersInput R lines start new (traffic_of left0 left1 taken0 taken2) s.bytes =
     ⊎_elim
-    (λ some. Run-last R law line start old new unread left0 left1 left1 taken0 taken1 taken2 s (Consumes-nil left1) some (c.in-Ok.ensures.ok some))
+    (λ some. Run-last R law line start old new unread left0 left1 left1 taken0 taken1 taken2 s (Consumes-nil left1) some (c.in-Ok.ensures.last some))
     (λ few. let none : length line ≡ 0 = omega arith in
     let kept = c.in-Ok.ensures.empty none in
     Run-nothing R law line start old new unread left0 left1 left1 taken0 taken1 taken2 s (Consumes-nil left1) none kept.0.0 kept.0.1)
     (cases_lt 0 (length line)) in
-    subst (λ ending. EndsTold R over (Ok ending) start new (traffic_of left0 left1 taken0 taken2)) (sym c.ending_at.ensures)
-    (told_at R over line start old new unread left0 left1 left1 taken0 taken1 taken2 s run ends.2 was_open)
+    subst (λ ending. EndsTold R over (Ok ending) start new (traffic_of left0 left1 taken0 taken2)) (sym c.in-Ok.ensures.ended)
+    (told_at R over line start old new unread left0 left1 left1 taken0 taken1 taken2 s run ends.1 was_open)
 
 pub returns-in-Err-finish-clause-ends : goal.returns-in-Err-finish-clause-ends
 returns-in-Err-finish-clause-ends g c =
@@ -48,10 +49,11 @@ returns-in-Err-finish-clause-ends g c =
     let left1 = g.S.Source.left c.answer_whole_lines.new.reader in
     let taken0 = g.W.Sink.taken c.args.writer.now in
     let taken1 = g.W.Sink.taken c.answer_whole_lines.new.writer in
-    let line = c.answer_whole_lines.new.line in
+    let feeding = c.answer_whole_lines.new.feeding in
+    let line = feeding.line in
     let start = c.args.server.now in
     let old = c.answer_whole_lines.new.server in
-    let ends = subst (λ stop. EndsReading R g.D.LineServer.over (Ok stop) line start old (traffic_of left0 left1 taken0 taken1)) c.in-Ok-AtEnd.field-0-is c.in-Ok-AtEnd.ensures.ends in
-    BrokenRun-last R g.met.D.LineServer.too_long line start old c.finish.new.server ends.0
+    let ends = subst (λ stop. EndsReading R g.D.LineServer.over (Ok stop) line feeding.unread start old (traffic_of left0 left1 taken0 taken1)) c.in-Ok-AtEnd.field-0-is c.in-Ok-AtEnd.ensures.ends in
+    BrokenRun-last R g.met.D.LineServer.too_long line start old c.finish.new.server feeding.unread
     left0 left1 left1 taken0 taken1 (g.W.Sink.taken c.finish.new.writer)
-    ends.1 (Consumes-nil left1) ends.2 c.in-Err-finish.ensures.err.0 c.in-Err-finish.ensures.err.1
+    ends.0 (Consumes-nil left1) ends.1 c.in-Err-finish.ensures.broken.0 c.in-Err-finish.ensures.broken.1

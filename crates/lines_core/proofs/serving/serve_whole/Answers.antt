@@ -11,9 +11,9 @@ returns-in-Ok-AtEnd-clause-ends g c =
     let left1 = g.S.Source.left c.answer_whole_lines.new.reader in
     let taken0 = g.W.Sink.taken c.args.writer.now in
     let taken1 = g.W.Sink.taken c.answer_whole_lines.new.writer in
-    let line = c.answer_whole_lines.new.line in
+    let feeding = c.answer_whole_lines.new.feeding in
     let start = c.args.server.now in
     let new = c.answer_whole_lines.new.server in
-    let ends = subst (λ stop. EndsReading R over (Ok stop) line start new (traffic_of left0 left1 taken0 taken1)) c.in-Ok-AtEnd.field-0-is c.in-Ok-AtEnd.ensures.ends in
-    whole_at R g.met.D.LineServer.too_long over c.whole_ending.result line start new ends.0 left0 left1 taken0 taken1
-    ends.1 ends.2 ends.3 c.whole_ending.ensures
+    let ends = subst (λ stop. EndsReading R over (Ok stop) feeding.line feeding.unread start new (traffic_of left0 left1 taken0 taken1)) c.in-Ok-AtEnd.field-0-is c.in-Ok-AtEnd.ensures.ends in
+    whole_at R g.met.D.LineServer.too_long over c.whole_ending.result feeding.line start new feeding.unread left0 left1 taken0 taken1
+    ends.0 ends.1 ends.2 (rw c.into_line.ensures at c.whole_ending.ensures)
