@@ -243,8 +243,10 @@ def fifos(files):
 
     thread = threading.Thread(target=reader, daemon=True)
     thread.start()
+    begun = time.monotonic()
     server = Server(files.program, 1, more=["--journal", "fifo"], cwd=files.folder)
-    files.check("a FIFO is waited for", read.is_set() and server.listening.startswith(b"listening"), server.listening)
+    waited = time.monotonic() - begun > 0.4 and read.wait(WAIT)
+    files.check("a FIFO is waited for", waited and server.listening.startswith(b"listening"), server.listening)
     session = Session(server, "o")
     told = [session.ask(line.removeprefix("o: ")) for line in LINES]
     session.end()

@@ -1,6 +1,7 @@
 """Where a server listens, and how it is watched: socket files, sockets that a supervisor has opened, `sysr status`, and
 what its log says of denials.
 """
+import glob
 import json
 import os
 import re
@@ -218,6 +219,40 @@ def figures(watching):
     watching.check("status of nobody", seen == (1, "", f"sysr: {watching.control}: no server listens there\n"), seen)
 
 
+def wakes(process):
+    """How often the threads of a process slept, so far."""
+    return sum(int(line.split()[1]) for status in glob.glob(f"/proc/{process}/task/*/status") for line in open(status)
+        if line.startswith("voluntary_ctxt_switches"))
+
+
+def idle(watching):
+    """A server that nobody asks for anything does nothing; and a checkpoint is taken as soon as it has begun."""
+    child, _ = watching.serving("--socket", watching.socket, "--until-eof", stdin=subprocess.PIPE)
+    client = at_file(watching.socket)
+    with client, client.makefile("rb") as answers:
+        def ask(line):
+            client.sendall(line + b"\n")
+            return answers.readline()
+
+        said = [ask(line) for line in (b"USER ann", b"CREATE TABLE pay (name TEXT)", b"INSERT INTO pay VALUES ('Bo')")]
+        taken = 0
+        for number in range(1, 11):
+            time.sleep(0.1)
+            said.append(ask(b"CHECKPOINT"))
+            time.sleep(0.005)
+            said.append(ask(b"EXPORT %d" % number))
+            taken += said[-1].startswith(b"export")
+            while said[-1].startswith((b"export", b"table", b"row")):
+                said.append(answers.readline())
+        watching.check("exports that follow at once", taken > 7, said)
+        time.sleep(0.3)
+        before = wakes(child.pid)
+        time.sleep(1)
+        watching.check("an idle server", wakes(child.pid) == before, wakes(child.pid) - before)
+    child.stdin.close()
+    watching.check("at the end of its input", child.wait(timeout=WAIT) == 0, child.returncode)
+
+
 def asked_often(watching):
     """While 16 clients send lines, it is asked 200 times how the server fares, within some seconds."""
     child, _ = watching.serving("--socket", watching.socket, "--workers", "16")
@@ -258,6 +293,7 @@ def played(program, check):
         lent_sockets(watching)
         sockets_of_another_process(watching)
         figures(watching)
+        idle(watching)
         asked_often(watching)
         denials(watching)
     Server.stop_all()

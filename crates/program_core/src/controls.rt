@@ -4,7 +4,7 @@ ghost use Rattle.std.specs.Prelude.{◌≡◌, IfErr};
 ghost use Rattle.std.specs.Process.{exit_status};
 
 use crate::calls::{Call, line_of, read_call};
-use crate::end_of_input::flag_at_end;
+use crate::end_of_input::ends_with;
 use crate::figures::{Facts, seconds_now, tell_status};
 use crate::files::give_up_on;
 use crate::reloading::{tell_no_file, tell_taken, tell_untaken};
@@ -13,25 +13,25 @@ use crate::users::{Untaken, read_user_file};
 use command_core::Serving;
 use lines_core::{NO_MEMORY, give_up};
 use login_core::{UserFile, UsersFault};
-use server_core::{Control, Counters, Order, wait_for_any};
+use server_core::{Control, Counters, Measure, Order, wait_for_any};
 use std::cell::Cell;
 use std::io::{Read, Write};
 use std::mem::forget;
 use std::os::fd::AsRawFd;
 use std::os::unix::net::{UnixListener, UnixStream};
 use std::process::ExitCode;
-use std::sync::atomic::{AtomicBool, Ordering};
 use std::sync::{Arc, Mutex};
 use std::thread::Threads;
-use system_core::Size;
 
 // What is answered at a control socket.
 const STOPPING: &[u8] = b"stopping\n";
 
 const UNKNOWN: &[u8] = b"unknown\n";
 
-// For how many milliseconds it waits for somebody who says something.
+// For how many milliseconds it waits for somebody who says something, where others are to end.
 const PAUSE_MILLIS: i32 = 40;
+
+const NO_LIMIT: i32 = -1;
 
 /// Who asked that the file of users is read anew, once it was taken, and how many users it has. He
 /// is told when the server has them.
@@ -47,8 +47,8 @@ pub struct Controls<'a> {
     host: &'a HostRuntime,
     /// The control socket, if there is one.
     listener: Option<UnixListener>,
-    /// Set once standard input has ended, if that is to stop it.
-    ended: Option<Arc<AtomicBool>>,
+    /// Ends once standard input has ended, if that is to stop it.
+    input: Option<UnixStream>,
     /// How many seconds sessions have then.
     grace: u64,
     /// The file of users, if there is one.
@@ -74,10 +74,19 @@ fn tell_unknown(stream: &UnixStream) {
 }
 
 impl<'a> Controls<'a> {
+    /// Whether standard input has ended, since nobody was told.
     fn has_ended(&self) -> bool {
-        match &self.ended {
-            Some(ended) => ended.load(Ordering::SeqCst),
-            None => false,
+        let Some(mut input) = self.input.as_ref() else {
+            return false;
+        };
+        !self.told.get() && input.read(&mut [0]).is_ok()
+    }
+
+    /// The descriptor by which the end of standard input is waited for, until it was told.
+    fn end_of_input(&self) -> i32 {
+        match &self.input {
+            Some(input) if !self.told.get() => input.as_raw_fd(),
+            _ => -1,
         }
     }
 
@@ -114,7 +123,12 @@ impl<'a> Controls<'a> {
     }
 
     /// Answers a caller. What he says to the server is given, if it is anything.
-    fn answer(&self, stream: UnixStream, counters: &Counters, size: Size) -> Option<Order> {
+    fn answer<M: Measure>(
+        &self,
+        stream: UnixStream,
+        counters: &Counters,
+        measure: &M,
+    ) -> Option<Order> {
         match read_call(&stream) {
             Call::Stop => {
                 promise_to_stop(stream);
@@ -122,6 +136,7 @@ impl<'a> Controls<'a> {
             }
             Call::Reload => return Some(Order::Reload(self.reread(stream)?)),
             Call::Status(form) => {
+                let size = measure.size();
                 let _ = tell_status(self.host, &stream, form, self.facts, counters, size);
             }
             Call::Unknown => tell_unknown(&stream),
@@ -149,17 +164,26 @@ impl<'a> Controls<'a> {
 
 impl<'a> Control for Controls<'a> {
     fn listens(&self) -> bool {
-        self.listener.is_some() || self.ended.is_some()
+        self.listener.is_some() || self.input.is_some()
     }
 
-    fn heard(&self, counters: &Counters, size: Size) -> Option<Order> {
+    fn heard<M: Measure>(
+        &self,
+        counters: &Counters,
+        measure: &M,
+        ear: Option<i32>,
+    ) -> Option<Order> {
         self.tell_owed();
-        wait_for_any([self.descriptor(), -1, -1], PAUSE_MILLIS);
-        if !self.told.get() && self.has_ended() {
+        let (ear, millis) = match ear {
+            Some(ear) => (ear, NO_LIMIT),
+            None => (-1, PAUSE_MILLIS),
+        };
+        wait_for_any([self.descriptor(), self.end_of_input(), ear], millis);
+        if self.has_ended() {
             self.told.set(true);
             return Some(Order::Stop);
         }
-        self.answer(self.caller()?, counters, size)
+        self.answer(self.caller()?, counters, measure)
     }
 
     fn grace(&self) -> u64 {
@@ -189,11 +213,11 @@ pub fn controls_of<'a, R: Threads>(
 ) -> Result<Controls<'a>, ExitCode>
     ensures { IfErr result (λ status. exit_status status ≡ 1) }
 {
-    let ended = if asked.until_eof {
-        let Some(ended) = flag_at_end(rt, host.alloc(), host.stdin()) else {
+    let input = if asked.until_eof {
+        let Some(input) = ends_with(rt, host, host.alloc(), host.stdin()) else {
             return Err(give_up(host, NO_MEMORY));
         };
-        Some(ended)
+        Some(input)
     } else {
         None
     };
@@ -204,7 +228,7 @@ pub fn controls_of<'a, R: Threads>(
     Ok(Controls {
         host,
         listener,
-        ended,
+        input,
         grace: asked.grace,
         users: asked.users,
         owed: Mutex::new(None),

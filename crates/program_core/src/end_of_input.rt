@@ -1,8 +1,8 @@
 //! The end of standard input, noticed by a thread of its own.
 use std::alloc::Global;
 use std::io::{Read, Stdin};
-use std::sync::Arc;
-use std::sync::atomic::{AtomicBool, Ordering};
+use std::net::Net;
+use std::os::unix::net::UnixStream;
 use std::thread;
 use std::thread::Threads;
 
@@ -18,16 +18,21 @@ fn read_to_end(input: Stdin) {
     }
 }
 
-/// A flag that is set once standard input has ended. None where there is no memory for it, or for a
+/// A stream that ends once standard input has, and from which no call waits. None where there is none to be had, or no memory for a
 /// thread, which the process leaves behind when it ends.
-pub fn flag_at_end<R: Threads>(rt: &R, alloc: Global, input: Stdin) -> Option<Arc<AtomicBool>> {
-    let ended = Arc::new(alloc, AtomicBool::new(false)).ok()?;
-    let flag = Arc::clone(&ended).ok()?;
+pub fn ends_with<R: Threads, N: Net>(
+    rt: &R,
+    net: &N,
+    alloc: Global,
+    input: Stdin,
+) -> Option<UnixStream> {
+    let (near, far) = UnixStream::pair(net).ok()?;
+    near.set_nonblocking(true).ok()?;
     let reads = move || {
         read_to_end(input);
-        flag.store(true, Ordering::SeqCst);
+        drop(far);
     };
     let thread = thread::spawn(rt, reads).ok()?;
     drop(thread);
-    Some(ended)
+    Some(near)
 }

@@ -106,7 +106,14 @@ pub(crate) fn attend<K: Keeper + Drop, R: Wait + Clock, G: Log>(
     let input = Yielding::new(&permit, UntilStopped::new(sign, was_stopped, timed));
     let mut reader = StdSource::new(input);
     let mut writer = StdSink::new(buffered);
-    let gate = Counting::new(rt, &permit, &service.counters, log, guest.number);
+    let gate = Counting::new(
+        rt,
+        &permit,
+        &service.counters,
+        &service.bell,
+        log,
+        guest.number,
+    );
     let summary = serve_admitted(
         rt,
         alloc,

@@ -9,8 +9,13 @@ use journal_core::Keeper;
 use login_core::UserFile;
 use std::sync::ledger::Ledger;
 use std::sync::{Arc, Mutex, Wait};
+use std::thread;
 use std::time::{Clock, Duration, Instant};
 use system_core::Size;
+
+// For how many milliseconds at most it waits until the checkpointer has looked. It is busy while a
+// checkpoint is active, and has looked then.
+const MOST_NAPS: u32 = 20;
 
 /// What is said to a server.
 #[derive(Drop)]
@@ -23,14 +28,25 @@ pub enum Order {
     Reload(Arc<UserFile>),
 }
 
+/// Who measures how large a server is.
+pub trait Measure {
+    fn size(&self) -> Size;
+}
+
 /// Who may say that a server is to end, and may ask how it fares.
 pub trait Control {
     /// Whether anyone may.
     fn listens(&self) -> bool;
 
-    /// What was said since the last call, if anything was. It waits for some milliseconds at most
-    /// until something is, and answers who asks how the server fares, which is so large.
-    fn heard(&self, counters: &Counters, size: Size) -> Option<Order>;
+    /// What was said since the last call, if anything was. It waits until something is, or something
+    /// comes at the ear; without an ear, for some milliseconds. It answers who asks how the server fares,
+    /// and has it measured then.
+    fn heard<M: Measure>(
+        &self,
+        counters: &Counters,
+        measure: &M,
+        ear: Option<i32>,
+    ) -> Option<Order>;
 
     /// How many seconds sessions have to end, once a server is stopped, before they are cut.
     fn grace(&self) -> u64;
@@ -79,6 +95,28 @@ impl Ordered {
     }
 }
 
+/// Measures a server by its desk, once the checkpointer has looked.
+#[derive(Drop)]
+struct Measuring<'r, 'd, 's, 'e, K: Keeper + Drop, R> {
+    rt: &'r R,
+    desk: &'d Desk<K>,
+    service: &'s Service<'e>,
+}
+
+impl<'r, 'd, 's, 'e, K: Keeper + Drop, R: Clock> Measure for Measuring<'r, 'd, 's, 'e, K, R> {
+    fn size(&self) -> Size {
+        let looks = self.service.counters.looks();
+        self.service.bell.ring();
+        for _ in 0..MOST_NAPS {
+            if self.service.counters.looks() != looks {
+                break;
+            }
+            thread::sleep(self.rt, Duration::from_millis(1));
+        }
+        self.desk.size()
+    }
+}
+
 /// Where clients do not log in, nobody may.
 fn reload<R: Wait>(rt: &R, entrance: &Entrance, file: Arc<UserFile>) {
     if let Some(login) = entrance.login() {
@@ -105,11 +143,12 @@ pub fn watch<K: Keeper + Drop, L: Ledger, R: Wait + Clock, C: Control>(
         is_stopped: false,
         cut_at: None,
     };
+    let measuring = Measuring { rt, desk, service };
     for _ in rt.forever() {
         if service.sign.left() >= workers {
             return;
         }
-        match control.heard(&service.counters, desk.size()) {
+        match control.heard(&service.counters, &measuring, service.entrance.ear()) {
             Some(Order::Stop) => ordered.carry_out(rt, service, door, control),
             Some(Order::Cut) => service.sign.cut(rt),
             Some(Order::Reload(file)) => reload(rt, service.entrance, file),

@@ -27,7 +27,7 @@ const CODES: usize = 32;
 
 /// How many sessions began and ended, how many lines say no statement, how many statements of each kind
 /// were read, and how many were denied and refused for each lack, by its code; the last moment that was
-/// told, and how long the checkpointer waited for a turn at most. Threads count together. No contract
+/// told, and how long a statement waited for a turn at most. Threads count together. No contract
 /// speaks of it.
 #[derive(Drop)]
 pub struct Counters {
@@ -37,6 +37,7 @@ pub struct Counters {
     moment: AtomicU64,
     faulty: AtomicU64,
     longest: AtomicU64,
+    looks: AtomicU64,
     statements: Vec<AtomicU64>,
     denied: Vec<AtomicU64>,
     refused: Vec<AtomicU64>,
@@ -90,6 +91,7 @@ impl Counters {
             moment: AtomicU64::new(moment.0),
             faulty: AtomicU64::new(0),
             longest: AtomicU64::new(0),
+            looks: AtomicU64::new(0),
             statements: noughts(alloc, KINDS.len())?,
             denied: noughts(alloc, CODES)?,
             refused: noughts(alloc, CODES)?,
@@ -119,12 +121,22 @@ impl Counters {
         count(&self.refused, Lack::NoMemory.code() as usize);
     }
 
-    /// The checkpointer had waited so long for a turn, and taken it. There is one checkpointer alone.
+    /// A statement had waited so long for a turn, and taken it. Of two at once the shorter may be noted.
     pub(crate) fn took(&self, time: Duration) {
         let micros = u64::try_from(time.as_micros()).unwrap_or(u64::MAX);
         if micros > self.longest_turn() {
             self.longest.store(micros, Ordering::SeqCst);
         }
+    }
+
+    /// The checkpointer has looked, and found no checkpoint active.
+    pub(crate) fn looked(&self) {
+        self.looks.fetch_add(1, Ordering::SeqCst);
+    }
+
+    /// How often it has.
+    pub(crate) fn looks(&self) -> u64 {
+        self.looks.load(Ordering::SeqCst)
     }
 
     /// Of two replies that are told at once the earlier may be the last that is noted here.
@@ -164,7 +176,7 @@ impl Counters {
         self.faulty.load(Ordering::SeqCst)
     }
 
-    /// For how many microseconds the checkpointer waited for a turn at most, and took it.
+    /// For how many microseconds a statement waited for a turn at most, and took it.
     pub fn longest_turn(&self) -> u64 {
         self.longest.load(Ordering::SeqCst)
     }

@@ -15,7 +15,7 @@ use std::marker::Model;
 use std::net::{Net, Shutdown, SocketAddr, TcpListener, TcpStream};
 use std::os::fd::{AsRawFd, OwnedFd};
 use std::os::unix::net::{UnixListener, UnixStream};
-use std::sync::atomic::{AtomicU64, Ordering};
+use std::sync::atomic::{AtomicBool, AtomicU64, Ordering};
 
 // The system's errors that say that a descriptor is no socket that listens.
 const EBADF: i32 = 9;
@@ -74,6 +74,7 @@ pub struct Entrance {
     // Once the bell is shut, who waits for a client by the ear is woken.
     bell: UnixStream,
     ear: UnixStream,
+    is_closed: AtomicBool,
 }
 
 impl Model for Entrance {
@@ -203,6 +204,7 @@ impl Entrance {
             looks: AtomicU64::new(0),
             bell,
             ear,
+            is_closed: AtomicBool::new(false),
         })
     }
 
@@ -216,6 +218,7 @@ impl Entrance {
     /// Has it take no further client: who waits for one is woken, and who connects from now on is
     /// refused, or, where a supervisor has opened the listeners, waits for another server.
     pub fn close(&self) {
+        self.is_closed.store(true, Ordering::SeqCst);
         // What is closed already takes no client either.
         let _ = self.bell.shutdown(Shutdown::Both);
         if !self.is_lent {
@@ -225,6 +228,14 @@ impl Entrance {
         for socket in self.sockets.iter() {
             let _ = libc::net::shutdown(socket.listener.as_raw_fd(), SHUT_RDWR);
         }
+    }
+
+    /// At which something comes once it is closed. None, if it is.
+    pub(crate) fn ear(&self) -> Option<i32> {
+        if self.is_closed.load(Ordering::SeqCst) {
+            return None;
+        }
+        Some(self.ear.as_raw_fd())
     }
 
     /// The descriptors by which a client is waited for, with room for so many more. The error is

@@ -74,6 +74,7 @@
 #![tactic(auto)]
 
 mod attending;
+mod bell;
 mod caller;
 mod clock;
 mod control;
@@ -101,7 +102,8 @@ mod until_stopped;
 mod user_socket;
 mod worker;
 
-pub use control::{Control, Order, watch};
+pub use bell::Bell;
+pub use control::{Control, Measure, Order, watch};
 pub use counters::{Counters, KINDS};
 pub use door::{Door, Guest, Taken};
 pub use entrance::{Entrance, Peer};

@@ -1,28 +1,43 @@
 //! Who looks on at the checkpointer.
 
+use crate::bell::Bell;
 use crate::counters::Counters;
 use base_core::Gate;
 use session_core::Witness;
-use std::time::Duration;
+use std::cell::Cell;
+use std::sync::Wait;
+use std::time::Clock;
 
-/// One who counts how long the checkpointer waited for a turn at most.
-#[derive(Clone, Copy)]
-pub struct Lookout<'a>(&'a Counters);
+/// One who has the checkpointer rest until the bell is rung, and counts how often it looked.
+#[derive(Drop)]
+pub struct Lookout<'a, R> {
+    rt: &'a R,
+    bell: &'a Bell,
+    counters: &'a Counters,
+    // How often the bell was rung when the checkpointer rested last.
+    rings: Cell<u64>,
+}
 
-impl<'a> Lookout<'a> {
-    pub fn new(counters: &'a Counters) -> Lookout<'a> {
-        Lookout(counters)
+impl<'a, R> Lookout<'a, R> {
+    pub fn new(rt: &'a R, bell: &'a Bell, counters: &'a Counters) -> Lookout<'a, R> {
+        Lookout {
+            rt,
+            bell,
+            counters,
+            rings: Cell::new(0),
+        }
     }
 }
 
-impl<'a> Gate for Lookout<'a> {
+impl<'a, R: Wait> Gate for Lookout<'a, R> {
     fn before_record(&self, _given: u64) {}
 
     fn before_step(&self, _left: u64) {}
 }
 
-impl<'a> Witness for Lookout<'a> {
-    fn took(&self, time: Duration) {
-        self.0.took(time);
+impl<'a, R: Wait> Witness for Lookout<'a, R> {
+    fn rest<T: Clock>(&self, _clock: &T) {
+        self.counters.looked();
+        self.rings.set(self.bell.wait(self.rt, self.rings.get()));
     }
 }

@@ -1,6 +1,7 @@
 //! What the threads of a server share, beside the desk.
 ghost use Rattle.std.specs.Prelude.{◌≡◌, IfOk};
 
+use crate::bell::Bell;
 use crate::counters::Counters;
 use crate::entrance::Entrance;
 use crate::permits::Permits;
@@ -10,14 +11,16 @@ use std::alloc::Global;
 use std::time::Duration;
 
 /// What the threads of a server share, beside the desk: where clients come in, the sign that none is
-/// taken, the permits to run, what is counted, and for how long a session waits for its client, if not
-/// for ever.
+/// taken, the permits to run, what is counted, the checkpointer's bell, and for how long a session waits
+/// for its client, if not for ever.
 #[derive(Drop)]
 pub struct Service<'a> {
     pub entrance: &'a Entrance,
     pub sign: Sign,
     pub permits: Permits,
     pub counters: Counters,
+    /// Wakes the checkpointer.
+    pub bell: Bell,
     pub idle: Option<Duration>,
 }
 
@@ -41,6 +44,7 @@ impl<'a> Service<'a> {
             sign,
             permits: Permits::new(processors),
             counters,
+            bell: Bell::new(),
             idle,
         })
     }

@@ -58,7 +58,7 @@ fn check<K: Keeper + Drop, R: Wait + Clock>(
     ensures { IsCheckpointers begun.now.value.journal desk.now result }
 {
     let mut pass = pass;
-    let lookout = Lookout::new(&service.counters);
+    let lookout = Lookout::new(rt, &service.bell, &service.counters);
     // Where a change could not be kept, or all turns are drawn, each session is told too.
     let _ = checkpointer(rt, desk, &mut pass, &lookout, stop);
     pass
@@ -191,6 +191,7 @@ where
             watch(rt, desk, service, door, threads.len() as u64, control);
             let back = join_all(rt, desk, begun, service.entrance, threads);
             stop.store(true, Ordering::SeqCst);
+            service.bell.ring();
             let last = checks.join(rt);
             Ok((back?, last))
         },

@@ -9,15 +9,9 @@ use desk_core::{Desk, Pass};
 use journal_core::Keeper;
 use std::sync::Wait;
 use std::sync::atomic::{AtomicBool, Ordering};
-use std::thread;
-use std::time::{Clock, Duration, Instant};
+use std::time::Clock;
 use system_core::Reply;
 use turnstile::Worn;
-
-// How long it sleeps where no checkpoint is active, at first and at most.
-const SHORTEST_MILLIS: u64 = 2;
-
-const LONGEST_MILLIS: u64 = 40;
 
 /// A step of the active checkpoint, which is given up exactly where the step was refused memory.
 fn look<K: Keeper + Drop, R: Wait>(rt: &R, desk: &Desk<K>, pass: &mut Pass<K>) -> Reply
@@ -33,32 +27,11 @@ fn look<K: Keeper + Drop, R: Wait>(rt: &R, desk: &Desk<K>, pass: &mut Pass<K>) -
     }
 }
 
-/// The same. The witness is told how long it took, if the clock says it.
-fn step<K: Keeper + Drop, R: Wait + Clock, G: Witness>(
-    rt: &R,
-    desk: &Desk<K>,
-    pass: &mut Pass<K>,
-    witness: &G,
-) -> Reply
-    requires { pass.old.lock ≡ Some desk.now }
-    ensures { Looks desk.now result pass.old pass.new }
-{
-    let since = Instant::now(rt).ok();
-    let reply = look(rt, desk, pass);
-    if let Some(since) = since
-        && let Ok(took) = since.elapsed(rt)
-    {
-        witness.took(took);
-    }
-    reply
-}
-
 /// Takes steps of the active checkpoint, each in a turn of the pass, until the flag is set. A
 /// checkpoint is given up exactly where its step was refused memory, in the turn of the pass behind
-/// that. The pass makes no entry. Where no checkpoint is active it sleeps two milliseconds before it
-/// looks again, and twice as long each further time, up to 40 milliseconds; between two steps it
-/// calls the gate with the number of records that are left, and tells it how long each turn took.
-/// `Worn` where all turns are drawn.
+/// that. The pass makes no entry. Where no checkpoint is active the gate has it rest before it looks again;
+/// between two steps it calls the gate with the number of records that are left. `Worn` where all turns
+/// are drawn.
 pub fn checkpointer<K: Keeper + Drop, R: Wait + Clock, G: Witness>(
     rt: &R,
     desk: &Desk<K>,
@@ -71,26 +44,19 @@ pub fn checkpointer<K: Keeper + Drop, R: Wait + Clock, G: Witness>(
     ensures watches { Watches pass.old pass.new }
     ensures worn { OnErr result (pass.new.drawn ≡ 2 ^ 62) }
 {
-    let mut pause = SHORTEST_MILLIS;
     for _ in rt.forever() {
         if stop.load(Ordering::SeqCst) {
             return Ok(());
         }
-        let reply = step(rt, desk, pass, gate);
+        let reply = look(rt, desk, pass);
         match &reply {
-            Reply::Idle => {
-                thread::sleep(rt, Duration::from_millis(pause));
-                pause = pause.saturating_mul(2).min(LONGEST_MILLIS);
-            }
-            Reply::Stepped { left, .. } => {
-                pause = SHORTEST_MILLIS;
-                gate.before_step(*left);
-            }
+            Reply::Idle => gate.rest(rt),
+            Reply::Stepped { left, .. } => gate.before_step(*left),
             Reply::Refused { lack, .. } => match lack {
                 Lack::Worn => return Err(Worn),
                 _ => {}
             },
-            _ => pause = SHORTEST_MILLIS,
+            _ => {}
         }
     }
     unreachable!()

@@ -1,11 +1,15 @@
 //! What is told of statements.
 use base_core::{Gate, NoGate, User};
 use reader_core::Statement;
-use std::time::Duration;
+use std::thread;
+use std::time::{Clock, Duration};
 use system_core::Reply;
 
-/// What is told of the lines of a session as they are answered, and of the checkpointer's turns, beside
-/// what its gate is told. It has no part in what is written, so no contract speaks of it.
+// For how many milliseconds the checkpointer rests who is not told otherwise.
+const REST_MILLIS: u64 = 2;
+
+/// What is told of the lines of a session as they are answered, and of the checkpointer, beside what its
+/// gate is told. It has no part in what is written, so no contract speaks of it.
 pub trait Witness: Gate {
     /// A line was read that says this statement.
     fn said(&self, _statement: &Statement) {}
@@ -19,8 +23,10 @@ pub trait Witness: Gate {
     /// There was no memory to read a line.
     fn unread(&self) {}
 
-    /// The checkpointer had waited so long for a turn, and taken it.
-    fn took(&self, _time: Duration) {}
+    /// No checkpoint was active when the checkpointer looked. It returns once one may be.
+    fn rest<R: Clock>(&self, rt: &R) {
+        thread::sleep(rt, Duration::from_millis(REST_MILLIS));
+    }
 }
 
 impl Witness for NoGate {}

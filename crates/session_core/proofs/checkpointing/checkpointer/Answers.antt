@@ -11,19 +11,19 @@ loop-init g c = record { looks = unchecked; watches = Watches-refl c.args.pass.n
 
 pub loop-preserved : goal.loop-preserved
 loop-preserved g c = record {
-  looks = checked c.step-reply.result c.loop.pass c.step-reply.new.pass c.loop.invariant.looks c.step-reply.ensures;
-  watches = Watches-trans c.args.pass.now c.loop.pass c.step-reply.new.pass c.loop.invariant.watches (looks_watches c.args.desk.now c.step-reply.result c.loop.pass c.step-reply.new.pass c.step-reply.ensures);
+  looks = checked c.look-reply.result c.loop.pass c.look-reply.new.pass c.loop.invariant.looks c.look-reply.ensures;
+  watches = Watches-trans c.args.pass.now c.loop.pass c.look-reply.new.pass c.loop.invariant.watches (looks_watches c.args.desk.now c.look-reply.result c.loop.pass c.look-reply.new.pass c.look-reply.ensures);
 }
 
 pub returns-in-Worn-clause-looks : goal.returns-in-Worn-clause-looks
-returns-in-Worn-clause-looks g c = checked c.step-reply.result c.loop.pass c.step-reply.new.pass c.loop.invariant.looks c.step-reply.ensures
+returns-in-Worn-clause-looks g c = checked c.look-reply.result c.loop.pass c.look-reply.new.pass c.loop.invariant.looks c.look-reply.ensures
 
 pub returns-in-Worn-clause-watches : goal.returns-in-Worn-clause-watches
 returns-in-Worn-clause-watches g c =
-    Watches-trans c.args.pass.now c.loop.pass c.step-reply.new.pass c.loop.invariant.watches (looks_watches c.args.desk.now c.step-reply.result c.loop.pass c.step-reply.new.pass c.step-reply.ensures)
+    Watches-trans c.args.pass.now c.loop.pass c.look-reply.new.pass c.loop.invariant.watches (looks_watches c.args.desk.now c.look-reply.result c.loop.pass c.look-reply.new.pass c.look-reply.ensures)
 
 pub returns-in-Worn-clause-worn : goal.returns-in-Worn-clause-worn
 returns-in-Worn-clause-worn g c =
     let at = c.in-Refused.at in
     let is = c.in-Refused.is ∙ ap (λ (lack : Lack). replies.Refused at lack) c.in-Worn.is in
-    looks_worn c.args.desk.now c.step-reply.result c.loop.pass c.step-reply.new.pass at is c.step-reply.ensures
+    looks_worn c.args.desk.now c.look-reply.result c.loop.pass c.look-reply.new.pass at is c.look-reply.ensures
