@@ -264,8 +264,7 @@ void welcome(struct client *client) {
         length++;
     line[length] = 0;
     if (got < 0)
-        fail(client, "no welcome came within %ld s: a server serves as many sessions at once as it has workers "
-            "(sysr serve --workers, at most 16)", timeout);
+        fail(client, "no welcome came within %ld s", timeout);
     if (got == 0)
         fail(client, "the server ended the session before its welcome");
     if (!begins(line, "welcome "))

@@ -40,8 +40,7 @@ class Session:
             self.stream.sendall("".join(line + "\n" for line in lines).encode())
             replies = [self.reader.readline() for _ in lines]
         except socket.timeout:
-            raise Failure(f"no reply came to `{lines[0]}` in time: a server serves as many sessions at once as it has "
-                "workers") from None
+            raise Failure(f"no reply came to `{lines[0]}` in time") from None
         except OSError as error:
             raise Failure(f"the session failed at `{lines[0]}`: {error.strerror or error}") from None
         if not all(reply.endswith("\n") for reply in replies):

@@ -47,8 +47,8 @@ what the file of --csv has:
   of these good, denied, refused, fault; statements a second; percentiles and the most in microseconds.
 
 limits:
-  A server serves as many sessions at once as it has workers, at most 16. It accepts 1,000,000 changes; then each
-  further change is `refused: full`, and the count shows it.
+  A server accepts as many changes as its --changes says, 1,000,000 where it is not given; then each further change is
+  `refused: full`, and the count shows it.
 
 status: 0 the run is complete, whatever was answered; 1 it failed, and standard error says why; 2 the command line
 """

@@ -23,7 +23,9 @@ SOURCE = """
 #include <sys/socket.h>
 #include <unistd.h>
 
-static long accepted, made;
+enum { FILES = 4096 };
+static long accepted, made[FILES], good[FILES];
+static char is_client[FILES];
 
 static long number(const char *name, long other) {
     const char *given = getenv(name);
@@ -32,14 +34,14 @@ static long number(const char *name, long other) {
 
 /* How many bytes of these a call may move: none, or -1 with an error, behind the good calls. With INTERRUPTED
    each second call fails as if a signal had come. */
-static ssize_t moved(const char *kind, size_t size) {
+static ssize_t moved(int file, const char *kind, size_t size) {
     const char *broken = getenv("BROKEN");
     size_t piece = number("PIECE", 1 << 30);
-    if (getenv("INTERRUPTED") && made++ % 2 == 0) {
+    if (getenv("INTERRUPTED") && made[file]++ % 2 == 0) {
         errno = EINTR;
         return -1;
     }
-    if (broken && *broken == *kind && made++ >= number("GOOD_CALLS", accepted - 1)) {
+    if (broken && *broken == *kind && (file < 2 || is_client[file]) && made[file]++ >= number("GOOD_CALLS", good[file])) {
         errno = number("ERROR", 0);
         return errno ? -1 : 0;
     }
@@ -50,31 +52,31 @@ int accept4(int socket, struct sockaddr *address, socklen_t *length, int flags) 
     int (*real)(int, struct sockaddr *, socklen_t *, int) = dlsym(RTLD_NEXT, "accept4");
     int taken = real(socket, address, length, flags);
     if (taken >= 0)
-        accepted++, made = 0;
+        good[taken] = accepted++, made[taken] = 0, is_client[taken] = 1;
     return taken;
 }
 
 ssize_t read(int file, void *into, size_t size) {
     ssize_t (*real)(int, void *, size_t) = dlsym(RTLD_NEXT, "read");
-    ssize_t most = file ? size : moved("read", size);
+    ssize_t most = file ? size : moved(file, "read", size);
     return most < 0 ? most : real(file, into, most);
 }
 
 ssize_t write(int file, const void *from, size_t size) {
     ssize_t (*real)(int, const void *, size_t) = dlsym(RTLD_NEXT, "write");
-    ssize_t most = file == 1 && !getenv("ACCEPTS") ? moved("write", size) : size;
+    ssize_t most = file == 1 && !getenv("ACCEPTS") ? moved(file, "write", size) : size;
     return most <= 0 ? most : real(file, from, most);
 }
 
 ssize_t recv(int socket, void *into, size_t size, int flags) {
     ssize_t (*real)(int, void *, size_t, int) = dlsym(RTLD_NEXT, "recv");
-    ssize_t most = moved("read", size);
+    ssize_t most = moved(socket, "read", size);
     return most < 0 ? most : real(socket, into, most, flags);
 }
 
 ssize_t send(int socket, const void *from, size_t size, int flags) {
     ssize_t (*real)(int, const void *, size_t, int) = dlsym(RTLD_NEXT, "send");
-    ssize_t most = moved("write", size);
+    ssize_t most = moved(socket, "write", size);
     return most <= 0 ? most : real(socket, from, most, flags);
 }
 """

@@ -391,4 +391,13 @@ def ended(program, check):
         check("a server that is gone", seen == (bavgusen.ConnectionEnded, True), seen)
 
 
-TESTS = (worked_example, worked_examples, rights, faults, typed, pipelines, exports, page, withheld, ended)
+def full(program, check):
+    """Where no session is left for a client, he is told so, and may come again."""
+    server = Server(program, None, more=["--max-sessions", "1"])
+    with connected(server, "ann") as ann:
+        seen = [told(lambda: connected(server, "bob")) for _ in range(3)]
+        check("no session is left", seen == 3 * [bavgusen.UnavailableError], seen)
+        check("who is in goes on", ann.execute("CHECKPOINTS") == Checkpoints(0, ()), "other")
+
+
+TESTS = (worked_example, worked_examples, rights, faults, typed, pipelines, exports, page, withheld, ended, full)

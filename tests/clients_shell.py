@@ -5,6 +5,7 @@ import os
 import pty
 import re
 import select
+import signal
 import struct
 import subprocess
 import tempfile
@@ -220,20 +221,21 @@ def left(program, check):
 
 
 def waiting(program, check):
-    """Where all workers are busy, the shell says that it waits, and goes on when one is free."""
+    """Where the server takes long to welcome its user, the shell says that it waits, and goes on then."""
     server = Server(program, 2, workers=1)
-    with tempfile.TemporaryDirectory() as folder:
-        with connected(server, "bob") as bob:
-            shell = Terminal(folder, "-p", str(server.port), "-U", "ann")
-            seen = shell.until("Ctrl-C gives up\n")
-            check("waiting", seen.startswith("sysr-shell: waiting for a worker"), seen)
-            bob.execute(PAY, check=True)
-        with contextlib.closing(shell):
-            shell.until("ann=> ")
-            seen = shell.ask("SELECT name FROM pay;\r")
-            check("begun later", seen == ["denied @1: ann lacks SELECT(name) on pay"], seen)
-            os.write(shell.master, b"\x04")
-            check("begun later: the end", shell.end() == 0, shell.text)
+    with connected(server, "bob") as bob:
+        bob.execute(PAY, check=True)
+    server.child.send_signal(signal.SIGSTOP)
+    with tempfile.TemporaryDirectory() as folder, contextlib.closing(
+            Terminal(folder, "-p", str(server.port), "-U", "ann")) as shell:
+        seen = shell.until("Ctrl-C gives up\n")
+        server.child.send_signal(signal.SIGCONT)
+        check("waiting", seen.startswith("sysr-shell: waiting for the server"), seen)
+        shell.until("ann=> ")
+        seen = shell.ask("SELECT name FROM pay;\r")
+        check("begun later", seen == ["denied @1: ann lacks SELECT(name) on pay"], seen)
+        os.write(shell.master, b"\x04")
+        check("begun later: the end", shell.end() == 0, shell.text)
 
 
 def nobody_listens(program, check):

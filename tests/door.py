@@ -1,8 +1,8 @@
 """The door of `sysr serve`: its port and workers, clients that say nothing, what stands in for closed streams, the log,
 and accepts that fail."""
+import contextlib
 import errno
 import os
-import select
 import signal
 import socket
 import subprocess
@@ -43,18 +43,11 @@ def greatest_numbers(program, check):
 
 
 def fewest_words(program, check):
-    """With a port alone there are four workers: a fifth client waits until one of four leaves."""
+    """With a port alone there are four workers, who answer more sessions than they are."""
     server = Server(program, None, workers=None)
-    sessions = [Session(server, f"u{n}") for n in range(4)]
+    sessions = [Session(server, f"u{n}") for n in range(5)]
     said = [session.welcome for session in sessions]
-    check("four workers", said == [f"welcome u{n}\n" for n in range(4)], said)
-    with server.connect() as fifth, fifth.makefile("rb") as reader:
-        fifth.sendall(b"USER u4\n")
-        ready = select.select([fifth], [], [], 0.1)[0]
-        check("the fifth waits", ready == [], ready)
-        sessions.pop().end()
-        seen = reader.readline()
-        check("the fifth is served", seen == b"welcome u4\n", seen)
+    check("five sessions of four workers", said == [f"welcome u{n}\n" for n in range(5)], said)
     for session in sessions:
         session.end()
 
@@ -88,7 +81,7 @@ def silent_clients(program, check, more, faults):
             check("that sends nothing", silent.recv(1) == b"", "not ended")
             ended = server.end()
         told = [line for line in ended[2] if " fault: " in line]
-        check("silent clients: the end", (*ended[:2], told) == (0, b"served 5\n", faults), ended)
+        check("silent clients: the end", (*ended[:2], sorted(told)) == (0, b"served 5\n", sorted(faults)), ended)
     finally:
         server.child.kill()
         server.child.communicate(timeout=WAIT)
@@ -284,6 +277,9 @@ def refused_accepts(program, check, preloaded):
     check("accepts that failed: the end", ended == (0, b"served 2\n", []), ended)
     server = serving(2, 0, errno.EBADF)
     ann = Session(server, "ann")
+    # (that it is gone shows where somebody knocks, who may be reset before his call has returned)
+    with contextlib.suppress(ConnectionResetError):
+        server.connect().close()
     time.sleep(0.05)
     said = [ann.ask("CHECKPOINTS"), ann.end()]
     check("without a listener", said == ["checkpoints 0 @0\n", ""], said)

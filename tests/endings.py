@@ -1,7 +1,6 @@
 """What ends `sysr serve`, and what does not: the last session that was asked for, and a full disk."""
 import errno
 import os
-import select
 import socket
 import subprocess
 import tempfile
@@ -77,18 +76,17 @@ def last_session(program, check):
         check(f"{name}: the end", (said, ended) == wanted, (said, ended))
 
 
-def waits_for_the_last(program, check):
-    """A client who waits for a worker is served, if he is the last that was asked for; one behind him is not."""
+def last_beside_another(program, check):
+    """The last client that was asked for is answered beside the first, by the one worker; one behind him is refused."""
     server = Server(program, 2, workers=1)
     first = Session(server, "ann")
-    with server.connect() as second, second.makefile("rb") as reader:
-        second.sendall(b"USER bob\n")
-        waits = select.select([second], [], [], 0.1)[0] == []
-        said = [first.ask("CHECKPOINTS"), first.end(), reader.readline()]
-        check("the last who waits", waits and said == ["checkpoints 0 @0\n", "", b"welcome bob\n"], said)
-        check("one behind the last is refused", refused_within(server, 1), "not refused")
+    second = Session(server, "bob")
+    said = [second.welcome, first.ask("CHECKPOINTS"), second.ask("CHECKPOINTS")]
+    check("two of one worker", said == ["welcome bob\n", *2 * ["checkpoints 0 @0\n"]], said)
+    check("one behind the last is refused", refused_within(server, 1), "not refused")
+    said = [first.end(), second.ask("CHECKPOINTS"), second.end()]
     ended = ends_soon(server)
-    check("behind the last who waited", ended == (0, b"served 2\n", []), ended)
+    check("behind the last", (said, ended) == (["", "checkpoints 0 @0\n", ""], (0, b"served 2\n", [])), (said, ended))
 
 
 def no_last_session(program, check):
@@ -106,7 +104,7 @@ def no_last_session(program, check):
     check("it serves on", server.child.poll() is None, server.child.poll())
 
 
-TESTS = (full_disk, last_session, waits_for_the_last, no_last_session)
+TESTS = (full_disk, last_session, last_beside_another, no_last_session)
 
 
 def played(program, check):

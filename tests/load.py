@@ -215,16 +215,15 @@ def wrong_replies_are_found(check):
 
 
 def connections(program, check):
-    """No server, and one with too few workers."""
+    """No server, and one worker for two clients."""
     port = free_port()
     seen = run("--port", port)
     told = f"bench/load: cannot connect to 127.0.0.1:{port}: Connection refused\n"
     check("no server", seen[0] == 1 and seen[2].startswith(told), seen)
     server = Server(program, None, workers=1)
-    talk(server, "USER user1\nCREATE TABLE load (name TEXT, id INTEGER)\n")
-    seen = run("--port", server.port, "--clients", 2, "--statements", 10, "--existing", "--timeout", 2)
-    told = "a server serves as many sessions at once as it has workers"
-    check("too few workers", seen[0] == 1 and told in seen[2], seen)
+    talk(server, "USER user1\nCREATE TABLE load (name TEXT, id INTEGER)\nGRANT INSERT, SELECT ON load TO user2\n")
+    seen = run("--port", server.port, "--clients", 2, "--statements", 10, "--existing")
+    check("one worker for two clients", seen[0] == 0 and seen[2] == "", seen)
 
 
 def command_line(check):

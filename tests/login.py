@@ -278,7 +278,10 @@ def user_sockets(logins):
         server = logins.serving("--socket", common, *users, *words)
         for name, path in paths.items():
             wait_for(path)
-            mode = stat.S_IMODE(os.stat(path).st_mode)
+            late = time.monotonic() + WAIT
+            # (its mode is set behind its making)
+            while (mode := stat.S_IMODE(os.stat(path).st_mode)) != 0o600 and time.monotonic() < late:
+                time.sleep(0.01)
             logins.check(f"the mode of the socket of {name}", mode == 0o600, oct(mode))
         if os.geteuid() == 0:
             owner = os.stat(paths["nobody"]).st_uid

@@ -274,31 +274,27 @@ def for_the_next_worker(logins):
 
 
 def crowded(logins):
-    """Of more than 256 callers who say nothing the first have to leave; who logs in beside them waits for none, and the
-    server stops at once."""
+    """Of 300 callers who say nothing none is in the way of who logs in beside them, and the server stops at once."""
     server = logins.with_users()
     callers = [Caller(server.connect()) for _ in range(300)]
     took = logins.is_welcome("beside a crowd", server, "ann")
     logins.check("a crowd holds nobody up", took < AT_ONCE, took)
-    # (one place was for who has logged in)
-    left = [caller.ended() for caller in callers[:300 - 255]]
-    logins.check("the first of a crowd leave", left == 45 * [""], left)
     begun = time.monotonic()
     lines = logins.stop(server)
-    left = [caller.ended() for caller in callers[300 - 255:]]
+    left = [caller.ended() for caller in callers]
     took = time.monotonic() - begun
-    logins.check("a crowd ends with its server", (left, lines) == (255 * [""], []) and took < 5, (took, lines))
+    logins.check("a crowd ends with its server", (left, lines) == (300 * [""], []) and took < 5, (took, lines))
 
 
 def counted(logins):
-    """Of a server for two sessions each login counts, and nothing else."""
-    server = logins.with_users("--sessions", "2")
+    """Of a server for five sessions each connection counts, also one whose login is refused, or that says nothing."""
+    server = logins.with_users("--sessions", "5")
     said = [called(server, "USER ann\n"), called(server, ""), logins.logs_in(server, "ann", "pencils")[0]]
     said += [logins.logs_in(server, user)[0] for user in ("ann", "bob")]
     wanted = [NOT_EXPECTED, "", REFUSED, "signed, welcome ann\n", "signed, welcome bob\n"]
-    logins.check("two logins", said == wanted, said)
+    logins.check("two logins of five", said == wanted, said)
     out, _ = server.child.communicate(timeout=WAIT)
-    logins.check("two logins are two sessions", (server.child.returncode, out) == (0, b"served 2\n"), out)
+    logins.check("five sessions", (server.child.returncode, out) == (0, b"served 5\n"), out)
 
 
 def waits(logins):

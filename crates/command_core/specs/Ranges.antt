@@ -18,6 +18,10 @@ AreAsked limits = IsFullBut limits.changes limits × (0 < limits.changes)
 abbrev pub IsIdle : Option ℕ → Type 0
 IsIdle idle = IfSome idle (λ seconds. (0 < seconds) × (seconds ≤ 86400))
 
+-- how many sessions may be open at once, if that is given
+abbrev pub IsMostSessions : Option ℕ → Type 0
+IsMostSessions most = IfSome most (λ n. (0 < n) × (n ≤ 1000000))
+
 -- the port at which sessions come in, if one is given
 abbrev pub IsPort : Option ℕ → Type 0
 IsPort port = IfSome port (λ p. (0 < p) × (p ≤ 65535))
@@ -35,6 +39,7 @@ ServesInRange s =
     × IsChunk s.chunk
     × AreAsked s.limits
     × IsIdle s.idle
+    × IsMostSessions s.max_sessions
     × (s.grace ≤ 86400)
 
 -- each number that is asked for is in its range

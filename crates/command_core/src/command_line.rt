@@ -1,6 +1,6 @@
 //! What the command line says.
 ghost use Rattle.std.specs.Prelude.{◌<◌, ◌≤◌, IfOk, IfSome};
-ghost use Rattle.command_core.specs.Ranges.{AreAsked, IsChunk, IsIdle, IsMoment, IsPort, ServesInRange, IsInRange};
+ghost use Rattle.command_core.specs.Ranges.{AreAsked, IsChunk, IsIdle, IsMoment, IsMostSessions, IsPort, ServesInRange, IsInRange};
 
 use crate::commands::program;
 use crate::reading::{Reading, limits_of, reading_of};
@@ -26,6 +26,8 @@ const MAX_WORKERS: u8 = 16;
 const MAX_SESSIONS: u32 = 1_000_000_000;
 
 const MAX_IDLE: u32 = 86_400;
+
+const MAX_OPEN: u32 = 1_000_000;
 
 const GRACE: u32 = 10;
 
@@ -82,12 +84,12 @@ pub struct Running<'a> {
 
 /// The sessions that are asked for: at which port, and of which address, if that is said; at which
 /// socket file, and of which mode that is; by which file of users they log in; how many, by how
-/// many threads, how many records a step of the checkpointer takes, how much there may be, for how
-/// many seconds a session waits for its client, if not for ever, whether it is told where sessions
-/// begin and end, who is denied what, and when that was; from which file the first changes come, to
-/// which each change is written, to which the state is written at the end, and whether to audit
-/// then; at which control socket it may be told to stop, whether the end of standard input tells it
-/// so, and how many seconds sessions then have.
+/// many threads, how many may be open at once, if that is bounded, how many records a step of the
+/// checkpointer takes, how much there may be, for how many seconds a session waits for its client,
+/// if not for ever, whether it is told where sessions begin and end, who is denied what, and when
+/// that was; from which file the first changes come, to which each change is written, to which the
+/// state is written at the end, and whether to audit then; at which control socket it may be told
+/// to stop, whether the end of standard input tells it so, and how many seconds sessions then have.
 #[derive(Clone, Copy)]
 pub struct Serving<'a> {
     pub port: Option<u16>,
@@ -100,6 +102,7 @@ pub struct Serving<'a> {
     pub chunk: usize,
     pub limits: Limits,
     pub idle: Option<u64>,
+    pub max_sessions: Option<u64>,
     pub log: bool,
     pub log_denials: bool,
     pub log_time: bool,
@@ -149,6 +152,14 @@ fn idle_of(matches: &ArgMatches<'_>) -> Option<u64>
 {
     let seconds = matches.get_one::<u32>("idle")?;
     Some(seconds.clamp(1, MAX_IDLE) as u64)
+}
+
+// clap has refused a number out of range.
+fn max_sessions_of(matches: &ArgMatches<'_>) -> Option<u64>
+    ensures { IsMostSessions result }
+{
+    let most = matches.get_one::<u32>("max-sessions")?;
+    Some(most.clamp(1, MAX_OPEN) as u64)
 }
 
 // clap has refused a number out of range.
@@ -212,6 +223,7 @@ fn serving_of<'a>(matches: &ArgMatches<'a>) -> Serving<'a>
         chunk: chunk_of(matches),
         limits: limits_of(matches),
         idle: idle_of(matches),
+        max_sessions: max_sessions_of(matches),
         log: matches.get_flag("log"),
         log_denials: matches.get_flag("log-denials"),
         log_time: matches.get_flag("log-time"),
@@ -338,8 +350,8 @@ fn control_of<'a>(matches: &ArgMatches<'a>) -> Option<CommandLine<'a>>
 /// from 1 to 65,535; the workers from 1 to 16, and 4 where none are given; the sessions from 1 to
 /// 1,000,000,000, and 2^64 - 1 where none are given, so that there is no end to them; the changes
 /// from 1 to 1,000,000,000, and 1,000,000 where none are given; the seconds of an idle session, if
-/// they are given, from 1 to 86,400; the moment of an explanation, if it is given, from 0 to
-/// 1,000,000,000; the seconds of grace from 0 to 86,400, and 10 where none are given. An error is
+/// they are given, from 1 to 86,400; the sessions that may be open at once, if that is given, from 1
+/// to 1,000,000; the moment of an explanation, if it is given, from 0 to 1,000,000,000; the seconds of grace from 0 to 86,400, and 10 where none are given. An error is
 /// clap's: the words were refused, help or the version was asked for, or there was no memory. Words
 /// are also refused where one that is to name a user names none.
 pub fn options<'a, S: AsStr>(alloc: Global, words: &'a [S]) -> Result<CommandLine<'a>, Error>

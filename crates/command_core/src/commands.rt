@@ -214,7 +214,7 @@ fn user_socket_arg<'a>(alloc: Global) -> Arg<'a> {
 }
 
 fn workers_arg<'a>(alloc: Global) -> Arg<'a> {
-    let help = "Threads that serve sessions, from 1 to 16; 4 where it is not given";
+    let help = "Threads that answer sessions, from 1 to 16; 4 where it is not given";
     taking(
         value_arg(alloc, "workers", "n", help),
         clap::value_parser!(u8).range(1..=16),
@@ -237,6 +237,15 @@ fn idle_arg<'a>(alloc: Global) -> Arg<'a> {
     taking(
         value_arg(alloc, "idle", "s", help),
         clap::value_parser!(u32).range(1..=86400),
+    )
+}
+
+fn max_sessions_arg<'a>(alloc: Global) -> Arg<'a> {
+    let help = "Sessions that may be open at once, from 1 to 1,000,000; as many as there are \
+        descriptors for where it is not given";
+    taking(
+        value_arg(alloc, "max-sessions", "n", help),
+        clap::value_parser!(u32).range(1..=1000000),
     )
 }
 
@@ -321,6 +330,7 @@ fn serve_command<'a>(alloc: Global) -> Made<'a> {
     let made = with(made, chunk_arg(alloc));
     let made = with(made, changes_arg(alloc));
     let made = with(made, idle_arg(alloc));
+    let made = with(made, max_sessions_arg(alloc));
     let made = with(made, log_arg(alloc));
     let made = with(made, log_denials_arg(alloc));
     let made = with(made, log_time_arg(alloc));

@@ -1,5 +1,5 @@
 -- Records given, some and then more.
-use Rattle.std.proofs.Common.{◌≡◌, ℕ, ◌+◌, ◌-◌, ◌≤◌, length, List, [], ◌∷◌, ◌++◌, take, drop, Option, Some, None, refl, sym, ap, subst, ◌∙◌, arith, append-nil, append_assoc}
+use Rattle.std.proofs.Common.{◌≡◌, ℕ, ◌+◌, ◌-◌, ◌≤◌, ◌<◌, length, List, [], ◌∷◌, ◌++◌, take, drop, Option, Some, None, refl, sym, ap, subst, ◌∙◌, arith, append-nil, append_assoc}
 use Rattle.std.specs.List.{slice_get, concat}
 use Rattle.std.specs.Io.KnownBytes.{Appends}
 use Rattle.std.proofs.KnownBytes.{Appends-nil, Appends-trans}
@@ -11,6 +11,10 @@ use Rattle.export_core.specs.declared.fault.ExportFault.{ExportFault}
 use Rattle.export_core.specs.declared.fault.ExportFault.TheVariants as faults
 use Rattle.export_core.specs.Ticket.{TicketState, after_giving, finished, WritesRecords, BreaksRecord, Stops}
 use Rattle.export_core.proofs.Places.{slice_get-drop}
+
+some_length : {X : Type 0} (xs : List X) → (xs ≡ [] → ⊥) → 0 < length xs
+some_length [] more = absurd (more refl)
+some_length (x ∷ xs) more = omega arith
 
 take-add : {X : Type 0} (n m : ℕ) (xs : List X) → take (n + m) xs ≡ take n xs ++ take m (drop n xs)
 take-add n m xs =
@@ -88,6 +92,13 @@ module _ (n : ℕ) (a b : TicketState) (v w : Option (List ℕ)) (so_far : Write
 
   pub wrote_all : b.to_come ≡ [] → Appends v w (concat a.to_come)
   wrote_all none = subst (Appends v w) (ap concat (all_given none)) so_far.wrote
+
+-- where some were given and more are to come, they are fewer than before
+pub fewer_left : (n : ℕ) (a b : TicketState) → 0 < n → b ≡ after_giving n a → (b.to_come ≡ [] → ⊥) → length b.to_come < length a.to_come
+fewer_left n a b some gave more =
+    let left : length b.to_come ≡ length a.to_come - n = ap (λ (e : TicketState). length e.to_come) gave ∙ length-drop n a.to_come in
+    let above : 0 < length b.to_come = some_length b.to_come more in
+    omega (arith, left, above, some)
 
 -- one step of the writing
 first_one : (xs : List (List ℕ)) (line : List ℕ) → slice_get xs 0 ≡ Some line → take 1 xs ≡ line ∷ []

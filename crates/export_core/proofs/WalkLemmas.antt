@@ -11,7 +11,7 @@ use Rattle.export_core.specs.Walk.{judged_tables, told_of_table, all_records, co
 use Rattle.export_core.specs.declared.judgement.Judgement.{Judgement}
 use Rattle.export_core.specs.declared.judgement.Judgement.TheVariants.{Listed, WithheldThen, WithheldNow}
 use Rattle.export_core.specs.declared.walk.Walk.TheInside.{Inside}
-use Rattle.export_core.proofs.Giving.{gives_nothing}
+use Rattle.export_core.proofs.Giving.{gives_nothing, none_left, something_left}
 use Rattle.export_core.proofs.Places.{slice_get-append_left, slice_get-append_right, slice_get-drop, slice_get-flat_map, slice_get-zip, slice_get-zip_past, slice_get-index, take_next, take_past, drop_next, length-flat_map_next, MatchOption-some, MatchOption-each}
 
 -- a list of which n items were given
@@ -140,6 +140,23 @@ module _ (t : Inside) (way : IsUnderWay t) where
 
     pub passed_table : t.lines + 1 ≡ length (told_of_table pair) → exporting (record t { told = t.told + 1; lines = 0 }) ≡ after_giving 1 (exporting t)
     passed_table last = gave t (t.told + 1) 0 t.ended line comes (next_table_counts t way pair here last)
+
+  -- before the end some record comes
+  something_comes : t.ended ≡ false → (line : List ℕ) × (slice_get (exporting t).to_come 0 ≡ Some line)
+  something_comes open' = elim (slice_get (judged_tables t) t.told) as (λ o. slice_get (judged_tables t) t.told ≡ o → (line : List ℕ) × (slice_get (exporting t).to_come 0 ≡ Some line)) [
+    | None ↦ (λ here. (end_line (arc_value t.image).number, comes_next t (Some (end_line (arc_value t.image).number)) (end_comes t way here open')))
+    | Some pair ↦ (λ here. (line pair here, comes_next t (Some (line pair here)) (comes pair here)))
+  ] refl
+
+  -- nothing is to come exactly where the end was given
+  pub over_ends : t.ended ≡ true → (exporting t).to_come ≡ []
+  over_ends over = none_left (exporting t).to_come (comes_next t None (nothing_comes t way over))
+
+  pub ends_over : (exporting t).to_come ≡ [] → t.ended ≡ true
+  ends_over none = elim (t.ended) as (λ b. t.ended ≡ b → b ≡ true) [
+    | true ↦ (λ over. refl)
+    | false ↦ (λ open'. let next = something_comes open' in absurd (something_left (exporting t).to_come next.0 next.1 none))
+  ] refl
 
   pub passed_end : slice_get (judged_tables t) t.told ≡ None → exporting (record t { ended = true }) ≡ after_giving 1 (exporting t)
   passed_end here = elim (t.ended) as (λ b. t.ended ≡ b → exporting (record t { ended = true }) ≡ after_giving 1 (exporting t)) [

@@ -51,6 +51,10 @@ pub record WritesRecords (n : ℕ) (old new : TicketState)
   pub gave : new ≡ after_giving n old
   pub wrote : Appends before after (concat (take n old.to_come))
 
+-- some of the next records were given and written, at least one where one was to come
+abbrev pub WritesSome : TicketState → TicketState → Option (List ℕ) → Option (List ℕ) → Type 0
+WritesSome old new before after = (n : ℕ) × (0 < n) × WritesRecords n old new before after
+
 -- the next n records were given and written, and of the one behind them, which counts as given, a front
 -- was written
 pub record BreaksRecord (n : ℕ) (old new : TicketState)

@@ -32,8 +32,11 @@
 //! ticket.next_record()?;                     // None
 //! ```
 //!
-//! A [`Gate`](base_core::Gate) is called before each record that `write_to` gives, so that a test
-//! can hold an export up there.
+//! `write_to` writes all records that are to come. Who would wait too long for that calls
+//! `write_some` again and again, which writes a few and says whether more are to come.
+//!
+//! A [`Gate`](base_core::Gate) is called before each record that is written, so that a test can hold
+//! an export up there.
 //!
 //! # Records
 //!
@@ -52,8 +55,8 @@
 //! each column, and takes memory for a byte a column. The first record goes over the image's grants
 //! once, and takes memory for the privileges that they give the user; of a table that he didn't own
 //! it looks each column up there. Any later record costs its own bytes; at `next_record` it costs a
-//! buffer of `csv` too, at `write_to` one buffer serves many rows. `write_to` makes each record
-//! after it has written the one before, and keeps the text of at most 128 rows.
+//! buffer of `csv` too, at `write_to` and `write_some` one buffer serves many rows. These make each
+//! record after they have written the one before, and keep the text of at most 128 rows.
 #![tactic(auto)]
 
 mod asked;

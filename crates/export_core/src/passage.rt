@@ -9,8 +9,14 @@ pub(crate) struct Passage<'a, G: Gate> {
 }
 
 impl<'a, G: Gate> Passage<'a, G> {
-    pub(crate) fn new(gate: &'a G) -> Passage<'a, G> {
-        Passage { gate, given: 0 }
+    /// A gate that has let so many records through.
+    pub(crate) fn new(gate: &'a G, given: u64) -> Passage<'a, G> {
+        Passage { gate, given }
+    }
+
+    /// How many records it has let through.
+    pub(crate) fn given(&self) -> u64 {
+        self.given
     }
 
     /// Lets the next record through.

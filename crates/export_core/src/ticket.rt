@@ -6,11 +6,12 @@ ghost use Rattle.std.specs.Io.KnownBytes.{Appends};
 ghost use Rattle.base_core.specs.Words.{same_name};
 ghost use Rattle.export_core.specs.Export as exports;
 ghost use Rattle.export_core.specs.Export.{IsAllowed};
-ghost use Rattle.export_core.specs.Ticket.{issued, after_giving, finished, Stops};
+ghost use Rattle.export_core.specs.Ticket.{issued, after_giving, finished, WritesSome, Stops};
 
 use crate::asked::Asked;
 use crate::fault::ExportFault;
 use crate::judgement::judged_now;
+use crate::passage::Passage;
 use crate::walk::Walk;
 use base_core::{Gate, Moment, Name, NoMemory, Sink, User};
 use capture_core::{Image, TableImage};
@@ -29,6 +30,8 @@ pub struct Ticket {
     asked: Asked,
     // From the first record on.
     walk: Option<Walk>,
+    // How many records gates have let through.
+    passed: u64,
 }
 
 impl Model for Ticket {
@@ -92,7 +95,11 @@ impl Ticket {
             first,
             by_rights: judged,
         };
-        Ok(Ticket { asked, walk: None })
+        Ok(Ticket {
+            asked,
+            walk: None,
+            passed: 0,
+        })
     }
 
     /// The number of the checkpoint. It takes no memory.
@@ -152,9 +159,40 @@ impl Ticket {
         record
     }
 
+    /// Gives some of the records to come and writes them: the next one, and the rows that come
+    /// behind it, at most 128. Whether records are still to come. Before each record the gate is
+    /// called with how many were written before it, by this call or an earlier one.
+    ///
+    /// - `NoMemory` where a request for memory was refused: the records before it were given and
+    ///   written, and the one that it was for comes next.
+    /// - `Write` exactly where the writer failed: the records before it were given and written, and a
+    ///   front of the one that it stopped at, which counts as given.
+    pub fn write_some<W: Sink, G: Gate>(
+        &mut self,
+        writer: &mut W,
+        gate: &G,
+    ) -> Result<bool, ExportFault>
+        requires { W.failed writer.old ≡ false }
+        ensures write { IsErrOf result ExportFault.Write ↔ (W.failed writer.new ≡ true) }
+        ensures more { IfOk result (λ more. (more ≡ false) ↔ (self.new.to_come ≡ [])) }
+        ensures ok { OnOk result
+            (WritesSome self.old self.new (W.taken writer.old) (W.taken writer.new)) }
+        ensures err { IfErr result
+            (λ fault. Stops fault self.old self.new (W.taken writer.old) (W.taken writer.new)) }
+    {
+        let Ok(mut walk) = self.take_walk() else {
+            return Err(ExportFault::NoMemory);
+        };
+        let mut passage = Passage::new(gate, self.passed);
+        let more = walk.write_some(writer, &mut passage);
+        self.passed = passage.given();
+        self.walk = Some(walk);
+        more
+    }
+
     /// Gives all records to come and writes them. Before each, the last line too, the gate is
-    /// called with how many this call has given so far. An answer to EXPORT is written by one call,
-    /// from its first record on.
+    /// called with how many were written before it, by this call or by one of
+    /// [`Ticket::write_some`].
     ///
     /// - `NoMemory` where a request for memory was refused: the records before it were given and
     ///   written, and the one that it was for comes next.
@@ -176,7 +214,9 @@ impl Ticket {
         let Ok(mut walk) = self.take_walk() else {
             return Err(ExportFault::NoMemory);
         };
-        let written = walk.write_to(writer, gate);
+        let mut passage = Passage::new(gate, self.passed);
+        let written = walk.write_to(writer, &mut passage);
+        self.passed = passage.given();
         self.walk = Some(walk);
         written
     }

@@ -1,11 +1,11 @@
 //! The records of an export whose tables are judged, one after another.
-ghost use Rattle.std.specs.Prelude.{◌≡◌, ◌↔◌, [], true, false, ℕ, if◌then◌else◌, slice_get, option_map, option_copied, is_some, Some, IfSome, IfOk, IfErr, IsOk, IsErrOf, OnOk, OnErr};
+ghost use Rattle.std.specs.Prelude.{◌≡◌, ◌↔◌, [], true, false, ℕ, if◌then◌else◌, slice_get, option_map, option_copied, Some, IfSome, IfOk, IfErr, IsOk, IsErrOf, OnOk, OnErr};
 ghost use Rattle.std.specs.List.{concat};
 ghost use Rattle.std.specs.Io.KnownBytes.{Appends};
 ghost use Rattle.csv.specs.Writing.{writer_pending};
 ghost use Rattle.export_core.specs.Export.{cut};
 ghost use Rattle.export_core.specs.Record.{IsBetween, row_line};
-ghost use Rattle.export_core.specs.Ticket.{after_giving, finished, WritesRecords, Stops};
+ghost use Rattle.export_core.specs.Ticket.{after_giving, finished, WritesRecords, WritesSome, Stops};
 
 use crate::fault::ExportFault;
 use crate::judgement::Judgement;
@@ -141,15 +141,14 @@ impl Walk {
         }
     }
 
-    // Gives one record and writes it. False at the end.
+    // Gives the next record and writes it. At the end nothing changes.
     fn write_next<W: Sink, G: Gate>(
         &mut self,
         writer: &mut W,
         passage: &mut Passage<G>,
-    ) -> Result<bool, ExportFault>
+    ) -> Result<(), ExportFault>
         requires { W.failed writer.old ≡ false }
         ensures write { IsErrOf result ExportFault.Write ↔ (W.failed writer.new ≡ true) }
-        ensures more { IfOk result (λ more. more ≡ is_some (slice_get self.old.to_come 0)) }
         ensures ok { OnOk result
             (WritesRecords 1 self.old self.new (W.taken writer.old) (W.taken writer.new)) }
         ensures err { IfErr result
@@ -159,13 +158,13 @@ impl Walk {
             return Err(ExportFault::NoMemory);
         };
         let Some(line) = next else {
-            return Ok(false);
+            return Ok(());
         };
         passage.before_record();
-        let Ok(()) = write_all(writer, line.as_slice()) else {
-            return Err(ExportFault::Write);
-        };
-        Ok(true)
+        match write_all(writer, line.as_slice()) {
+            Ok(()) => Ok(()),
+            Err(Broken) => Err(ExportFault::Write),
+        }
     }
 
     // Gives the next record and writes it by this writer of records, if it is a row's. Else nothing
@@ -225,9 +224,35 @@ impl Walk {
         Ok(())
     }
 
-    /// Gives all records to come and writes them. Before each, the last line too, the gate is
-    /// called with how many this call has given so far. An answer to EXPORT is written by one call,
-    /// from its first record on.
+    // Whether all records were given.
+    fn is_over(&self) -> bool
+        ensures { (result ≡ true) ↔ (self.now.to_come ≡ []) }
+    {
+        self.ended
+    }
+
+    /// Gives the next record and the rows that come behind it, so many as one writer of records
+    /// takes, and writes them. Whether records are still to come. Each record goes through the
+    /// passage, and the errors are those of [`Walk::write_to`].
+    pub(crate) fn write_some<W: Sink, G: Gate>(
+        &mut self,
+        writer: &mut W,
+        passage: &mut Passage<G>,
+    ) -> Result<bool, ExportFault>
+        requires { W.failed writer.old ≡ false }
+        ensures write { IsErrOf result ExportFault.Write ↔ (W.failed writer.new ≡ true) }
+        ensures more { IfOk result (λ more. (more ≡ false) ↔ (self.new.to_come ≡ [])) }
+        ensures ok { OnOk result
+            (WritesSome self.old self.new (W.taken writer.old) (W.taken writer.new)) }
+        ensures err { IfErr result
+            (λ fault. Stops fault self.old self.new (W.taken writer.old) (W.taken writer.new)) }
+    {
+        self.write_next(writer, passage)?;
+        self.write_rows(writer, passage)?;
+        Ok(!self.is_over())
+    }
+
+    /// Gives all records to come and writes them. Each, the last line too, goes through the passage.
     ///
     /// - `NoMemory` where a request for memory was refused: the records before it were given and
     ///   written, and the one that it was for comes next.
@@ -236,7 +261,7 @@ impl Walk {
     pub(crate) fn write_to<W: Sink, G: Gate>(
         &mut self,
         writer: &mut W,
-        gate: &G,
+        passage: &mut Passage<G>,
     ) -> Result<(), ExportFault>
         requires { W.failed writer.old ≡ false }
         ensures write { IsErrOf result ExportFault.Write ↔ (W.failed writer.new ≡ true) }
@@ -246,10 +271,7 @@ impl Walk {
         ensures err { IfErr result
             (λ fault. Stops fault self.old self.new (W.taken writer.old) (W.taken writer.new)) }
     {
-        let mut passage = Passage::new(gate);
-        while self.write_next(writer, &mut passage)? {
-            self.write_rows(writer, &mut passage)?;
-        }
+        while self.write_some(writer, passage)? {}
         Ok(())
     }
 }

@@ -1,7 +1,7 @@
 -- Answers to a line of which the front was kept, and to lines one after another.
-use Rattle.std.proofs.Common.{◌≤◌, ◌<◌, ◌+◌, ◌-◌, ℕ, List, [], ◌∷◌, ◌++◌, refl, sym, ap, ◌∙◌, append_assoc, append-nil, eqb, true, false, length, cond, take, arith, ⊎_elim, subst, get_or}
+use Rattle.std.proofs.Common.{◌≤◌, ◌<◌, ◌+◌, ◌-◌, ℕ, List, [], ◌∷◌, ◌++◌, refl, sym, ap, ◌∙◌, append_assoc, append-nil, eqb, true, false, map, length, cond, take, arith, ⊎_elim, subst, get_or}
 use Rattle.std.specs.Str.Lines.{strip_carriage_return}
-use Rattle.std.proofs.lemmas.List.{take_all, length-take}
+use Rattle.std.proofs.lemmas.List.{take_all, length-take, map-append}
 use Rattle.std.proofs.lemmas.Bool.{cases_lt}
 use Rattle.lines_core.specs.declared.line.TheConstants.{KEPT_BYTES, LONGEST_LINE}
 use Rattle.lines_core.specs.Serving.{AnswersAll}
@@ -19,6 +19,13 @@ module _ {X : Type 0} (R : X → List ℕ → List ℕ → X → Type 0) where
       subst (λ w. AnswersAll R w ys (text ++ more) new) p.1 (subst (λ t. AnswersAll R mid ys (t ++ more) new) (sym p.0) q)
   AnswersAll-append old mid new (x ∷ xs) ys text more p q =
       (p.0, p.1, p.2 ++ more, p.3, AnswersAll-append p.1 mid new xs ys p.2 more p.4 q, ap (λ t. t ++ more) p.5 ∙ append_assoc p.0 p.2 more)
+
+  -- the lines before, and then those of the next piece
+  pub AnswersAll-parts : (old mid new : X) (parts ended : List (List ℕ)) (text more : List ℕ) → AnswersAll R old (map strip_carriage_return parts) text mid
+      → AnswersAll R mid (map strip_carriage_return ended) more new → AnswersAll R old (map strip_carriage_return (parts ++ ended)) (text ++ more) new
+  AnswersAll-parts old mid new parts ended text more p q =
+      subst (λ ls. AnswersAll R old ls (text ++ more) new) (sym (map-append strip_carriage_return parts ended))
+      (AnswersAll-append old mid new (map strip_carriage_return parts) (map strip_carriage_return ended) text more p q)
 
   -- one line
   pub AnswersAll-one : (old new : X) (line text : List ℕ) → R old line text new → AnswersAll R old (line ∷ []) text new

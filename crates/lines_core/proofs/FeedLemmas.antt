@@ -1,8 +1,8 @@
 -- What each step of `feed` does.
-use Rattle.std.proofs.Common.{◌≡◌, ◌≢◌, ◌<◌, ◌+◌, ◌-◌, ℕ, List, [], ◌∷◌, ◌++◌, refl, sym, ap, ◌∙◌, append_assoc, append-nil, eqb, true, map, length, take, drop, arith, ⊎_elim, subst, get_or, Option, Some, None, eq-eqb}
+use Rattle.std.proofs.Common.{◌≡◌, ◌≢◌, ◌≤◌, ◌<◌, ◌+◌, ◌-◌, ℕ, zero, suc, List, [], ◌∷◌, ◌++◌, refl, sym, ap, ◌∙◌, append_assoc, append-nil, eqb, true, map, length, take, drop, arith, ⊎_elim, subst, get_or, Option, Some, None, eq-eqb}
 use Rattle.std.specs.Str.Lines.{strip_carriage_return}
 use Rattle.std.specs.Io.KnownBytes.{Keeps}
-use Rattle.std.proofs.lemmas.List.{take_all, length-take, take-take, take-append-le, take-append-drop, drop_more, get_or-take, map-append, take_rest, drop-drop}
+use Rattle.std.proofs.lemmas.List.{take_all, length-take, take-take, take-append-le, take-append-drop, take_more, drop_more, get_or-take, map-append, take_rest, drop-drop}
 use Rattle.std.proofs.lemmas.List.Elements.{All-from_get_or, recursion_from_All}
 use Rattle.std.proofs.lemmas.Bool.{cases_lt}
 use Rattle.std.proofs.lemmas.Bool.Decides.{nat_tests}
@@ -38,6 +38,11 @@ at_feed bytes end found =
     ∙ ap (λ x. take end bytes ++ x) (drop_more bytes end 0 found.0.high ∙ ap (λ b. b ∷ drop (end + 1) bytes) (eqb-true (get_or bytes end 0) 10 found.1))
     ∙ sym (append_assoc (take end bytes) (10 ∷ []) (drop (end + 1) bytes))
 
+-- the bytes up to behind the first line feed
+pub to_feed : (bytes : List ℕ) (end : ℕ) → IsFirstByte (is_byte 10) bytes (Some end) → take (end + 1) bytes ≡ take end bytes ++ 10 ∷ []
+to_feed bytes end found =
+    take_more bytes end 0 found.0.high ∙ ap (λ b. take end bytes ++ b ∷ []) (eqb-true (get_or bytes end 0) 10 found.1)
+
 -- what is added to the front of a line is added to the line
 pub kept-append : (n : ℕ) (a b : List ℕ) → take n (take n a ++ b) ≡ take n (a ++ b)
 kept-append n a b = ⊎_elim
@@ -45,7 +50,7 @@ kept-append n a b = ⊎_elim
     (λ h. ap (λ x. take n (x ++ b)) (take_all n a h))
     (cases_lt n (length a))
 
-kept_line : (now part kept line : List ℕ) → kept ≡ take KEPT_BYTES now → line ≡ take KEPT_BYTES (kept ++ part) → line ≡ take KEPT_BYTES (now ++ part)
+pub kept_line : (now part kept line : List ℕ) → kept ≡ take KEPT_BYTES now → line ≡ take KEPT_BYTES (kept ++ part) → line ≡ take KEPT_BYTES (now ++ part)
 kept_line now part kept line k e = e ∙ ap (λ x. take KEPT_BYTES (x ++ part)) k ∙ kept-append KEPT_BYTES now part
 
 -- the cut behind a line that ends in the piece
@@ -72,6 +77,17 @@ behind_feed done left behind piece end found b e =
 pub no_rest : (now kept : List ℕ) → kept ≡ take KEPT_BYTES now → length kept ≡ 0 → now ≡ []
 no_rest [] kept e none = refl
 no_rest (b ∷ bs) kept e none = absurd (omega (arith, ap length e, length-take KEPT_BYTES (b ∷ bs)))
+
+-- a front of what has no line feed has none
+front_clean : (k : ℕ) (bytes : List ℕ) → NoFeed bytes → NoFeed (take k bytes)
+front_clean zero bytes h = tt
+front_clean (suc k) [] h = tt
+front_clean (suc k) (b ∷ bs) h = (h.0, front_clean k bs h.1)
+
+-- what is kept of a line that has begun
+pub kept_clean : (now kept : List ℕ) → kept ≡ take KEPT_BYTES now → NoFeed now → NoFeed kept × (length kept ≤ KEPT_BYTES)
+kept_clean now kept e h =
+    (subst NoFeed (sym e) (front_clean KEPT_BYTES now h), omega (arith, ap length e, length-take KEPT_BYTES now))
 
 module _ {X : Type 0} (R : X → List ℕ → List ℕ → X → Type 0)
     (too_long : (old new : X) (line other text : List ℕ) → LONGEST_LINE < length line → LONGEST_LINE < length other → R old line text new → R old other text new) where

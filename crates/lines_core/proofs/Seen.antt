@@ -1,9 +1,9 @@
 -- A server's answers seen as those of another, while something holds of it.
-use Rattle.std.proofs.Common.{◌≡◌, ℕ, Bool, List, [], ◌∷◌, sym, ap, ◌∙◌, subst, inl, inr}
+use Rattle.std.proofs.Common.{◌≡◌, ℕ, Bool, List, [], ◌∷◌, ◌++◌, Option, map, sym, ap, ◌∙◌, subst, inl, inr}
 use Rattle.std.specs.Prelude.{Result, Ok, Err}
-use Rattle.std.specs.Str.Lines.{lines}
+use Rattle.std.specs.Str.Lines.{lines, strip_carriage_return}
 use Rattle.lines_core.specs.Lines.{whole_lines}
-use Rattle.lines_core.specs.Serving.{AnswersAll, AnswersInput, BreaksInput, WasOpen, Ends, Traffic}
+use Rattle.lines_core.specs.Serving.{AnswersAll, AnswersPiece, BreaksPiece, AnswersPart, BreaksPart, AnswersInput, BreaksInput, WasOpen, Ends, Traffic}
 use Rattle.lines_core.specs.declared.serving.SessionFault.{SessionFault}
 use Rattle.lines_core.specs.declared.serving.SessionFault.TheVariants as faults
 
@@ -15,6 +15,32 @@ module _ {X Y : Type 0} (R : X → List ℕ → List ℕ → X → Type 0) (S : 
       let one = step x mid l first i h in
       let rest = all-seen mid y ls more one.1 t in
       ((first, f mid, more, one.0, rest.0, e), rest.1)
+
+  pub piece-seen : (rest piece kept : List ℕ) (x y : X) (taken taken' : Option (List ℕ))
+      → Inv x → AnswersPiece R rest piece kept x y taken taken' → AnswersPiece S rest piece kept (f x) (f y) taken taken' × Inv y
+  piece-seen rest piece kept x y taken taken' i r =
+      let all = all-seen x y (map strip_carriage_return r.parts) r.text i r.answered in
+      (record { parts = r.parts; now = r.now; text = r.text; cut = r.cut; kept_is = r.kept_is; answered = all.0; wrote = r.wrote }, all.1)
+
+  pub break-seen : (rest piece : List ℕ) (x y : X) (taken taken' : Option (List ℕ))
+      → Inv x → BreaksPiece R rest piece x y taken taken' → BreaksPiece S rest piece (f x) (f y) taken taken' × Inv y
+  break-seen rest piece x y taken taken' i r =
+      let all = all-seen x y (map strip_carriage_return r.parts) r.text i r.answered in
+      (record { parts = r.parts; done = r.done; undone = r.undone; front = r.front; text = r.text; cut = r.cut; answered = all.0; wrote = r.wrote }, all.1)
+
+  pub part-seen : (rest piece kept : List ℕ) (x y : X) (taken taken' : Option (List ℕ))
+      → Inv x → AnswersPart R rest piece kept x y taken taken' → AnswersPart S rest piece kept (f x) (f y) taken taken' × Inv y
+  part-seen rest piece kept x y taken taken' i (inl r) =
+      (inl record { no_feed = r.no_feed; kept_is = r.kept_is; same = ap f r.same; unwritten = r.unwritten }, subst Inv (sym r.same) i)
+  part-seen rest piece kept x y taken taken' i (inr r) =
+      let one = step x y (strip_carriage_return (rest ++ r.part)) r.text i r.answered in
+      (inr record { part = r.part; text = r.text; piece_is = r.piece_is; no_feed = r.no_feed; kept_is = r.kept_is; answered = one.0; wrote = r.wrote }, one.1)
+
+  pub part_break-seen : (rest piece : List ℕ) (x y : X) (taken taken' : Option (List ℕ))
+      → Inv x → BreaksPart R rest piece x y taken taken' → BreaksPart S rest piece (f x) (f y) taken taken' × Inv y
+  part_break-seen rest piece x y taken taken' i r =
+      let one = step x y (strip_carriage_return (rest ++ r.part)) r.text i r.answered in
+      (record { part = r.part; behind = r.behind; text = r.text; piece_is = r.piece_is; no_feed = r.no_feed; answered = one.0; wrote = r.wrote }, one.1)
 
   pub input-seen : (lines_of : List ℕ → List (List ℕ)) (x y : X) (traffic : Traffic) (bytes : List ℕ)
       → Inv x → AnswersInput R lines_of x y traffic bytes → AnswersInput S lines_of (f x) (f y) traffic bytes × Inv y

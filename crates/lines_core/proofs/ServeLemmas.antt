@@ -1,17 +1,19 @@
 -- What each step of `serve` does, and what holds at its ends.
 use Rattle.std.proofs.Common.{◌≡◌, ◌≤◌, ◌<◌, ◌-◌, ◌^◌, ℕ, Bool, false, List, [], ◌∷◌, ◌++◌, refl, sym, ap, ◌∙◌, append_assoc, append-nil, map, length, take, arith, subst, inl, inr, Option}
+use Rattle.std.specs.List.{flat_map}
 use Rattle.std.specs.Str.Lines.{lines, strip_carriage_return}
 use Rattle.std.specs.Io.KnownBytes.{Consumes, Keeps, IsAtEnd}
-use Rattle.std.proofs.lemmas.List.{map-append, length-append}
+use Rattle.std.proofs.lemmas.List.{length-append}
 use Rattle.std.proofs.KnownBytes.{Appends-trans, Appends-kept, Consumes-trans, Consumes-kept, Consumes-nil}
 use Rattle.lines_core.specs.declared.line.TheConstants.{KEPT_BYTES, LONGEST_LINE}
 use Rattle.lines_core.specs.Lines.{Cut, NoFeed, whole_lines}
 use Rattle.lines_core.specs.Serving.{AnswersAll, AnswersPiece, BreaksPiece, AnswersInput, BreaksInput, HasServed, WasOpen, traffic_of}
 use Rattle.lines_core.proofs.LineLemmas.{Cut-append, lines-Cut, whole_lines-Cut, last_line}
-use Rattle.lines_core.proofs.AnswerLemmas.{AnswersAll-append, AnswersAll-one, R-kept}
-use Rattle.base_core.specs.Streams.{Writes, WritesFrontOf}
+use Rattle.lines_core.proofs.AnswerLemmas.{AnswersAll-append, AnswersAll-parts, AnswersAll-one, R-kept}
+use Rattle.base_core.specs.Streams.{WritesFront, Writes, WritesFrontOf}
 use Rattle.base_core.proofs.Fronts.{front-second}
 use Rattle.lines_core.proofs.FeedLemmas.{Feeds-none, no_rest}
+use Rattle.lines_core.proofs.Parts.{pieces-append}
 
 at_end : (left0 left1 left2 : Option (List ℕ)) (bytes : List ℕ) → Consumes left0 left1 bytes → Consumes left1 left2 [] → Consumes left0 left2 bytes
 at_end left0 left1 left2 bytes p q = subst (λ b. Consumes left0 left2 b) (append-nil bytes) (Consumes-trans left0 left1 left2 bytes [] p q)
@@ -20,13 +22,6 @@ module _ {X : Type 0} (R : X → List ℕ → List ℕ → X → Type 0)
     (too_long : (old new : X) (line other text : List ℕ) → LONGEST_LINE < length line → LONGEST_LINE < length other → R old line text new → R old other text new) where
   pub Serving-none : (start : X) (left taken : Option (List ℕ)) → HasServed R [] start start (2 ^ 32) (traffic_of left left taken taken)
   Serving-none start left taken = record { bytes = []; count = refl; read = Consumes-nil left; fed = Feeds-none R too_long [] [] start taken tt refl }
-
-  -- the answers to the lines before, and then to those of the piece
-  answers-parts : (start mid new : X) (text more : List ℕ) (parts ended : List (List ℕ)) → AnswersAll R start (map strip_carriage_return parts) text mid
-      → AnswersAll R mid (map strip_carriage_return ended) more new → AnswersAll R start (map strip_carriage_return (parts ++ ended)) (text ++ more) new
-  answers-parts start mid new text more parts ended p q =
-      subst (λ ls. AnswersAll R start ls (text ++ more) new) (sym (map-append strip_carriage_return parts ended))
-      (AnswersAll-append R start mid new (map strip_carriage_return parts) (map strip_carriage_return ended) text more p q)
 
   -- A piece was read, and fed behind what is kept.
   pub Serving-next : (kept line : List ℕ) (start mid new : X) (piece : List ℕ) (unread : ℕ) (left0 left1 left2 taken0 taken1 taken2 : Option (List ℕ))
@@ -37,15 +32,7 @@ module _ {X : Type 0} (R : X → List ℕ → List ℕ → X → Type 0)
     bytes = s.bytes ++ piece;
     count = omega (arith, length-append s.bytes piece, s.count);
     read = Consumes-trans left0 left1 left2 s.bytes piece s.read read;
-    fed = record {
-      parts = s.fed.parts ++ next.parts;
-      now = next.now;
-      text = s.fed.text ++ next.text;
-      cut = Cut-append s.bytes piece s.fed.parts next.parts s.fed.now next.now s.fed.cut next.cut;
-      kept_is = next.kept_is;
-      answered = answers-parts start mid new s.fed.text next.text s.fed.parts next.parts s.fed.answered next.answered;
-      wrote = Appends-trans taken0 taken1 taken2 s.fed.text next.text s.fed.wrote next.wrote;
-    };
+    fed = pieces-append R [] s.bytes piece kept line start mid new taken0 taken1 taken2 s.fed next;
   }
 
   pub Serving-more : (kept line : List ℕ) (start mid new : X) (piece : List ℕ) (unread : ℕ) (left0 left1 left2 taken0 taken1 taken2 : Option (List ℕ))
@@ -170,7 +157,7 @@ module _ {X : Type 0} (R : X → List ℕ → List ℕ → X → Type 0)
         text = s.fed.text ++ broken.text;
         line_end = inl (says ∙ sym (whole_lines-Cut (s.bytes ++ broken.done) (s.fed.parts ++ broken.parts) [] cut));
         answered = subst (λ ls. AnswersAll R start ls (s.fed.text ++ broken.text) new) (sym says)
-            (answers-parts start mid new s.fed.text broken.text s.fed.parts broken.parts s.fed.answered broken.answered);
+            (AnswersAll-parts R start mid new s.fed.parts broken.parts s.fed.text broken.text s.fed.answered broken.answered);
         read = subst (λ b. Consumes left0 left2 b) (ap (λ p. s.bytes ++ p) broken.front ∙ sym (append_assoc s.bytes broken.done broken.undone))
             (Consumes-trans left0 left1 left2 s.bytes piece s.read read);
         wrote = front-second taken0 taken1 taken2 s.fed.text broken.text s.fed.wrote broken.wrote;
@@ -182,3 +169,20 @@ module _ {X : Type 0} (R : X → List ℕ → List ℕ → X → Type 0)
       → BreaksInput R start new (traffic_of left0 left2 taken0 taken2)
   BrokenRun-piece kept start mid new piece unread left0 left1 left2 taken0 taken1 taken2 s read breaks =
       BrokenRun-next kept start mid new piece unread left0 left1 left2 taken0 taken1 taken2 s read (breaks s.fed.now s.fed.cut.open_rest s.fed.kept_is)
+
+  -- The writer failed behind the whole lines: what was written is a front of their answers.
+  pub BrokenRun-front : (kept : List ℕ) (start world : X) (unread : ℕ) (left0 left1 taken0 taken1 taken2 : Option (List ℕ))
+      → (s : HasServed R kept start world unread (traffic_of left0 left1 taken0 taken1)) → WritesFront taken0 taken2 s.fed.text
+      → BreaksInput R start world (traffic_of left0 left1 taken0 taken2)
+  BrokenRun-front kept start world unread left0 left1 taken0 taken1 taken2 s wrote =
+      let done = flat_map (λ (part : List ℕ). part ++ 10 ∷ []) s.fed.parts in
+      let cut : Cut done s.fed.parts [] = record { whole = sym (append-nil done); each = s.fed.cut.each; open_rest = tt } in
+      let says = lines-Cut done s.fed.parts [] cut ∙ append-nil (map strip_carriage_return s.fed.parts) in record {
+        done = done;
+        undone = s.fed.now;
+        text = s.fed.text;
+        line_end = inl (says ∙ sym (whole_lines-Cut done s.fed.parts [] cut));
+        answered = subst (λ ls. AnswersAll R start ls s.fed.text world) (sym says) s.fed.answered;
+        read = subst (λ b. Consumes left0 left1 b) s.fed.cut.whole s.read;
+        wrote = wrote;
+      }

@@ -5,7 +5,7 @@ use Rattle.std.specs.Prelude.{◌≡◌, ◌≢◌, ◌⊎◌, Bool, true, false
 use Rattle.std.specs.Str.Lines.{lines, strip_carriage_return}
 use Rattle.std.specs.Io.KnownBytes.{Appends, Consumes, Keeps, IsAtEnd}
 use Rattle.base_core.specs.Streams.{WritesFront}
-use Rattle.lines_core.specs.Lines.{Cut, whole_lines, IsWhole, IsCutOff}
+use Rattle.lines_core.specs.Lines.{Cut, NoFeed, whole_lines, IsWhole, IsCutOff}
 use Rattle.lines_core.specs.declared.line.TheConstants.{KEPT_BYTES}
 use Rattle.lines_core.specs.declared.serving.Ending.{Ending}
 use Rattle.lines_core.specs.declared.serving.Ending.TheVariants as endings
@@ -57,6 +57,44 @@ pub record BreaksPiece {X : Type 0} (answers : X → List ℕ → List ℕ → X
   pub text : List ℕ
   pub cut : Cut (rest ++ done) parts []
   pub answered : AnswersAll answers old (map strip_carriage_return parts) text new
+  pub wrote : WritesFront taken taken' text
+
+-- With rest before it, no line ends in the piece: the front of both is kept, and nothing was answered.
+pub record KeepsFront {X : Type 0} (rest piece kept : List ℕ) (old new : X)
+    (taken taken' : Option (List ℕ)) : Type 0 where
+  pub no_feed : NoFeed piece
+  pub kept_is : kept ≡ take KEPT_BYTES (rest ++ piece)
+  pub same : new ≡ old
+  pub unwritten : Keeps taken taken'
+
+-- With rest before it, the piece is the last part of a line and its line feed: the line was answered,
+-- and nothing is kept.
+pub record AnswersEndedLine {X : Type 0} (answers : X → List ℕ → List ℕ → X → Type 0)
+    (rest piece kept : List ℕ) (old new : X) (taken taken' : Option (List ℕ)) : Type 0 where
+  pub part : List ℕ
+  pub text : List ℕ
+  pub piece_is : piece ≡ part ++ 10 ∷ []
+  pub no_feed : NoFeed part
+  pub kept_is : kept ≡ []
+  pub answered : answers old (strip_carriage_return (rest ++ part)) text new
+  pub wrote : Appends taken taken' text
+
+-- The piece is a further front of the line that rest begins, or it ends that line, which was answered.
+abbrev pub AnswersPart : {X : Type 0} → (X → List ℕ → List ℕ → X → Type 0)
+    → (rest piece kept : List ℕ) → (old new : X) → (taken taken' : Option (List ℕ)) → Type 0
+AnswersPart answers rest piece kept old new taken taken' =
+    KeepsFront rest piece kept old new taken taken'
+    ⊎ AnswersEndedLine answers rest piece kept old new taken taken'
+
+-- The writer failed at the answer to the line that rest begins, which ends in the piece.
+pub record BreaksPart {X : Type 0} (answers : X → List ℕ → List ℕ → X → Type 0)
+    (rest piece : List ℕ) (old new : X) (taken taken' : Option (List ℕ)) : Type 0 where
+  pub part : List ℕ
+  pub behind : List ℕ
+  pub text : List ℕ
+  pub piece_is : piece ≡ part ++ 10 ∷ behind
+  pub no_feed : NoFeed part
+  pub answered : answers old (strip_carriage_return (rest ++ part)) text new
   pub wrote : WritesFront taken taken' text
 
 -- These bytes were read, and their lines, as lines_of cuts them, were answered.

@@ -5,10 +5,10 @@ ghost use Rattle.base_core.specs.Streams.{Writes, WritesFrontOf};
 ghost use Rattle.lines_core.specs.declared.line.TheConstants.{KEPT_BYTES};
 ghost use Rattle.lines_core.specs.Lines.{NoFeed};
 ghost use Rattle.lines_core.specs.Feeding.{unfed};
-ghost use Rattle.lines_core.specs.Serving.{AnswersPiece, BreaksPiece, ending_at};
+ghost use Rattle.lines_core.specs.Serving.{AnswersPiece, BreaksPiece, AnswersPart, BreaksPart, ending_at};
 
 use crate::line::Line;
-use crate::serving::{Ending, LineServer, MOST_BYTES, ending_at, feed, finish};
+use crate::serving::{Ending, LineServer, MOST_BYTES, ending_at, feed, feed_line, finish};
 use base_core::{Broken, Sink};
 use std::alloc::{AllocError, Global};
 use std::marker::Model;
@@ -92,6 +92,43 @@ impl Feeding {
         };
         self.unread -= piece.len() as u64;
         Ok(())
+    }
+
+    /// Answers the line that ends first in this piece, and takes the piece up to behind it; where none ends there,
+    /// takes all of it and keeps its front. How many bytes it took. Nothing is handed on. `Broken` where the
+    /// writer failed.
+    pub fn feed_line<D: LineServer, W: Sink>(
+        &mut self,
+        server: &mut D,
+        writer: &mut W,
+        piece: &[u8],
+    ) -> Result<usize, Broken>
+        requires sink { W.failed writer.old ≡ false }
+        requires room { length piece.now ≤ self.old.unread }
+        ensures failed { MatchResult result (λ _. W.failed writer.new ≡ false)
+            (λ _. W.failed writer.new ≡ true) }
+        ensures kept { NoFeed self.old.line × (length self.old.line ≤ KEPT_BYTES) }
+        ensures took { IfOk result (λ n. n ≤ length piece.now) }
+        ensures some { IfOk result (λ n. 0 < length piece.now → 0 < n) }
+        // Where no line ends, that is all.
+        ensures all { IfOk result (λ n. NoFeed (take n piece.now) → n ≡ length piece.now) }
+        ensures unread { IfOk result (λ n. self.new.unread + n ≡ self.old.unread) }
+        ensures fed { IfOk result (λ n. (rest : List ℕ) → NoFeed rest
+            → self.old.line ≡ take KEPT_BYTES rest
+            → AnswersPart D.answers rest (take n piece.now) self.new.line server.old server.new
+            (W.taken writer.old) (W.taken writer.new)) }
+        ensures broken { OnErr result ((rest : List ℕ) → NoFeed rest
+            → self.old.line ≡ take KEPT_BYTES rest
+            → BreaksPart D.answers rest piece.now server.old server.new
+            (W.taken writer.old) (W.taken writer.new)) }
+    {
+        let Ok(taken) = feed_line(server, &mut self.line, writer, piece) else {
+            // No line goes on from here.
+            self.line.clear();
+            return Err(Broken);
+        };
+        self.unread -= taken as u64;
+        Ok(taken)
     }
 
     /// Answers what is kept of a last line, at the end of the input: how that ended. `Broken` where the writer

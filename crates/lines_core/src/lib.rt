@@ -18,6 +18,9 @@
 //! [`serve_told`] is the same, and tells which end it came to: so a caller can refuse an input whose last
 //! line has no line feed. [`serve_whole`] answers no such line, and hands out its front.
 //!
+//! Whoever reads the input by other means gives each piece to a [`Feeding`]. A server that holds a reply which is
+//! not yet written whole is fed line by line, by [`Feeding::feed_line`], and so stops behind that line.
+//!
 //! [`fault_text`] and [`fault_name`] say what is told of a fault that ended the answering, [`audit_end`]
 //! how an audit ends, and [`give_up`] ends a process that could not go on. A [`Steady`] stream makes a call
 //! again that a signal interrupted, so that no signal ends the answering.

@@ -6,7 +6,7 @@ ghost use Rattle.base_core.specs.Streams.{Writes, WritesFrontOf, MayWrite};
 ghost use Rattle.lines_core.specs.declared.line.TheConstants.{KEPT_BYTES, LONGEST_LINE};
 ghost use Rattle.lines_core.specs.Lines.{NoFeed};
 ghost use Rattle.lines_core.specs.Feeding.{unfed};
-ghost use Rattle.lines_core.specs.Serving.{AnswersPiece, BreaksPiece, EndsReading, Ends, EndsTold, EndsWhole, ending_at, IsEndingAt, traffic_of};
+ghost use Rattle.lines_core.specs.Serving.{AnswersPiece, BreaksPiece, AnswersPart, BreaksPart, EndsReading, Ends, EndsTold, EndsWhole, ending_at, IsEndingAt, traffic_of};
 
 use crate::feeding::Feeding;
 use crate::line::{Line, without_carriage_return};
@@ -156,6 +156,36 @@ pub(crate) fn feed<D: LineServer, W: Sink>(
     flush_between_lines(line, writer)?;
     line.extend(left);
     Ok(())
+}
+
+/// Answers the line that ends first in the piece: how many bytes lead to behind it. Where none ends there, that is
+/// all of them, and the front is kept.
+pub(crate) fn feed_line<D: LineServer, W: Sink>(
+    server: &mut D,
+    line: &mut Line,
+    writer: &mut W,
+    piece: &[u8],
+) -> Result<usize, Broken>
+    requires { W.failed writer.old ≡ false }
+    ensures failed { MatchResult result (λ _. W.failed writer.new ≡ false)
+        (λ _. W.failed writer.new ≡ true) }
+    ensures took { IfOk result (λ n. n ≤ length piece.now) }
+    ensures all { IfOk result (λ n. NoFeed (take n piece.now) → n ≡ length piece.now) }
+    ensures ok { IfOk result (λ n. (rest : List ℕ) → NoFeed rest
+        → line.old ≡ take KEPT_BYTES rest
+        → AnswersPart D.answers rest (take n piece.now) line.new server.old server.new
+        (W.taken writer.old) (W.taken writer.new)) }
+    ensures err { OnErr result ((rest : List ℕ) → NoFeed rest
+        → line.old ≡ take KEPT_BYTES rest
+        → BreaksPart D.answers rest piece.now server.old server.new
+        (W.taken writer.old) (W.taken writer.new)) }
+{
+    let Some(end) = memchr(LINE_FEED, piece) else {
+        line.extend(piece);
+        return Ok(piece.len());
+    };
+    answer_line(server, line, writer, &piece[..end])?;
+    Ok(end + 1)
 }
 
 /// Reads at most `most` bytes to the front of the buffer.

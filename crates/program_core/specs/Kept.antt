@@ -8,7 +8,8 @@ use Rattle.journal_core.specs.declared.keeper.NoKeeper.{NoKeeper}
 use Rattle.script_core.specs.Keeping.{EndsKeptFrom}
 use Rattle.desk_core.specs.Guarded.{origin_at}
 use Rattle.desk_core.specs.Kept.{HasKept}
-use Rattle.server_core.specs.Entrance.{Admittance}
+use Rattle.session_core.specs.Parking.{SpeaksLines}
+use Rattle.door_core.specs.Entrance.{Admittance}
 use Rattle.server_core.specs.Sessions.{Leaves}
 use Rattle.command_core.specs.declared.users.UserSocketWord.{UserSocketWord}
 use Rattle.program_core.specs.declared.loading.Start.{Start}
@@ -62,11 +63,12 @@ module _ {W : Type 0} (taken handed_on : W → Option (List ℕ)) where
   abbrev pub IsServed : Admittance → (workers sessions : ℕ) → Start W → Kept W → Type 0
   IsServed admittance workers sessions start (places.Nowhere ended) =
       (start.journal ≡ None)
-      × Leaves admittance workers sessions nobody start.system ended.system
+      × Leaves SpeaksLines admittance workers sessions nobody start.system ended.system
   IsServed admittance workers sessions start (places.Lines ended) =
       (sink : W)
       × (start.journal ≡ Some sink)
-      × Leaves admittance workers sessions (owing_nothing sink) start.system ended.system
+      × Leaves SpeaksLines admittance workers sessions (owing_nothing sink) start.system
+      ended.system
       × HasKept (line_rules taken handed_on) (origin_at start.system (owing_nothing sink))
       ended.system.journal ended.keeper
 

@@ -4,6 +4,7 @@ ghost use Rattle.std.specs.Option.{is_some};
 ghost use Rattle.command_core.specs.Ranges.{ServesInRange};
 ghost use Rattle.desk_core.specs.Guarded.{origin_at};
 ghost use Rattle.desk_core.specs.Kept.{HasKept};
+ghost use Rattle.session_core.specs.Parking.{SpeaksLines};
 ghost use Rattle.server_core.specs.Sessions.{Leaves};
 ghost use Rattle.load_core.specs.Ready.{IsReady};
 ghost use Rattle.program_core.specs.Kept.{admittance_of, IsServed, ServesFrom};
@@ -20,11 +21,11 @@ use crate::recording::dump_to;
 use crate::users::login_of;
 use base_core::{Resume, Sink};
 use command_core::{Serving, UserSocketWord};
+use door_core::{Entrance, Login, Manners, ServeFault, Taken};
 use journal_core::{Keeper, NoKeeper};
 use lines_core::{NO_MEMORY, SessionFault, fault_text, give_up};
 use run_core::{Left, status_of};
 use script_core::{ScriptFault, script_fault_text};
-use server_core::{Entrance, Login, Manners, ServeFault, Taken};
 use serving_core::{Served, serve_on};
 use std::mem::forget;
 use std::process::ExitCode;
@@ -62,12 +63,14 @@ where
     ensures count { IfOk result
         (λ b. b.1.stopped ≡ false → b.1.sessions ≡ asked.entry.sessions) }
     ensures leaves { IfOk result
-        (λ b. Leaves entrance.now asked.entry.workers b.1.sessions keeper system b.0.system) }
+        (λ b. Leaves SpeaksLines entrance.now asked.entry.workers b.1.sessions keeper system
+        b.0.system) }
     ensures kept { IfOk result (λ b. HasKept K.Keeper (origin_at system keeper)
         b.0.system.journal b.0.keeper) }
 {
     let manners = Manners {
         idle: asked.idle.map(Duration::from_secs),
+        max_sessions: asked.max_sessions,
         log: asked.log,
         denials: asked.log_denials,
         times: asked.log_time,

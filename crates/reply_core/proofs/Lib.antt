@@ -2,3 +2,4 @@ pub mod Pushing
 pub mod Pieces
 pub mod Fields
 pub mod WritingLemmas
+pub mod PendingLemmas

@@ -14,6 +14,11 @@
 //! write_fault(&mut buffer, Code::Empty, 0, &mut writer)?;          // error 1 at 0: empty
 //! ```
 //!
+//! A reply can be written in pieces, so that nobody has to wait for a slow client. [`begin_reply`]
+//! writes the first of it and gives what is [`Pending`], and each [`Pending::go_on`] writes some
+//! more, until nothing is pending. What they write, one after another, is a text that `write_reply`
+//! may write of the reply (`specs/Pending.antt`).
+//!
 //! Lines are made in a [`ReplyBuffer`], which is made once, with room for every line but those of
 //! rows and of an export's records; rows are written straight from the values that they share with
 //! the table. So every reply is told whatever memory there is, however many its rows, and only an
@@ -25,10 +30,12 @@
 
 mod buffer;
 mod gathered;
+mod pending;
 mod records;
 mod wording;
 mod writing;
 
 pub use buffer::ReplyBuffer;
 pub use gathered::{Gathered, reply_text};
+pub use pending::{Pending, begin_reply, write_rest};
 pub use writing::{write_done, write_fault, write_reply, write_unread};

@@ -14,12 +14,12 @@ use system_core::Reply;
 
 const UNREAD: &[u8] = b"refused: no memory\n";
 
-const CUT: &[u8] = b"export cut: no memory\n";
+pub(crate) const CUT: &[u8] = b"export cut: no memory\n";
 
 /// Writes the records of an export, as far as there is memory.
 // By itself, so that no other reply takes the room for it.
 #[inline(never)]
-fn write_ticket<W: Sink, G: Gate>(
+pub(crate) fn write_ticket<W: Sink, G: Gate>(
     mut ticket: Ticket,
     writer: &mut W,
     gate: &G,

@@ -1,2 +1,2 @@
 pub mod SamePass
-pub mod Unserved
+pub mod Pieces

@@ -1,36 +1,54 @@
--- Sessions keep the pass that they go through.
-use Rattle.std.proofs.Common.{◌≡◌, ℕ, ◌+◌, refl, sym, subst, ◌∙◌, inl, inr}
-use Rattle.std.specs.Prelude.{Result, Ok, Err}
-use Rattle.lines_core.specs.Serving.{Traffic}
-use Rattle.session_core.specs.declared.session_end.SessionEnd.{SessionEnd}
-use Rattle.session_core.specs.declared.session_end.SessionEnd.TheVariants as session_ends
-use Rattle.session_core.specs.declared.summary.Summary.{Summary}
+-- Who goes on with sessions keeps his pass.
+use Rattle.std.proofs.Common.{◌≡◌, ℕ, ◌+◌, ◌⊎◌, refl, sym, ap, subst, ◌∙◌, inl, inr}
 use Rattle.turnstile.specs.Passes.{IsSamePass}
 use Rattle.desk_core.specs.Guarded.{DeskLock, DeskPass}
-use Rattle.session_core.specs.Session.{SessionState, EndsBy}
-use Rattle.session_core.proofs.Sessions.{same_pass}
-use Rattle.session_core.specs.declared.admission.Admission.{Admission}
-use Rattle.server_core.specs.Entrance.{Admittance}
-use Rattle.server_core.specs.Sessions.{Attends, Working, Attended, nobody, another}
+use Rattle.session_core.specs.Machines.{Protocol}
+use Rattle.door_core.specs.Entrance.{Admittance}
+use Rattle.server_core.specs.Sessions.{ServesPiece, ServesPieces, no_piece, next_piece, Working, Attended, nobody, admitted, went_on}
 
-ends_same : {K : Type 0} (desk : DeskLock K) (admission : Admission) (ending : Result (Unit {0}) SessionEnd) (last : SessionState K) (old new : DeskPass K) (traffic : Traffic) → EndsBy desk admission ending last old new traffic → IsSamePass old new
-ends_same desk admission (Ok x) last old new _ (fine, at) = same_pass last.user old new at.gained
-ends_same desk admission (Err (session_ends.Session fault)) last old new _ (fine, at) = same_pass last.user old new at.gained
-ends_same desk admission (Err session_ends.Journal) last old new _ (unkept, inl at) = same_pass last.user old new at.gained
-ends_same desk admission (Err session_ends.Journal) last old new _ (unkept, inr at) = same_pass last.user old new at.gained
+pub piece_same : {K : Type 0} (protocol : Protocol K) (by : Admittance) (desk : DeskLock K) (old new : DeskPass K) → ServesPiece protocol by desk old new → IsSamePass old new
+piece_same protocol by desk old new (inl same) = (ap (λ p. p.lock) same, ap (λ p. p.number) same)
+piece_same protocol by desk old new (inr (same, attends)) = same
 
-pub attends_same : {K : Type 0} (by : Admittance) (desk : DeskLock K) (summary : Summary) (old new : DeskPass K) → Attends by desk summary old new → IsSamePass old new
-attends_same by desk summary old new a = ends_same desk a.admission summary.ended a.ends.last old new a.traffic a.ends.ends
+pub attended_same : {K : Type 0} (protocol : Protocol K) (by : Admittance) (desk : DeskLock K) (old new : Working K) → Attended protocol by desk old new → IsSamePass old.pass new.pass
+attended_same protocol by desk old _ nobody = (refl, refl)
+attended_same protocol by desk old _ (admitted between before) = attended_same protocol by desk old between before
+attended_same protocol by desk old _ (went_on between pass before same session) =
+    let first = attended_same protocol by desk old between before in
+    (same.0 ∙ first.0, same.1 ∙ first.1)
 
-pub attended_same : {K : Type 0} (by : Admittance) (desk : DeskLock K) (old new : Working K) → Attended by desk old new → IsSamePass old.pass new.pass
-attended_same by desk old _ nobody = (refl, refl)
-attended_same by desk old _ (another summary between pass before session) =
-    let first = attended_same by desk old between before in
-    let second = attends_same by desk summary between.pass pass session in
-    (second.0 ∙ first.0, second.1 ∙ first.1)
+-- one piece more, or none
+pub piece_then : {K : Type 0} (protocol : Protocol K) (by : Admittance) (desk : DeskLock K) (old between new : DeskPass K) → ServesPieces protocol by desk old between → ServesPiece protocol by desk between new → ServesPieces protocol by desk old new
+piece_then protocol by desk old between new before (inl same) = subst (ServesPieces protocol by desk old) (sym same) before
+piece_then protocol by desk old between new before (inr (same, session)) = next_piece between new before same session
 
--- one more session was served through the pass
-pub attended_more : {K : Type 0} (by : Admittance) (desk : DeskLock K) (old between : Working K) (summary : Summary) (pass : DeskPass K) (sessions : ℕ) → sessions ≡ between.sessions + 1
-    → Attended by desk old between → Attends by desk summary between.pass pass → Attended by desk old (record { pass = pass; sessions = sessions })
-attended_more by desk old between summary pass sessions counted before session =
-    subst (λ n. Attended by desk old (record { pass = pass; sessions = n })) (sym counted) (another summary between pass before session)
+pub one_piece : {K : Type 0} (protocol : Protocol K) (by : Admittance) (desk : DeskLock K) (old new : DeskPass K) → ServesPiece protocol by desk old new → ServesPieces protocol by desk old new
+one_piece protocol by desk old new served = piece_then protocol by desk old old new no_piece served
+
+pub pieces_same : {K : Type 0} (protocol : Protocol K) (by : Admittance) (desk : DeskLock K) (old new : DeskPass K) → ServesPieces protocol by desk old new → IsSamePass old new
+pieces_same protocol by desk old _ no_piece = (refl, refl)
+pieces_same protocol by desk old _ (next_piece between new before same session) =
+    let first = pieces_same protocol by desk old between before in
+    (same.0 ∙ first.0, same.1 ∙ first.1)
+
+-- some pieces more
+pub pieces_then : {K : Type 0} (protocol : Protocol K) (by : Admittance) (desk : DeskLock K) (old between new : DeskPass K) → ServesPieces protocol by desk old between → ServesPieces protocol by desk between new
+    → ServesPieces protocol by desk old new
+pieces_then protocol by desk old between _ before no_piece = before
+pieces_then protocol by desk old between new before (next_piece mid _ pieces same session) =
+    next_piece mid new (pieces_then protocol by desk old between mid before pieces) same session
+
+-- the worker has gone on with some pieces more
+pub attended_pieces : {K : Type 0} (protocol : Protocol K) (by : Admittance) (desk : DeskLock K) (old between : Working K) (pass : DeskPass K) → Attended protocol by desk old between → ServesPieces protocol by desk between.pass pass
+    → Attended protocol by desk old (record { pass = pass; sessions = between.sessions })
+attended_pieces protocol by desk old between _ before no_piece = before
+attended_pieces protocol by desk old between pass before (next_piece mid new pieces same session) =
+    went_on (record { pass = mid; sessions = between.sessions }) pass (attended_pieces protocol by desk old between mid before pieces) same session
+
+-- he was admitted one more, or none
+pub attended_count : {K : Type 0} (protocol : Protocol K) (by : Admittance) (desk : DeskLock K) (old between : Working K) (sessions : ℕ) → Attended protocol by desk old between
+    → (sessions ≡ between.sessions) ⊎ (sessions ≡ between.sessions + 1) → Attended protocol by desk old (record { pass = between.pass; sessions = sessions })
+attended_count protocol by desk old between sessions before (inl same) =
+    subst (λ n. Attended protocol by desk old (record { pass = between.pass; sessions = n })) (sym same) before
+attended_count protocol by desk old between sessions before (inr more) =
+    subst (λ n. Attended protocol by desk old (record { pass = between.pass; sessions = n })) (sym more) (admitted between before)

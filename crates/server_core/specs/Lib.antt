@@ -1,10 +1,8 @@
-pub mod Door
-pub mod Entrance
 pub mod Sessions
-pub mod Telling
 pub use Rattle.turnstile.specs.Passes
 pub use Rattle.turnstile.specs.Closed
 pub use Rattle.system_core.specs.World
 pub use Rattle.desk_core.specs.Turns
 pub use Rattle.session_core.specs.Checking
 pub use Rattle.session_core.specs.Session
+pub use Rattle.door_core.specs.Entrance

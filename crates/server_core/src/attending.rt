@@ -1,131 +1,421 @@
-//! One session over a socket.
-ghost use Rattle.std.specs.Prelude.{◌≡◌, None, Some, Err};
-ghost use Rattle.server_core.specs.Entrance.{MayPass};
-ghost use Rattle.server_core.specs.Sessions.{IsOf, Attends};
+//! A worker goes on with a guest.
+ghost use Rattle.std.specs.Prelude.{◌≡◌, [], Some};
+ghost use Rattle.server_core.specs.Sessions.{IsOf, ServesPieces};
 
+use crate::connection::Connection;
+use crate::conversing::{Spoken, converse};
 use crate::counting::Counting;
-use crate::door::Guest;
-use crate::keepalive::keep_alive;
-use crate::log::Log;
-use crate::permit::{Permit, Yielding};
+use crate::guest::{Guest, Stage};
+use crate::hearing::{Heard, hear};
+use crate::instance::Instance;
+use crate::leaving::{dismiss, end_behind, hear_out, leave, refuse, rest, stop, wait};
+use crate::outbox::Outbox;
+use crate::parked_session::{ParkedSession, Progress};
+use crate::permit::Permit;
+use crate::room::{PIECE_BYTES, Room, Speech};
 use crate::service::Service;
-use crate::timed::Timed;
-use crate::unsent::Unsent;
-use crate::until_stopped::UntilStopped;
-use base_core::{StdSink, StdSource};
+use base_core::{Name, Unbuffered};
 use desk_core::{Desk, Pass};
+use door_core::Log;
 use journal_core::Keeper;
-use lines_core::Steady;
-use session_core::{SessionEnd, SessionFault, Summary, serve_admitted};
+use login_core::Beginning;
+use reply_core::Pending;
+use session_core::{SessionEnd, SessionFault, Summary};
 use std::alloc::Global;
-use std::cell::Cell;
-use std::io::{BufWriter, Read};
-use std::net::{Shutdown, TcpStream};
 use std::sync::Wait;
-use std::time::{Clock, Duration};
+use std::time::Clock;
 
-// What is gathered of a session's replies before it is written.
-const OUTPUT_BYTES: usize = 65536;
+// Behind so many rounds a session that goes on at once has others go first.
+const ROUNDS: u32 = 8;
 
-// How often, and how many milliseconds each time, it waits for a client that still writes.
-const LAST_READS: u32 = 64;
-
-const LAST_MILLIS: u64 = 100;
-
-/// Ends the stream so that the client can read what was written. To close it while bytes of the
-/// client are unread would reset it, and the client would lose the last replies.
-fn let_go(stream: &TcpStream) {
-    if stream.shutdown(Shutdown::Write).is_err() {
-        return;
-    }
-    // A stream that refuses the limit is read without one.
-    let _ = stream.set_read_timeout(Some(Duration::from_millis(LAST_MILLIS)));
-    let mut rest = Steady::new(stream);
-    let mut bytes = [0; 1024];
-    for _ in 0..LAST_READS {
-        match rest.read(&mut bytes) {
-            Ok(0) | Err(_) => return,
-            Ok(_) => {}
-        }
-    }
+/// What comes of what a client has sent.
+#[derive(Drop)]
+enum Outcome<K: Keeper + Drop, I: Instance<K>> {
+    /// His session goes on, behind these bytes. He may have sent more by now.
+    GoesOn(ParkedSession<K, I>, Vec<u8>),
+    /// It goes on, behind these bytes, once he sends or takes more, or others have had their turn.
+    Waits(ParkedSession<K, I>, Vec<u8>),
+    /// It has ended, once this is written, if anything is still to be.
+    Ended(Summary, Option<Pending>),
+    /// It has ended as the server was stopped.
+    Stopped(Summary),
+    /// His login was refused, that of this user, if he has said who he is.
+    Refused(Option<Name>),
+    /// It was not whole in time.
+    Late(Option<Name>),
 }
 
-/// What is told of a session for which there was no memory.
-fn unserved() -> Summary
-    ensures { result ≡ record {
-      user = None;
-      lines = 0;
-      moment = None;
-      ended = Err (SessionEnd.Session SessionFault.NoMemory);
-    } }
-{
-    Summary {
-        user: None,
-        lines: 0,
-        moment: None,
-        ended: Err(SessionEnd::Session(SessionFault::NoMemory)),
-    }
-}
-
-/// Serves one session to its end, through the pass and through nothing else. It comes by its user
-/// as the passage of the guest says: where he has logged in, it reads first what was read of him,
-/// and what he was sent is not sent again. A read or a write that waits for longer than the service
-/// lets it is its fault, and is noted as late; and so is the end of its input where the server was
-/// stopped, which is noted too. No permit is held before and behind the call.
-pub(crate) fn attend<K: Keeper + Drop, R: Wait + Clock, G: Log>(
+/// Goes on with a session by bytes that its client has sent. Those that are left are kept.
+fn answer<K: Keeper + Drop, I: Instance<K>, R: Wait + Clock, G: Log>(
     rt: &R,
     alloc: Global,
     desk: &Desk<K>,
     pass: &mut Pass<K>,
-    guest: &Guest,
-    service: &Service<'_>,
+    connection: &Connection,
+    session: ParkedSession<K, I>,
+    speech: &mut Speech,
+    piece: &[u8],
+    service: &Service<'_, K, I>,
     log: &G,
-    is_late: &Cell<bool>,
-    was_stopped: &Cell<bool>,
-) -> Summary
+) -> Outcome<K, I>
+    requires desk { I.desk ≡ Some desk.now }
     requires pass { IsOf desk.now pass.old }
-    requires right { MayPass service.now.entrance.now guest.now.passage }
-    ensures { Attends service.now.entrance.now desk.now result pass.old pass.new }
+    ensures { ServesPieces I.Session.protocol I.by desk.now pass.old pass.new }
 {
-    let (stream, sign, passage) = (&guest.stream, &service.sign, &guest.passage);
-    let admission = passage.admission();
-    // A stream that refuses such a setting serves as well.
-    let _ = stream.set_nodelay(true);
-    let _ = stream.set_read_timeout(service.idle);
-    let _ = stream.set_write_timeout(service.idle);
-    keep_alive(stream);
-    sign.enter(rt, stream);
     let permit = Permit::new(rt, &service.permits);
-    let unsent = Unsent::new(passage.sent(), Steady::new(stream));
-    let output = Yielding::new(&permit, Timed::new(is_late, unsent));
-    let Ok(buffered) = BufWriter::with_capacity(alloc, OUTPUT_BYTES, output) else {
-        sign.leave(rt, stream);
-        return unserved();
-    };
-    let timed = Timed::new(is_late, passage.read().chain(Steady::new(stream)));
-    let input = Yielding::new(&permit, UntilStopped::new(sign, was_stopped, timed));
-    let mut reader = StdSource::new(input);
-    let mut writer = StdSink::new(buffered);
     let gate = Counting::new(
         rt,
         &permit,
         &service.counters,
         &service.bell,
         log,
-        guest.number,
+        connection.client.number,
     );
-    let summary = serve_admitted(
+    permit.run();
+    let spoken = converse(
+        rt, alloc, desk, pass, connection, session, speech, piece, service, &gate,
+    );
+    permit.rest();
+    match spoken {
+        Spoken::Waits(session, taken) => {
+            let mut left = Vec::new(alloc);
+            match left.extend_from_slice(&piece[taken.min(piece.len())..]) {
+                Ok(()) => Outcome::GoesOn(session, left),
+                Err(_) => Outcome::Ended(session.fails(SessionFault::NoMemory), None),
+            }
+        }
+        Spoken::Ended(summary, owed) => Outcome::Ended(summary, owed),
+        Spoken::Refused(claimed) => Outcome::Refused(claimed),
+    }
+}
+
+/// The same, but that others have their turn behind as much as is read at once.
+fn answer_piece<K: Keeper + Drop, I: Instance<K>, R: Wait + Clock, G: Log>(
+    rt: &R,
+    alloc: Global,
+    desk: &Desk<K>,
+    pass: &mut Pass<K>,
+    connection: &Connection,
+    session: ParkedSession<K, I>,
+    speech: &mut Speech,
+    piece: &[u8],
+    service: &Service<'_, K, I>,
+    log: &G,
+) -> Outcome<K, I>
+    requires desk { I.desk ≡ Some desk.now }
+    requires pass { IsOf desk.now pass.old }
+    ensures { ServesPieces I.Session.protocol I.by desk.now pass.old pass.new }
+{
+    let outcome = answer(
+        rt, alloc, desk, pass, connection, session, speech, piece, service, log,
+    );
+    if piece.len() < PIECE_BYTES {
+        return outcome;
+    }
+    in_turn(outcome)
+}
+
+/// Goes on with a session by what is left of what its client has sent.
+fn answer_left<K: Keeper + Drop, I: Instance<K>, R: Wait + Clock, G: Log>(
+    rt: &R,
+    alloc: Global,
+    desk: &Desk<K>,
+    pass: &mut Pass<K>,
+    connection: &Connection,
+    session: ParkedSession<K, I>,
+    left: Vec<u8>,
+    room: &mut Room,
+    service: &Service<'_, K, I>,
+    log: &G,
+) -> Outcome<K, I>
+    requires desk { I.desk ≡ Some desk.now }
+    requires pass { IsOf desk.now pass.old }
+    ensures { ServesPieces I.Session.protocol I.by desk.now pass.old pass.new }
+{
+    let Room { speech, .. } = room;
+    let piece = left.as_slice();
+    answer(
+        rt, alloc, desk, pass, connection, session, speech, piece, service, log,
+    )
+}
+
+/// Answers the last line of a session, whose client sends nothing more.
+fn finish<K: Keeper + Drop, I: Instance<K>, R: Wait + Clock, G: Log>(
+    rt: &R,
+    alloc: Global,
+    desk: &Desk<K>,
+    pass: &mut Pass<K>,
+    connection: &Connection,
+    session: ParkedSession<K, I>,
+    speech: &mut Speech,
+    service: &Service<'_, K, I>,
+    log: &G,
+) -> Outcome<K, I>
+    requires desk { I.desk ≡ Some desk.now }
+    requires pass { IsOf desk.now pass.old }
+    ensures { ServesPieces I.Session.protocol I.by desk.now pass.old pass.new }
+{
+    let Speech { output, scratch } = speech;
+    let permit = Permit::new(rt, &service.permits);
+    let gate = Counting::new(
+        rt,
+        &permit,
+        &service.counters,
+        &service.bell,
+        log,
+        connection.client.number,
+    );
+    let mut writer = Unbuffered::new(Outbox::new(output));
+    permit.run();
+    let progress = session.finish(rt, alloc, desk, pass, scratch, &mut writer, &gate);
+    permit.rest();
+    match progress {
+        Progress::Ended { summary, owed, .. } => Outcome::Ended(summary, owed),
+        Progress::Parked(session, _) => Outcome::Ended(session.fails(SessionFault::Read), None),
+    }
+}
+
+/// The same, but that a session waits which may have gone on at once.
+fn in_turn<K: Keeper + Drop, I: Instance<K>>(outcome: Outcome<K, I>) -> Outcome<K, I> {
+    match outcome {
+        Outcome::GoesOn(session, left) => Outcome::Waits(session, left),
+        outcome => outcome,
+    }
+}
+
+/// What comes of a session whose client sent nothing for too long.
+fn late<K: Keeper + Drop, I: Instance<K>>(session: ParkedSession<K, I>) -> Outcome<K, I> {
+    if session.is_logging_in() {
+        let claimed = session.begun().map(Beginning::user);
+        return Outcome::Late(claimed);
+    }
+    Outcome::Ended(session.fails(SessionFault::Read), None)
+}
+
+/// Goes on with a session by what its client has sent, if he has.
+fn speak<K: Keeper + Drop, I: Instance<K>, R: Wait + Clock, G: Log>(
+    rt: &R,
+    alloc: Global,
+    desk: &Desk<K>,
+    pass: &mut Pass<K>,
+    connection: &Connection,
+    session: ParkedSession<K, I>,
+    room: &mut Room,
+    service: &Service<'_, K, I>,
+    log: &G,
+) -> Outcome<K, I>
+    requires desk { I.desk ≡ Some desk.now }
+    requires pass { IsOf desk.now pass.old }
+    ensures { ServesPieces I.Session.protocol I.by desk.now pass.old pass.new }
+{
+    let Room { input, speech } = room;
+    match hear(&connection.stream, input.as_mut_slice()) {
+        Heard::Piece(count) => {
+            let piece = &input[..count.min(input.len())];
+            answer_piece(
+                rt, alloc, desk, pass, connection, session, speech, piece, service, log,
+            )
+        }
+        Heard::End if service.sign.is_stopped() => {
+            Outcome::Stopped(session.fails(SessionFault::Read))
+        }
+        Heard::End => finish(
+            rt, alloc, desk, pass, connection, session, speech, service, log,
+        ),
+        Heard::Failed => Outcome::Ended(session.fails(SessionFault::Read), None),
+        Heard::Nothing if connection.is_late.get() => late(session),
+        Heard::Nothing => Outcome::Waits(session, Vec::new(alloc)),
+    }
+}
+
+/// Goes on with a session by what it owes and what is left of what its client has sent, and else by what he
+/// sends now.
+fn go_further<K: Keeper + Drop, I: Instance<K>, R: Wait + Clock, G: Log>(
+    rt: &R,
+    alloc: Global,
+    desk: &Desk<K>,
+    pass: &mut Pass<K>,
+    connection: &Connection,
+    session: ParkedSession<K, I>,
+    left: Vec<u8>,
+    room: &mut Room,
+    service: &Service<'_, K, I>,
+    log: &G,
+) -> Outcome<K, I>
+    requires desk { I.desk ≡ Some desk.now }
+    requires pass { IsOf desk.now pass.old }
+    ensures { ServesPieces I.Session.protocol I.by desk.now pass.old pass.new }
+{
+    if session.is_owing() || !left.is_empty() {
+        return answer_left(
+            rt, alloc, desk, pass, connection, session, left, room, service, log,
+        );
+    }
+    speak(
+        rt, alloc, desk, pass, connection, session, room, service, log,
+    )
+}
+
+/// What is told of a session that has ended, and whose last answers its client did not take.
+fn untaken(summary: Summary) -> Summary {
+    let write = Err(SessionEnd::Session(SessionFault::Write));
+    let ended = summary.ended.and(write);
+    Summary { ended, ..summary }
+}
+
+/// The same, where there was no memory for what the client has not taken, or his connection is gone. That
+/// is the fault of the session, if it had none.
+fn unheard<K: Keeper + Drop, I: Instance<K>>(outcome: Outcome<K, I>) -> Outcome<K, I> {
+    match in_turn(outcome) {
+        Outcome::Waits(session, left) => {
+            drop(left);
+            Outcome::Ended(session.fails(SessionFault::Write), None)
+        }
+        Outcome::Ended(summary, owed) => {
+            drop(owed);
+            Outcome::Ended(untaken(summary), None)
+        }
+        outcome => outcome,
+    }
+}
+
+/// Sends what a session has written before, and then goes on with it.
+fn go_on<K: Keeper + Drop, I: Instance<K>, R: Wait + Clock, G: Log>(
+    rt: &R,
+    alloc: Global,
+    desk: &Desk<K>,
+    pass: &mut Pass<K>,
+    connection: &mut Connection,
+    session: ParkedSession<K, I>,
+    left: Vec<u8>,
+    room: &mut Room,
+    service: &Service<'_, K, I>,
+    log: &G,
+) -> Outcome<K, I>
+    requires desk { I.desk ≡ Some desk.now }
+    requires pass { IsOf desk.now pass.old }
+    requires nothing { room.old ≡ [] }
+    ensures pieces { ServesPieces I.Session.protocol I.by desk.now pass.old pass.new }
+    ensures handed_on { room.new ≡ [] }
+{
+    if !connection.send() {
+        return Outcome::Ended(session.fails(SessionFault::Write), None);
+    }
+    if !connection.unsent.is_empty() {
+        return Outcome::Waits(session, left);
+    }
+    let outcome = go_further(
+        rt, alloc, desk, pass, connection, session, left, room, service, log,
+    );
+    if let Outcome::Refused(_) = outcome {
+        // What he is told waits. Without memory for it he is told nothing.
+        let _ = connection.keep(&mut room.speech.output);
+        return outcome;
+    }
+    if !connection.hand_on(&mut room.speech.output) {
+        return unheard(outcome);
+    }
+    if connection.unsent.is_empty() {
+        return outcome;
+    }
+    in_turn(outcome)
+}
+
+/// Goes on with a guest by what he has sent by now, and gives him back where he may have sent more since.
+/// Else he waits for it, or has left. What was gathered for him is handed on, or dropped: it is no other
+/// guest's.
+fn attend_once<K: Keeper + Drop, I: Instance<K>, R: Wait + Clock, G: Log>(
+    rt: &R,
+    alloc: Global,
+    desk: &Desk<K>,
+    pass: &mut Pass<K>,
+    guest: Guest<K, I>,
+    room: &mut Room,
+    service: &Service<'_, K, I>,
+    log: &G,
+) -> Option<Guest<K, I>>
+    requires desk { I.desk ≡ Some desk.now }
+    requires pass { IsOf desk.now pass.old }
+    requires nothing { room.old ≡ [] }
+    ensures pieces { ServesPieces I.Session.protocol I.by desk.now pass.old pass.new }
+    ensures handed_on { room.new ≡ [] }
+{
+    let Guest {
+        mut connection,
+        stage,
+    } = guest;
+    let (session, left) = match stage {
+        Stage::Speaking(session, left) => (session, left),
+        Stage::Hearing(pending, summary) => {
+            let owed = Some(pending);
+            let speech = &mut room.speech;
+            end_behind(rt, connection, owed, summary, speech, service, log);
+            return None;
+        }
+        Stage::Refused => {
+            leave(rt, connection, service);
+            return None;
+        }
+        Stage::Leaving => {
+            hear_out(rt, connection, &mut room.input, service);
+            return None;
+        }
+    };
+    let outcome = go_on(
         rt,
         alloc,
         desk,
         pass,
-        &admission,
-        &mut reader,
-        &mut writer,
-        &gate,
+        &mut connection,
+        session,
+        left,
+        room,
+        service,
+        log,
     );
-    permit.rest();
-    sign.leave(rt, stream);
-    let_go(stream);
-    summary
+    match outcome {
+        Outcome::GoesOn(session, left) => {
+            connection.is_late.set(false);
+            let stage = Stage::Speaking(session, left);
+            return Some(Guest { connection, stage });
+        }
+        Outcome::Waits(session, left) => wait(rt, connection, session, left, service, log),
+        Outcome::Ended(summary, owed) => {
+            let speech = &mut room.speech;
+            end_behind(rt, connection, owed, summary, speech, service, log);
+        }
+        Outcome::Stopped(summary) => stop(rt, connection, summary, service, log),
+        Outcome::Refused(claimed) => refuse(rt, connection, claimed, service, log),
+        Outcome::Late(claimed) => dismiss(rt, connection, claimed, service, log),
+    }
+    None
+}
+
+/// Goes on with a guest, as far as that goes without waiting for him, and has him wait then. Most who wait
+/// for an answer send the next line as soon as they have it, so it looks for that first. Behind some
+/// rounds others have their turn.
+pub(crate) fn attend<K: Keeper + Drop, I: Instance<K>, R: Wait + Clock, G: Log>(
+    rt: &R,
+    alloc: Global,
+    desk: &Desk<K>,
+    pass: &mut Pass<K>,
+    guest: Guest<K, I>,
+    room: &mut Room,
+    service: &Service<'_, K, I>,
+    log: &G,
+)
+    requires desk { I.desk ≡ Some desk.now }
+    requires pass { IsOf desk.now pass.old }
+    requires nothing { room.old ≡ [] }
+    ensures pieces { ServesPieces I.Session.protocol I.by desk.now pass.old pass.new }
+    ensures handed_on { room.new ≡ [] }
+{
+    let mut guest = guest;
+    for _ in 0..ROUNDS {
+        match attend_once(rt, alloc, desk, pass, guest, room, service, log) {
+            Some(next) => guest = next,
+            None => return,
+        }
+    }
+    rest(rt, guest, service, log);
 }

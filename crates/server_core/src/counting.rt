@@ -2,9 +2,9 @@
 
 use crate::bell::Bell;
 use crate::counters::Counters;
-use crate::log::Log;
 use crate::permit::Permit;
 use base_core::{Gate, Moment, User};
+use door_core::Log;
 use reader_core::Statement;
 use session_core::Witness;
 use std::cell::Cell;

@@ -1,9 +1,7 @@
-//! The permit of one session, and what gives it back and takes it again.
-ghost use Rattle.std.specs.Prelude.{◌≡◌};
+//! The permit of one session.
 
 use crate::permits::Permits;
 use std::cell::Cell;
-use std::io::{Read, Result, Write};
 use std::sync::Wait;
 
 // Behind so many lines a session lets another run.
@@ -33,7 +31,7 @@ impl<'a, R: Wait> Permit<'a, R> {
     }
 
     /// The session runs from now on.
-    fn run(&self) {
+    pub(crate) fn run(&self) {
         if !self.is_running.replace(true) {
             self.is_held.set(self.permits.acquire(self.rt));
         }
@@ -62,46 +60,5 @@ impl<'a, R: Wait> Permit<'a, R> {
             self.permits.acquire(self.rt)
         };
         self.is_held.set(acquired);
-    }
-}
-
-/// A stream of a session, which does not run while it reads and writes: a client may make it wait
-/// there. It runs behind a read, and behind a write once its line is answered.
-#[derive(Drop)]
-pub(crate) struct Yielding<'a, R: Wait, T> {
-    permit: &'a Permit<'a, R>,
-    stream: T,
-}
-
-impl<'a, R: Wait, T> Yielding<'a, R, T> {
-    pub(crate) fn new(permit: &'a Permit<'a, R>, stream: T) -> Yielding<'a, R, T>
-        ensures { result.stream ≡ stream }
-    {
-        Yielding { permit, stream }
-    }
-}
-
-impl<'a, R: Wait, T: Read> Read for Yielding<'a, R, T> {
-    ghost remaining = { λ s. T.remaining s.stream };
-
-    fn read(&mut self, buf: &mut [u8]) -> Result<usize> {
-        self.permit.rest();
-        let read = self.stream.read(buf);
-        self.permit.run();
-        read
-    }
-}
-
-impl<'a, R: Wait, T: Write> Write for Yielding<'a, R, T> {
-    ghost contents = { λ s. T.contents s.stream };
-
-    fn write(&mut self, buf: &[u8]) -> Result<usize> {
-        self.permit.rest();
-        self.stream.write(buf)
-    }
-
-    fn flush(&mut self) -> Result<()> {
-        self.permit.rest();
-        self.stream.flush()
     }
 }

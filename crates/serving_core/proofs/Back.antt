@@ -6,35 +6,36 @@ use Rattle.std.proofs.lemmas.List.Sums.{sum_by-append}
 use Rattle.std.proofs.lemmas.List.Elements.{All-nil, All-push}
 use Rattle.system_core.specs.declared.machine.event.Entry.{Entry}
 use Rattle.desk_core.specs.Guarded.{DeskLock, DeskPass}
-use Rattle.server_core.specs.Entrance.{Admittance}
+use Rattle.session_core.specs.Machines.{Protocol}
+use Rattle.door_core.specs.Entrance.{Admittance}
 use Rattle.server_core.specs.Sessions.{Working, IsWorkers, IsCheckpointers, AreServers}
 
 -- workers who have come back, with their passes, and how many sessions they served in all
-pub record AreBack {K : Type 0} (by : Admittance) (journal : List Entry) (desk : DeskLock K) (passes : List (DeskPass K)) (sessions : ℕ) : Type 0 where
+pub record AreBack {K : Type 0} (protocol : Protocol K) (by : Admittance) (journal : List Entry) (desk : DeskLock K) (passes : List (DeskPass K)) (sessions : ℕ) : Type 0 where
   pub workers : List (Working K)
   pub passes_are : passes ≡ map (λ (w : Working K). w.pass) workers
   pub sessions_are : sum_by (λ (w : Working K). w.sessions) workers ≡ sessions
-  pub served : All (IsWorkers by journal desk) workers
+  pub served : All (IsWorkers protocol by journal desk) workers
 
-pub back_nobody : {K : Type 0} (by : Admittance) (journal : List Entry) (desk : DeskLock K) → AreBack by journal desk [] 0
-back_nobody by journal desk = record { workers = []; passes_are = refl; sessions_are = refl; served = All-nil (IsWorkers by journal desk) }
+pub back_nobody : {K : Type 0} (protocol : Protocol K) (by : Admittance) (journal : List Entry) (desk : DeskLock K) → AreBack protocol by journal desk [] 0
+back_nobody protocol by journal desk = record { workers = []; passes_are = refl; sessions_are = refl; served = All-nil (IsWorkers protocol by journal desk) }
 
 -- one more has come back
-pub back_more : {K : Type 0} (by : Admittance) (journal : List Entry) (desk : DeskLock K) (passes : List (DeskPass K)) (sessions : ℕ) (w : Working K) → AreBack by journal desk passes sessions → IsWorkers by journal desk w
-    → AreBack by journal desk (passes ++ w.pass ∷ []) (sessions + w.sessions)
-back_more {K = K} by journal desk passes sessions w b served = record {
+pub back_more : {K : Type 0} (protocol : Protocol K) (by : Admittance) (journal : List Entry) (desk : DeskLock K) (passes : List (DeskPass K)) (sessions : ℕ) (w : Working K) → AreBack protocol by journal desk passes sessions → IsWorkers protocol by journal desk w
+    → AreBack protocol by journal desk (passes ++ w.pass ∷ []) (sessions + w.sessions)
+back_more {K = K} protocol by journal desk passes sessions w b served = record {
   workers = b.workers ++ w ∷ [];
   passes_are = ap (λ ps. ps ++ w.pass ∷ []) b.passes_are ∙ sym (map-append (λ (x : Working K). x.pass) b.workers (w ∷ []));
   sessions_are =
       let e : sum_by (λ (x : Working K). x.sessions) (b.workers ++ w ∷ []) ≡ sum_by (λ (x : Working K). x.sessions) b.workers + (0 + w.sessions) = sum_by-append (λ (x : Working K). x.sessions) b.workers (w ∷ []) in
       omega (arith, b.sessions_are);
-  served = All-push (IsWorkers by journal desk) b.workers w b.served served;
+  served = All-push (IsWorkers protocol by journal desk) b.workers w b.served served;
 }
 
 -- and all have, with the checkpointer's pass
-pub back_all : {K : Type 0} (by : Admittance) (journal : List Entry) (desk : DeskLock K) (passes : List (DeskPass K)) (sessions : ℕ) (own : DeskPass K) → AreBack by journal desk passes sessions → IsCheckpointers journal desk own
-    → AreServers by journal desk sessions (passes ++ own ∷ [])
-back_all by journal desk passes sessions own b looked = record {
+pub back_all : {K : Type 0} (protocol : Protocol K) (by : Admittance) (journal : List Entry) (desk : DeskLock K) (passes : List (DeskPass K)) (sessions : ℕ) (own : DeskPass K) → AreBack protocol by journal desk passes sessions → IsCheckpointers journal desk own
+    → AreServers protocol by journal desk sessions (passes ++ own ∷ [])
+back_all protocol by journal desk passes sessions own b looked = record {
   workers = b.workers;
   checkpointer = own;
   passes_are = ap (λ ps. ps ++ own ∷ []) b.passes_are;

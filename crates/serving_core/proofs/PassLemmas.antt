@@ -13,7 +13,8 @@ use Rattle.session_core.specs.Checking.{LooksRepeatedly, unchecked, checked}
 use Rattle.session_core.specs.Gains.{Watches}
 use Rattle.session_core.proofs.Checked.{looks_watches}
 use Rattle.session_core.proofs.Growing.{Watches-refl, Watches-trans}
-use Rattle.server_core.specs.Entrance.{Admittance}
+use Rattle.session_core.specs.Machines.{Protocol}
+use Rattle.door_core.specs.Entrance.{Admittance}
 use Rattle.server_core.specs.Sessions.{IsOf, IsNew, new_pass, Working, new_worker, IsNewWorker, Attended, IsWorkers, IsCheckpointers, AreServers, Leaves}
 use Rattle.server_core.proofs.SamePass.{attended_same}
 
@@ -25,11 +26,11 @@ pub all_new : {K : Type 0} (journal : List Entry) (desk : DeskLock K) (passes : 
 all_new journal desk passes e = subst (λ z. All (IsNew journal desk) z) (sym e) (all_from journal desk 0 desk.count)
 
 -- since the pass was new, sessions were served through it
-pub worker_of : {K : Type 0} (by : Admittance) (journal : List Entry) (desk : DeskLock K) (old new : Working K) → IsNewWorker journal desk old → Attended by desk old new → IsWorkers by journal desk new
-worker_of by journal desk old new idle served =
-    let same = attended_same by desk old new served in
+pub worker_of : {K : Type 0} (protocol : Protocol K) (by : Admittance) (journal : List Entry) (desk : DeskLock K) (old new : Working K) → IsNewWorker journal desk old → Attended protocol by desk old new → IsWorkers protocol by journal desk new
+worker_of protocol by journal desk old new idle served =
+    let same = attended_same protocol by desk old new served in
     let start : old ≡ new_worker journal desk new.pass.number = idle ∙ ap (new_worker journal desk) (sym same.1) in
-    subst (λ z. Attended by desk z new) start served
+    subst (λ z. Attended protocol by desk z new) start served
 
 pub checks_watch : {K : Type 0} (desk : DeskLock K) (old new : DeskPass K) → LooksRepeatedly desk old new → Watches old new
 checks_watch desk old _ unchecked = Watches-refl old
@@ -41,21 +42,21 @@ checkpointer_of journal desk old new fresh looked same =
     let start : old ≡ new_pass journal desk new.number = fresh ∙ ap (new_pass journal desk) (sym same.1) in
     subst (λ z. LooksRepeatedly desk z new) start looked
 
-of_workers : {K : Type 0} (by : Admittance) (journal : List Entry) (desk : DeskLock K) (workers : List (Working K)) → All (IsWorkers by journal desk) workers → All (IsOf desk) (map (λ (w : Working K). w.pass) workers)
-of_workers {K = K} by journal desk workers served =
+of_workers : {K : Type 0} (protocol : Protocol K) (by : Admittance) (journal : List Entry) (desk : DeskLock K) (workers : List (Working K)) → All (IsWorkers protocol by journal desk) workers → All (IsOf desk) (map (λ (w : Working K). w.pass) workers)
+of_workers {K = K} protocol by journal desk workers served =
     All-map (IsOf desk) (λ (w : Working K). w.pass) workers
-    (All-weaker (IsWorkers by journal desk) (λ w. IsOf desk w.pass) (λ w h. (attended_same by desk (new_worker journal desk w.pass.number) w h).0) workers served)
+    (All-weaker (IsWorkers protocol by journal desk) (λ w. IsOf desk w.pass) (λ w h. (attended_same protocol by desk (new_worker journal desk w.pass.number) w h).0) workers served)
 
 -- the passes of a server are of its desk
-pub servers_of : {K : Type 0} (by : Admittance) (journal : List Entry) (desk : DeskLock K) (sessions : ℕ) (passes : List (DeskPass K)) → AreServers by journal desk sessions passes → All (IsOf desk) passes
-servers_of {K = K} by journal desk sessions passes s =
-    let workers = of_workers by journal desk s.workers s.served in
+pub servers_of : {K : Type 0} (protocol : Protocol K) (by : Admittance) (journal : List Entry) (desk : DeskLock K) (sessions : ℕ) (passes : List (DeskPass K)) → AreServers protocol by journal desk sessions passes → All (IsOf desk) passes
+servers_of {K = K} protocol by journal desk sessions passes s =
+    let workers = of_workers protocol by journal desk s.workers s.served in
     let last : s.checkpointer.lock ≡ Some desk = (checks_watch desk (new_pass journal desk s.checkpointer.number) s.checkpointer s.checked).same.0 in
     subst (λ z. All (IsOf desk) z) (sym s.passes_are) (All-push (IsOf desk) (map (λ (w : Working K). w.pass) s.workers) s.checkpointer workers last)
 
 -- and its journal begins with the one that it was built on
-pub begins_with : {K : Type 0} (by : Admittance) (journal : List Entry) (desk : DeskLock K) (sessions : ℕ) (passes : List (DeskPass K)) (w : World) → AreServers by journal desk sessions passes → Ended desk passes w → StartsWith w.journal journal
-begins_with {K = K} by journal desk sessions passes w s e =
+pub begins_with : {K : Type 0} (protocol : Protocol K) (by : Admittance) (journal : List Entry) (desk : DeskLock K) (sessions : ℕ) (passes : List (DeskPass K)) (w : World) → AreServers protocol by journal desk sessions passes → Ended desk passes w → StartsWith w.journal journal
+begins_with {K = K} protocol by journal desk sessions passes w s e =
     let all = subst (All (Kept journal_of asked_by begun_of w)) s.passes_are e.closed.kept in
     let last = (All-pop (Kept journal_of asked_by begun_of w) (map (λ (x : Working K). x.pass) s.workers ++ s.checkpointer ∷ []) (map (λ (x : Working K). x.pass) s.workers) (Some s.checkpointer) refl all).1 in
     let seen = (checks_watch desk (new_pass journal desk s.checkpointer.number) s.checkpointer s.checked).seen in
@@ -77,10 +78,10 @@ passes_count journal desk first zero = refl
 passes_count journal desk first (suc n) = ap suc (passes_count journal desk (suc first) n)
 
 -- what a server leaves
-pub leaves_of : {K : Type 0} (by : Admittance) (workers sessions : ℕ) (keeper : K) (start world : World) (desk : DeskLock K) (passes : List (DeskPass K)) → desk.count ≡ workers + 1 → desk.start ≡ 0
+pub leaves_of : {K : Type 0} (protocol : Protocol K) (by : Admittance) (workers sessions : ℕ) (keeper : K) (start world : World) (desk : DeskLock K) (passes : List (DeskPass K)) → desk.count ≡ workers + 1 → desk.start ≡ 0
     → origin_of desk ≡ origin_at start keeper
-    → AreServers by start.journal desk sessions passes → AreAll desk passes → Ended desk passes world → Leaves by workers sessions keeper start world
-leaves_of by workers sessions keeper start world desk passes count begins origin servers all ended = record {
+    → AreServers protocol by start.journal desk sessions passes → AreAll desk passes → Ended desk passes world → Leaves protocol by workers sessions keeper start world
+leaves_of protocol by workers sessions keeper start world desk passes count begins origin servers all ended = record {
   desk = desk;
   passes = passes;
   count_is = count;
@@ -89,5 +90,5 @@ leaves_of by workers sessions keeper start world desk passes count begins origin
   all = all;
   servers = servers;
   ended = ended;
-  begins = begins_with by start.journal desk sessions passes world servers ended;
+  begins = begins_with protocol by start.journal desk sessions passes world servers ended;
 }

@@ -3,7 +3,7 @@ use Rattle.base_core.specs.declared.name.User.{User}
 use Rattle.lines_core.specs.Serving.{Traffic}
 use Rattle.session_core.specs.declared.admission.Admission.{Admission}
 use Rattle.session_core.specs.LoggedIn.{HasComeAs}
-use Rattle.server_core.specs.Entrance.{Admittance, IsAdmitted}
+use Rattle.door_core.specs.Entrance.{Admittance, IsAdmitted}
 
 -- there was a session of the entrance, over the bytes of some client, that was this user's by right
 pub record IsByRight (by : Admittance) (user : User) : Type 0 where

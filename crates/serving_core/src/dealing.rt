@@ -4,8 +4,10 @@ ghost use Rattle.server_core.specs.Sessions.{IsNew, IsNewWorker, IsWorkers, IsCh
 
 use base_core::NoMemory;
 use desk_core::{Desk, Pass};
+use door_core::Entrance;
 use journal_core::Keeper;
-use server_core::{Entrance, ServeFault, Worker};
+use server_core::{Room, Worker};
+use session_core::SessionMachine;
 use std::alloc::Global;
 use std::snapshot::Snapshot;
 use std::sync::ledger::{Ledger, Share};
@@ -33,14 +35,14 @@ pub fn workers_of<K: Keeper + Drop, L: Ledger>(
     let mut passes = passes;
     while let Some(pass) = passes.pop() {
         let token = rest.split_off(1, 0);
-        workers.push(Worker::new(pass, token))?;
+        workers.push(Worker::new(pass, token, Room::new(alloc)?))?;
     }
     Ok(workers)
 }
 
 /// The passes of the workers, with the checkpointer's behind them, and all of the token: it counts the
 /// sessions that they served. `NoMemory` where a request for memory was refused.
-pub fn gathered<K: Keeper + Drop, L: Ledger>(
+pub fn gathered<K: Keeper + Drop, L: Ledger, M: SessionMachine<K>>(
     alloc: Global,
     desk: &Desk<K>,
     entrance: &Entrance,
@@ -49,12 +51,13 @@ pub fn gathered<K: Keeper + Drop, L: Ledger>(
     own: Pass<K>,
     rest: Share<L>,
 ) -> Result<(Vec<Pass<K>>, Share<L>), NoMemory>
-    requires workers { All (IsWorkers entrance.now begun.now.value.journal desk.now)
+    requires workers { All (IsWorkers M.protocol entrance.now begun.now.value.journal desk.now)
         workers.items }
     requires own { IsCheckpointers begun.now.value.journal desk.now own }
     requires nothing { rest.amount ≡ 0 }
     ensures servers { IfOk result
-        (λ b. AreServers entrance.now begun.now.value.journal desk.now b.1.amount b.0.items) }
+        (λ b. AreServers M.protocol entrance.now begun.now.value.journal desk.now b.1.amount
+        b.0.items) }
     ensures parts { IfOk result (λ b. b.1.parts ≡ rest.parts + length workers.items) }
 {
     let mut passes = Vec::with_capacity(alloc, workers.len())?;

@@ -7,7 +7,8 @@ ghost use Rattle.lines_core.specs.Lines.{IsWhole};
 ghost use Rattle.journal_core.specs.Keeping.{LineKeeperState, line_rules};
 ghost use Rattle.desk_core.specs.Guarded.{origin_at};
 ghost use Rattle.desk_core.specs.Kept.{HasKept};
-ghost use Rattle.server_core.specs.Entrance.{Admittance};
+ghost use Rattle.session_core.specs.Parking.{SpeaksLines};
+ghost use Rattle.door_core.specs.Entrance.{Admittance};
 ghost use Rattle.server_core.specs.Sessions.{Leaves};
 ghost use Rattle.serving_core.specs.Rightful.{IsByRight};
 ghost use Rattle.load_core.specs.Kept.{CanBeLoadedBehind};
@@ -15,6 +16,7 @@ ghost use Rattle.load_core.specs.Loading.{Loads, lines_unmarked, without_pass};
 
 use base_core::Sink;
 use journal_core::Keeper;
+use session_core::SessionMachine;
 
 /// A file goes on through servers. What [`serve_on`](crate::serve_on) kept as lines, behind a file
 /// that loads the journal which the server began with, loads with it the journal that the server
@@ -22,7 +24,7 @@ use journal_core::Keeper;
 pub fn gone_on_server_is_kept<W: Sink>()
     ensures { (by : Admittance) (workers sessions : ℕ) (start world : World) (old : List ℕ)
         (begun keeper : LineKeeperState W)
-        → Leaves by workers sessions begun start world
+        → Leaves SpeaksLines by workers sessions begun start world
         → HasKept (line_rules W.taken W.handed_on) (origin_at start begun) world.journal keeper
         → keeper.owed ≡ None
         → IsWhole old
@@ -32,11 +34,11 @@ pub fn gone_on_server_is_kept<W: Sink>()
 {}
 
 /// Whose right is used is who proved to be that user. Each entry that a server made, behind those
-/// that it began with, is by a user whose session it was by right. So where clients have to log in,
-/// there was a session with a message that proves to be that user, by what a file of users keeps of
-/// him; or it came in at his own socket.
-pub fn entries_are_by_right<K: Keeper + Drop>()
+/// that it began with, is by a user whose session it was by right, whatever protocol its sessions
+/// spoke. So where clients have to log in, there was a session with a message that proves to be that
+/// user, by what a file of users keeps of him; or it came in at his own socket.
+pub fn entries_are_by_right<K: Keeper + Drop, M: SessionMachine<K>>()
     ensures { (by : Admittance) (workers sessions : ℕ) (keeper : K) (start world : World)
-        → Leaves by workers sessions keeper start world
-        → All (λ entry. IsByRight by entry.user) (gained start.journal world.journal) }
+        → Leaves M.protocol by workers sessions keeper start world
+        → All (λ entry. ∥ IsByRight by entry.user ∥₁) (gained start.journal world.journal) }
 {}

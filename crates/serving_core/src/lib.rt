@@ -23,6 +23,9 @@
 //! token together count what the door has taken. So the number that is told is that of the sessions
 //! which went through the passes.
 //!
+//! The threads go on with sessions of any [`SessionMachine`](session_core::SessionMachine). Only
+//! [`serve_on`] names one, [`Parked`](session_core::Parked): its sessions are of lines.
+//!
 //! # Cost
 //!
 //! A thread for each worker, and one that looks after checkpoints.

@@ -4,15 +4,18 @@ ghost use Rattle.turnstile.specs.Closed.{AreAll};
 ghost use Rattle.desk_core.specs.Guarded.{origin_of, origin_at};
 ghost use Rattle.desk_core.specs.Kept.{HasKept};
 ghost use Rattle.desk_core.specs.Turns.{Ended};
-ghost use Rattle.server_core.specs.Sessions.{IsOf, IsNew, AreServers, Leaves};
+ghost use Rattle.session_core.specs.Parking.{SpeaksLines};
+ghost use Rattle.server_core.specs.Sessions.{IsOf, IsOfInstance, IsNew, AreServers, Leaves};
 ghost use Rattle.load_core.specs.Ready.{IsReady};
 
 use crate::dealing::{gathered, workers_of};
 use crate::threads::serve_all;
 use base_core::Moment;
 use desk_core::{Desk, Pass};
+use door_core::{Door, Entrance, Log, Manners, ServeFault, SharedLog, Taken};
 use journal_core::Keeper;
-use server_core::{Control, Door, Entrance, Log, Manners, ServeFault, Service, SharedLog, Taken};
+use server_core::{AtSite, Control, Service, Site};
+use session_core::{Parked, SessionMachine};
 use std::alloc::Global;
 use std::io::Write;
 use std::marker::Brand;
@@ -23,7 +26,7 @@ use std::sync::ledger::{Blank, Ledger};
 use std::sync::{Mutex, Wait};
 use std::thread;
 use std::thread::Threads;
-use std::time::{Clock, Duration};
+use std::time::Clock;
 use system_core::System;
 
 /// How many processors the threads may use: one, where that is not known.
@@ -36,7 +39,7 @@ fn processors<R: Threads>(rt: &R) -> usize {
 
 /// Serves so many sessions of the entrance through these passes, of which the last is the
 /// checkpointer's, and gives their number and the passes.
-fn serve_through<K, L, R, G, C>(
+fn serve_through<K, L, S, M, R, G, C>(
     rt: &R,
     alloc: Global,
     blank: Blank,
@@ -46,7 +49,7 @@ fn serve_through<K, L, R, G, C>(
     workers: usize,
     entrance: &Entrance,
     sessions: u64,
-    idle: Option<Duration>,
+    manners: Manners,
     moment: Moment,
     log: &G,
     control: &C,
@@ -54,24 +57,34 @@ fn serve_through<K, L, R, G, C>(
 where
     K: Keeper + Drop + Send,
     L: Ledger + Send + Sync,
+    S: Site<K> + Send + Sync,
+    M: SessionMachine<K> + Send,
     R: Threads + Wait + Clock + Sync,
     G: Log + Sync,
     C: Control,
+    requires instance { IsOfInstance S.desk S.by desk.now entrance.now }
     requires name { blank.name ≡ L.name }
     requires parts { (blank.parts ≡ L.parts) × (L.parts ≡ workers + 1) }
     requires new { All (IsNew begun.now.value.journal desk.now) passes.items }
     requires passes { length passes.items ≡ workers + 1 }
     ensures count { IfOk result (λ b. b.0.stopped ≡ false → b.0.sessions ≡ sessions) }
     ensures servers { IfOk result
-        (λ b. AreServers entrance.now begun.now.value.journal desk.now b.0.sessions b.1.items) }
+        (λ b. AreServers M.protocol entrance.now begun.now.value.journal desk.now b.0.sessions
+        b.1.items) }
 {
     let mut passes = passes;
     let Some(own) = passes.pop() else {
         return Err(ServeFault::NoMemory);
     };
     let (book, mut rest) = blank.open::<L>();
-    let door = Mutex::new(Door::new(alloc, sessions, book));
-    let service = Service::new(alloc, entrance, workers, processors(rt), idle, moment)?;
+    let door = Mutex::new(Door::new(sessions, book));
+    let service = Service::<K, AtSite<S, M>>::new(
+        alloc,
+        entrance,
+        processors(rt),
+        manners,
+        moment,
+    )?;
     let stop = AtomicBool::new(false);
     let dealt = workers_of(alloc, desk, begun, passes, &mut rest)?;
     let (back, own) = serve_all(
@@ -80,7 +93,7 @@ where
     if back.len() != workers {
         return Err(ServeFault::NoMemory);
     }
-    let (passes, all) = gathered(alloc, desk, entrance, begun, back, own, rest)?;
+    let (passes, all) = gathered::<K, L, M>(alloc, desk, entrance, begun, back, own, rest)?;
     let taken = door.into_inner().served(sessions, all)?;
     Ok((taken, passes))
 }
@@ -122,7 +135,7 @@ fn close<K: Keeper + Drop>(
 }
 
 /// As [`serve_on`], with a blank token of one part for each thread.
-fn serve_sessions<K, L, R, G, C>(
+fn serve_sessions<K, L, M, R, G, C>(
     rt: &R,
     alloc: Global,
     blank: Blank,
@@ -131,13 +144,14 @@ fn serve_sessions<K, L, R, G, C>(
     sessions: u64,
     system: System,
     keeper: K,
-    idle: Option<Duration>,
+    manners: Manners,
     log: &G,
     control: &C,
 ) -> Result<Served<K>, ServeFault>
 where
     K: Keeper + Drop + Send,
     L: Ledger + Send + Sync,
+    M: SessionMachine<K> + Send,
     R: Threads + Wait + Clock + Sync,
     G: Log + Sync,
     C: Control,
@@ -149,7 +163,7 @@ where
     ensures count { IfOk result
         (λ served. served.taken.stopped ≡ false → served.taken.sessions ≡ sessions) }
     ensures leaves { IfOk result
-        (λ served. Leaves entrance.now workers served.taken.sessions keeper system
+        (λ served. Leaves M.protocol entrance.now workers served.taken.sessions keeper system
         served.system) }
     ensures kept { IfOk result (λ served. HasKept K.Keeper (origin_at system keeper)
         served.system.journal served.keeper) }
@@ -157,8 +171,8 @@ where
     let begun = Snapshot::of(&system);
     let moment = system.moment();
     let (desk, passes) = Desk::build(alloc, system, keeper, workers + 1)?;
-    match serve_through::<K, L, R, G, C>(
-        rt, alloc, blank, &desk, &begun, passes, workers, entrance, sessions, idle, moment, log,
+    match serve_through::<K, L, Brand, M, R, G, C>(
+        rt, alloc, blank, &desk, &begun, passes, workers, entrance, sessions, manners, moment, log,
         control,
     ) {
         Ok((taken, passes)) => close(desk, passes, taken),
@@ -217,7 +231,7 @@ where
     ensures count { IfOk result
         (λ served. served.taken.stopped ≡ false → served.taken.sessions ≡ sessions) }
     ensures leaves { IfOk result
-        (λ served. Leaves entrance.now workers served.taken.sessions keeper system
+        (λ served. Leaves SpeaksLines entrance.now workers served.taken.sessions keeper system
         served.system) }
     ensures kept { IfOk result (λ served. HasKept K.Keeper (origin_at system keeper)
         served.system.journal served.keeper) }
@@ -230,17 +244,7 @@ where
         times: manners.times,
     };
     let blank = Blank::new(workers as u64 + 1);
-    serve_sessions::<K, Brand, R, SharedLog<'_, W>, C>(
-        rt,
-        alloc,
-        blank,
-        entrance,
-        workers,
-        sessions,
-        system,
-        keeper,
-        manners.idle,
-        &log,
-        control,
+    serve_sessions::<K, Brand, Parked<K>, R, SharedLog<'_, W>, C>(
+        rt, alloc, blank, entrance, workers, sessions, system, keeper, manners, &log, control,
     )
 }

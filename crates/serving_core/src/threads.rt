@@ -1,16 +1,16 @@
 //! The threads of a server.
 ghost use Rattle.std.specs.Prelude.{◌≡◌, All, IfOk};
 ghost use Rattle.std.specs.Thread.{IsSend, IsSync};
-ghost use Rattle.server_core.specs.Sessions.{IsNew, IsNewWorker, IsWorkers, IsCheckpointers};
+ghost use Rattle.server_core.specs.Sessions.{IsOfInstance, IsNew, IsNewWorker, IsWorkers, IsCheckpointers};
 ghost use Rattle.serving_core.specs.Promises.{IsOfServer};
 
 use desk_core::{Desk, Pass};
+use door_core::{Door, Entrance, Log, ServeFault};
 use journal_core::Keeper;
-use server_core::{
-    Control, Door, Entrance, Log, Lookout, ServeFault, Service, Worker, watch, work,
-};
-use session_core::checkpointer;
+use server_core::{AtSite, Control, Instance, Lookout, Service, Site, Worker, watch, work};
+use session_core::{SessionMachine, checkpointer};
 use std::alloc::Global;
+use std::marker::PhantomData;
 use std::snapshot::Snapshot;
 use std::sync::atomic::{AtomicBool, Ordering};
 use std::sync::ledger::Ledger;
@@ -20,13 +20,20 @@ use std::thread::{Promise, PromisedHandle, Threads};
 use std::time::Clock;
 use system_core::System;
 
-/// The promise of a thread that sessions were served through its pass, as many as its token counts,
-/// and nothing else was done.
+/// The promise of a thread that sessions of this machine's protocol were served through its pass, as
+/// many as its token counts, and nothing else was done.
 #[derive_where(Clone, Copy)]
-pub struct Works<'a, K: Keeper + Drop>(&'a Desk<K>, &'a Snapshot<System>, &'a Entrance);
+pub struct Works<'a, K: Keeper + Drop, M: SessionMachine<K>>(
+    &'a Desk<K>,
+    &'a Snapshot<System>,
+    &'a Entrance,
+    PhantomData<M>,
+);
 
-impl<'a, K: Keeper + Drop, L: Ledger> Promise<Worker<K, L>> for Works<'a, K> {
-    ghost kept_by = { λ p worker. IsWorkers p.2.now p.1.now.value.journal p.0.now worker };
+impl<'a, K: Keeper + Drop, L: Ledger, M: SessionMachine<K>> Promise<Worker<K, L>>
+    for Works<'a, K, M> {
+    ghost kept_by = { λ p worker. IsWorkers M.protocol p.2.now p.1.now.value.journal p.0.now
+        worker };
 }
 
 /// The promise of a thread that its pass looked after checkpoints, and nothing else was done.
@@ -46,12 +53,12 @@ struct Dealt<K: Keeper + Drop, L: Ledger> {
 }
 
 /// Takes the steps of checkpoints until it is told to stop.
-fn check<K: Keeper + Drop, R: Wait + Clock>(
+fn check<K: Keeper + Drop, I: Instance<K>, R: Wait + Clock>(
     rt: &R,
     desk: &Desk<K>,
     begun: &Snapshot<System>,
     pass: Pass<K>,
-    service: &Service<'_>,
+    service: &Service<'_, K, I>,
     stop: &AtomicBool,
 ) -> Pass<K>
     requires { IsNew begun.now.value.journal desk.now pass }
@@ -65,29 +72,31 @@ fn check<K: Keeper + Drop, R: Wait + Clock>(
 }
 
 /// Serves sessions until all are taken, or no further one is.
-fn attend<K: Keeper + Drop, L: Ledger, R: Wait + Clock, G: Log>(
+fn attend<K: Keeper + Drop, L: Ledger, I: Instance<K>, R: Wait + Clock, G: Log>(
     rt: &R,
     alloc: Global,
     desk: &Desk<K>,
     begun: &Snapshot<System>,
     worker: Worker<K, L>,
-    service: &Service<'_>,
+    service: &Service<'_, K, I>,
     door: &Mutex<Door<L>>,
     log: &G,
 ) -> Worker<K, L>
-    requires { IsNewWorker begun.now.value.journal desk.now worker }
-    ensures { IsWorkers service.now.entrance.now begun.now.value.journal desk.now result }
+    requires instance { IsOfInstance I.desk I.by desk.now service.now.entrance.now }
+    requires new { IsNewWorker begun.now.value.journal desk.now worker }
+    ensures { IsWorkers I.Session.protocol service.now.entrance.now begun.now.value.journal desk.now
+        result }
 {
     work(rt, alloc, desk, worker, service, door, log)
 }
 
 // Keeps a thread. There is room for it.
-fn keep<'a, K: Keeper + Drop, L: Ledger>(
+fn keep<'a, K: Keeper + Drop, L: Ledger, M: SessionMachine<K>>(
     desk: &'a Desk<K>,
     begun: &'a Snapshot<System>,
     entrance: &'a Entrance,
-    threads: &mut Vec<PromisedHandle<Worker<K, L>, Works<'a, K>>>,
-    thread: PromisedHandle<Worker<K, L>, Works<'a, K>>,
+    threads: &mut Vec<PromisedHandle<Worker<K, L>, Works<'a, K, M>>>,
+    thread: PromisedHandle<Worker<K, L>, Works<'a, K, M>>,
 )
     requires all { All (λ w. IsOfServer desk.now begun.now entrance.now w.promise)
         threads.old.items }
@@ -99,16 +108,17 @@ fn keep<'a, K: Keeper + Drop, L: Ledger>(
 }
 
 /// Waits for each of the threads, and gives the workers that come back.
-fn join_all<'a, K: Keeper + Drop, L: Ledger, R: Threads>(
+fn join_all<'a, K: Keeper + Drop, L: Ledger, M: SessionMachine<K>, R: Threads>(
     rt: &R,
     desk: &'a Desk<K>,
     begun: &'a Snapshot<System>,
     entrance: &'a Entrance,
-    threads: Vec<PromisedHandle<Worker<K, L>, Works<'a, K>>>,
+    threads: Vec<PromisedHandle<Worker<K, L>, Works<'a, K, M>>>,
 ) -> Result<Vec<Worker<K, L>>, ServeFault>
     requires { All (λ w. IsOfServer desk.now begun.now entrance.now w.promise) threads.items }
     ensures { IfOk result
-        (λ v. All (IsWorkers entrance.now begun.now.value.journal desk.now) v.items) }
+        (λ v. All (IsWorkers M.protocol entrance.now begun.now.value.journal desk.now)
+        v.items) }
 {
     match thread::join_promised(rt, threads) {
         Ok(workers) => Ok(workers),
@@ -118,14 +128,14 @@ fn join_all<'a, K: Keeper + Drop, L: Ledger, R: Threads>(
 
 /// Runs all threads to their end, and gives the workers back, and the checkpointer's pass. Where one
 /// could not be started, a worker is missing, and the door is shut.
-pub fn serve_all<K, L, R, G, C>(
+pub fn serve_all<K, L, S, M, R, G, C>(
     rt: &R,
     alloc: Global,
     desk: &Desk<K>,
     begun: &Snapshot<System>,
     workers: Vec<Worker<K, L>>,
     own: Pass<K>,
-    service: &Service<'_>,
+    service: &Service<'_, K, AtSite<S, M>>,
     door: &Mutex<Door<L>>,
     log: &G,
     control: &C,
@@ -134,13 +144,16 @@ pub fn serve_all<K, L, R, G, C>(
 where
     K: Keeper + Drop + Send,
     L: Ledger + Send + Sync,
+    S: Site<K> + Send + Sync,
+    M: SessionMachine<K> + Send,
     R: Threads + Wait + Clock + Sync,
     G: Log + Sync,
     C: Control,
+    requires instance { IsOfInstance S.desk S.by desk.now service.now.entrance.now }
     requires workers { All (IsNewWorker begun.now.value.journal desk.now) workers.items }
     requires own { IsNew begun.now.value.journal desk.now own }
     ensures workers { IfOk result
-        (λ b. All (IsWorkers service.now.entrance.now begun.now.value.journal desk.now)
+        (λ b. All (IsWorkers M.protocol service.now.entrance.now begun.now.value.journal desk.now)
         b.0.items) }
     ensures own { IfOk result (λ b. IsCheckpointers begun.now.value.journal desk.now b.1) }
 {
@@ -149,13 +162,15 @@ where
         thread::scope_env(),
         rt,
         move |scope| -> Result<(Vec<Worker<K, L>>, Pass<K>), ServeFault>
-            requires crosses { IsSend K.row × IsSync R.row × IsSync G.row }
+            requires crosses { IsSend K.row × IsSync R.row × IsSync G.row × IsSend S.row
+                × IsSend M.row }
+            requires instance { IsOfInstance S.desk S.by desk.now service.now.entrance.now }
             requires workers { All (IsNewWorker begun.now.value.journal desk.now)
                 dealt.workers.items }
             requires own { IsNew begun.now.value.journal desk.now dealt.own }
             ensures workers { IfOk result
-                (λ b. All (IsWorkers service.entry.now.entrance.now begun.entry.now.value.journal
-                desk.entry.now) b.0.items) }
+                (λ b. All (IsWorkers M.protocol service.entry.now.entrance.now
+                begun.entry.now.value.journal desk.entry.now) b.0.items) }
             ensures own { IfOk result
                 (λ b. IsCheckpointers begun.entry.now.value.journal desk.entry.now b.1) }
         {
@@ -176,10 +191,12 @@ where
             let mut closed = door.lock(rt);
             for worker in workers {
                 match scope.spawn_with(
-                    Works(desk, begun, service.entrance),
+                    Works::<K, M>(desk, begun, service.entrance, PhantomData),
                     move || -> Worker<K, L>
-                        requires { IsNewWorker begun.now.value.journal desk.now worker }
-                        ensures { IsWorkers service.entry.now.entrance.now
+                        requires instance { IsOfInstance S.desk S.by desk.now
+                            service.now.entrance.now }
+                        requires new { IsNewWorker begun.now.value.journal desk.now worker }
+                        ensures { IsWorkers M.protocol service.entry.now.entrance.now
                             begun.entry.now.value.journal desk.entry.now result }
                     { attend(rt, alloc, desk, begun, worker, service, door, log) },
                 ) {

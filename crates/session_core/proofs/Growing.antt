@@ -83,7 +83,7 @@ step_watches desk reply old new = watched desk asks.Step reply old new refl
 pub abandon_watches : {K : Type 0} (desk : DeskLock K) (reply : Reply) (old new : DeskPass K) → IsSamePass old new → Answered desk asks.Abandon reply old new → Watches old new
 abandon_watches desk reply old new = watched desk asks.Abandon reply old new refl
 
-starts_through : (a b c : List Entry) → StartsWith b a → StartsWith c b → StartsWith c a
+pub starts_through : (a b c : List Entry) → StartsWith b a → StartsWith c b → StartsWith c a
 starts_through a b c p q = starts a b c q.0 p q.1
 
 pub Watches-trans : {K : Type 0} (a b c : DeskPass K) → Watches a b → Watches b c → Watches a c
@@ -100,4 +100,14 @@ Gains-trans user a b c p q = record {
   entries = p.entries ++ q.entries;
   mine_is = q.mine_is ∙ (ap (λ z. z ++ q.entries) p.mine_is ∙ append_assoc (mine asked_by a) p.entries q.entries);
   bear = All-append (λ (e : Entry). e.user ≡ user) p.entries q.entries p.bear q.bear;
+}
+
+-- what was only watched is no entry of anybody's
+pub Watches-gains : {K : Type 0} (user : User) (a b : DeskPass K) → Watches a b → Gains user a b
+Watches-gains user a b w = record {
+  same = w.same;
+  seen = w.seen;
+  entries = [];
+  mine_is = w.mine_is ∙ sym (append-nil (mine asked_by a));
+  bear = All-nil (λ (e : Entry). e.user ≡ user);
 }

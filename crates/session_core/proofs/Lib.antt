@@ -2,5 +2,6 @@ pub mod Ending
 pub mod Telling
 pub mod Growing
 pub mod Sessions
+pub mod Resuming
 pub mod Checked
 pub mod Login

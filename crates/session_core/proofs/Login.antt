@@ -1,16 +1,11 @@
--- What the lines of a session show that has to log in.
-use Rattle.std.proofs.Common.{◌≡◌, ℕ, Bool, true, false, List, [], ◌∷◌, ◌++◌, Option, Some, None, sym, ap, ◌∙◌, subst, refl, inl, inr, append_assoc, append-nil}
-use Rattle.std.specs.Prelude.{Result, Ok, Err, IfSome, ◌⊎◌}
+-- Whose session it is has come by right.
+use Rattle.std.specs.Arc.{arc_value}
+use Rattle.std.proofs.Common.{◌≡◌, List, [], ◌++◌, Option, Some, None, sym, ap, ◌∙◌, subst, refl, inl, inr, append-nil}
+use Rattle.std.specs.Prelude.{Result, Ok, Err}
 use Rattle.std.specs.Str.Lines.{lines}
-use Rattle.std.specs.Io.KnownBytes.{Consumes}
-use Rattle.std.proofs.lemmas.Bool.{false≢true}
 use Rattle.base_core.specs.declared.name.User.{User}
-use Rattle.login_core.specs.Users.{Users}
-use Rattle.login_core.specs.Login.{Beginning}
-use Rattle.login_core.specs.Exchange.{Standing, Fresh, Asked, Named, Over, MovesOn, asked, logged_in, said, ended, Exchange, nothing, more, HasShown}
-use Rattle.login_core.proofs.Standing.{named_has_shown}
-use Rattle.lines_core.specs.Lines.{whole_lines}
-use Rattle.lines_core.specs.Serving.{AnswersAll, AnswersInput, Ends, Traffic}
+use Rattle.login_core.specs.Exchange.{ended}
+use Rattle.lines_core.specs.Serving.{Traffic}
 use Rattle.lines_core.specs.declared.serving.SessionFault.{SessionFault}
 use Rattle.lines_core.specs.declared.serving.SessionFault.TheVariants as faults
 use Rattle.desk_core.specs.Guarded.{DeskLock, DeskPass}
@@ -18,157 +13,15 @@ use Rattle.session_core.specs.declared.session_end.SessionEnd.{SessionEnd}
 use Rattle.session_core.specs.declared.session_end.SessionEnd.TheVariants as session_ends
 use Rattle.session_core.specs.declared.summary.Summary.{Summary}
 use Rattle.session_core.specs.declared.admission.Admission.{Admission}
-use Rattle.session_core.specs.declared.reception.Reception.{Reception}
-use Rattle.session_core.specs.declared.reception.Reception.TheVariants as receptions
-use Rattle.session_core.specs.Admission.{ReceivesOpening, ReceivesLast, Receives}
-use Rattle.session_core.specs.Session as s
 use Rattle.std.proofs.Common.{All}
 use Rattle.std.proofs.lemmas.List.Elements.{All-nil, All-weaker}
 use Rattle.system_core.specs.declared.machine.event.Entry.{Entry}
 use Rattle.turnstile.specs.Passes.{mine}
 use Rattle.desk_core.specs.Turns.{asked_by}
-use Rattle.session_core.specs.Session.{SessionState, GainsOf, opened, behind_reception, AnswersSession, is_over, EndsAt, EndsBy, EndsSession}
+use Rattle.session_core.specs.Session.{SessionState, GainsOf, AnswersSession, EndsAt, EndsBy, EndsSession}
 use Rattle.session_core.specs.declared.admission.Admission.TheVariants as admissions
+use Rattle.session_core.specs.Showing.{step, known_step, known_end, by_end, login_receives}
 use Rattle.session_core.specs.LoggedIn.{HasLoggedIn, HasComeAs}
-use Rattle.lines_core.proofs.Seen.{ends-seen}
-use Rattle.std.proofs.lemmas.Option.{none-some}
-
--- how far a session is which has to log in
-abbrev pub standing : Option User → Option Beginning → Bool → Standing
-standing (Some user) begun over = Named user.0
-standing None begun true = Over
-standing None None false = Fresh
-standing None (Some begun) false = Asked begun
-
-abbrev pub standing_of : {K : Type 0} → SessionState K → Standing
-standing_of state = standing state.user state.begun state.over
-
-module _ (users : Users) (secret own : List ℕ) where
-  -- what a line comes to that is received so
-  abbrev pub ReceivesLogin : Option Beginning → List ℕ → Reception → Type 0
-  ReceivesLogin None line reception = ReceivesOpening users secret own line reception
-  ReceivesLogin (Some begun) line reception = ReceivesLast users begun line reception
-
-  over_stays : (user : Option User) (begun : Option Beginning) (over : Bool) (line : List ℕ) → over ≡ true → MovesOn users secret own (standing user begun over) line (standing user begun over)
-  over_stays (Some user) begun over line o = said user.0
-  over_stays None begun true line o = ended Over
-  over_stays None begun false line o = absurd (false≢true o)
-
-  named_stays : (user : User) (found : Option User) (begun : Option Beginning) (over over' : Bool) (line : List ℕ) → found ≡ Some user → MovesOn users secret own (standing found begun over) line (standing found begun over')
-  named_stays user found begun over over' line e =
-      subst (λ z. MovesOn users secret own (standing z begun over) line (standing z begun over')) (sym e) (said user.0)
-
-  module _ {K : Type 0} where
-    received_advances : (begun : Option Beginning) (line : List ℕ) (reception : Reception) (state : SessionState K) → ReceivesLogin begun line reception
-        → MovesOn users secret own (standing None begun false) line (standing_of (behind_reception reception (record state { begun = begun; user = None; over = false })))
-    received_advances None line (receptions.Challenged begun) state r = asked begun r.1
-    received_advances None line (receptions.Faulty code offset) state r = ended Fresh
-    received_advances None line receptions.Unread state r = ended Fresh
-    received_advances None line (receptions.Welcomed user answer) state r = absurd r
-    received_advances None line receptions.Refused state r = absurd r
-    received_advances (Some begun) line (receptions.Welcomed user answer) state r =
-        subst (λ z. MovesOn users secret own (Asked begun) line (Named z)) (sym r.1) (logged_in begun r.2.1)
-    received_advances (Some begun) line receptions.Refused state r = ended (Asked begun)
-    received_advances (Some begun) line receptions.Unread state r = ended (Asked begun)
-    received_advances (Some begun) line (receptions.Challenged other) state r = absurd r
-    received_advances (Some begun) line (receptions.Faulty code offset) state r = absurd r
-
-    -- what an admission says of a line, if the user has to log in
-    module _ (admission : Admission) (as_login : (begun : Option Beginning) (line : List ℕ) (reception : Reception) → Receives admission begun line reception → ReceivesLogin begun line reception) (desk : DeskLock K) where
-      same_admission : (reception : Reception) (old : SessionState K) → old.admission ≡ admission → (behind_reception reception old).admission ≡ admission
-      same_admission (receptions.Welcomed user answer) old a = a
-      same_admission (receptions.Challenged begun) old a = a
-      same_admission (receptions.Faulty code offset) old a = a
-      same_admission receptions.Refused old a = a
-      same_admission receptions.Unread old a = a
-
-      step : (old new : SessionState K) (line text : List ℕ) → old.admission ≡ admission → AnswersSession desk old line text new
-          → (new.admission ≡ admission) × MovesOn users secret own (standing_of old) line (standing_of new)
-      step old _ line _ a (s.ended o) = (a, over_stays old.user old.begun old.over line o)
-      step old _ line _ a (s.received reception o n r) =
-          let r1 = as_login old.begun line reception (subst (λ z. Receives z old.begun line reception) a r) in
-          let clean : old ≡ record old { user = None; over = false } = (λ i. record old { user = n i; over = o i }) in
-          (same_admission reception old a, subst (λ z. MovesOn users secret own (standing_of z) line (standing_of (behind_reception reception z))) (sym clean) (received_advances old.begun line reception old r1))
-      step old _ line _ a (s.served user o n h) = (a, named_stays user old.user old.begun old.over old.over line n)
-      step old _ line _ a (s.withheld user o n h) = (a, named_stays user old.user old.begun old.over true line n)
-
-      all_lines : (old new : SessionState K) (before ls : List (List ℕ)) (text : List ℕ) → old.admission ≡ admission
-          → Exchange users secret own before (standing_of old)
-          → AnswersAll (AnswersSession desk) old ls text new
-          → Exchange users secret own (before ++ ls) (standing_of new)
-      all_lines old new before [] text a run h =
-          subst (λ z. Exchange users secret own (before ++ []) (standing_of z)) (sym h.1)
-          (subst (λ ms. Exchange users secret own ms (standing_of old)) (sym (append-nil before)) run)
-      all_lines old new before (l ∷ ls) text a run (first, mid, later, h, t, e) =
-          let one = step old mid l first a h in
-          subst (λ ms. Exchange users secret own ms (standing_of new)) (append_assoc before (l ∷ []) ls)
-          (all_lines mid new (before ++ l ∷ []) ls later one.0 (more l run one.1) t)
-
-      -- from the beginning on
-      module _ (pass : DeskPass K) (last : SessionState K) (user : User) (named : last.user ≡ Some user) where
-        shown_by : (messages : List (List ℕ)) (text : List ℕ) → AnswersAll (AnswersSession desk) (opened admission pass) messages text last
-            → HasShown users secret own messages user.0
-        shown_by messages text h =
-            let run = all_lines (opened admission pass) last [] messages text refl nothing h in
-            named_has_shown users secret own messages (Named user.0)
-            (subst (λ z. Exchange users secret own messages (standing z last.begun last.over)) named run)
-
-        by_input : (lines_of : List ℕ → List (List ℕ)) (traffic : Traffic) (bytes : List ℕ)
-            → (lines_of bytes ≡ lines bytes) ⊎ (lines_of bytes ≡ whole_lines bytes)
-            → AnswersInput (AnswersSession desk) lines_of (opened admission pass) last traffic bytes
-            → HasLoggedIn users secret own traffic user
-        by_input lines_of traffic bytes are h =
-            record {
-              sent = bytes;
-              behind = [];
-              messages = lines_of bytes;
-              read = subst (Consumes traffic.left traffic.left') (sym (append-nil bytes)) h.read;
-              lines_are = are;
-              shown = shown_by (lines_of bytes) h.text h.answered;
-            }
-
-        by_end : (r : Result (Unit {0}) SessionFault) (traffic : Traffic)
-            → Ends (AnswersSession desk) is_over r (opened admission pass) last traffic
-            → HasLoggedIn users secret own traffic user
-        by_end (Ok u) traffic (bytes, inl h) = by_input lines traffic bytes (inl refl) h.0
-        by_end (Ok u) traffic (bytes, inr h) = by_input whole_lines traffic bytes (inr refl) h.0
-        by_end (Err faults.Read) traffic (bytes, h) = by_input whole_lines traffic bytes (inr refl) h
-        by_end (Err faults.Bound) traffic (bytes, h, n) = by_input whole_lines traffic bytes (inr refl) h
-        by_end (Err faults.Write) traffic h =
-            record {
-              sent = h.done;
-              behind = h.undone;
-              messages = lines h.done;
-              read = h.read;
-              lines_are = inl refl;
-              shown = shown_by (lines h.done) h.text h.answered;
-            }
-        by_end (Err faults.NoMemory) traffic h =
-            let none : Some user ≡ None = sym named ∙ ap (λ z. z.user) h.0 in absurd (none-some user (sym none))
-
--- who is known stays the one who is known
-module _ {K : Type 0} (desk : DeskLock K) (known : User) where
-  abbrev IsKnown : SessionState K → Type 0
-  IsKnown state = (state.admission ≡ admissions.Known known) × IfSome state.user (λ u. u ≡ known)
-
-  received_known : (reception : Reception) (begun : Option Beginning) (line : List ℕ) (old : SessionState K) → IsKnown old → Receives (admissions.Known known) begun line reception → IsKnown (behind_reception reception old)
-  received_known (receptions.Welcomed user answer) begun line old k r = (k.0, r.1)
-  received_known (receptions.Challenged other) begun line old k r = absurd r
-  received_known (receptions.Faulty code offset) begun line old k r = k
-  received_known receptions.Refused begun line old k r = absurd r
-  received_known receptions.Unread begun line old k r = absurd r
-
-  known_step : (old new : SessionState K) (line text : List ℕ) → IsKnown old → AnswersSession desk old line text new → AnswersSession desk old line text new × IsKnown new
-  known_step old _ line _ k (s.ended o) = (s.ended o, k)
-  known_step old _ line _ k (s.received reception o n r) = (s.received reception o n r, received_known reception old.begun line old k (subst (λ z. Receives z old.begun line reception) k.0 r))
-  known_step old _ line _ k (s.served user o n h) = (s.served user o n h, k)
-  known_step old _ line _ k (s.withheld user o n h) = (s.withheld user o n h, k)
-
-  known_end : (r : Result (Unit {0}) SessionFault) (pass : DeskPass K) (last : SessionState K) (traffic : Traffic) (user : User) → last.user ≡ Some user
-      → Ends (AnswersSession desk) is_over r (opened (admissions.Known known) pass) last traffic → user ≡ known
-  known_end r pass last traffic user named e =
-      let all = ends-seen (AnswersSession desk) (AnswersSession desk) (λ z. z) IsKnown known_step is_over is_over (λ z. refl) r (opened (admissions.Known known) pass) last traffic (refl, tt) e in
-      subst (λ z. IfSome z (λ u. u ≡ known)) named all.1.1
 
 -- what follows from any end of the lines of a session follows from its end
 by_ends : {K : Type 0} (desk : DeskLock K) (admission : Admission) (P : Type 0) (ended : Result (Unit {0}) SessionEnd) (last : SessionState K) (old new : DeskPass K) (traffic : Traffic)
@@ -179,20 +32,17 @@ by_ends desk admission P (Err (session_ends.Session fault)) last old new traffic
 by_ends desk admission P (Err session_ends.Journal) last old new traffic f (unkept, inl at) = f (Ok tt) at
 by_ends desk admission P (Err session_ends.Journal) last old new traffic f (unkept, inr at) = f (Err faults.Write) at
 
-login_receives : (users secret own : _) (begun : Option Beginning) (line : List ℕ) (reception : Reception) → Receives (admissions.Login users secret own) begun line reception → ReceivesLogin users.now secret.now own.now begun line reception
-login_receives users secret own None line reception r = r
-login_receives users secret own (Some begun) line reception r = r
-
 -- whose session it is has come by right
 pub has_come : {K : Type 0} (desk : DeskLock K) (admission : Admission) (summary : Summary) (old new : DeskPass K) (traffic : Traffic) (user : User)
     → EndsSession desk admission summary old new traffic → summary.user ≡ Some user → HasComeAs admission traffic user
 has_come desk admissions.Anyone summary old new traffic user e named = tt
 has_come desk (admissions.Known known) summary old new traffic user e named =
     by_ends desk (admissions.Known known) (user ≡ known) summary.ended e.last old new traffic
-    (λ r at. known_end desk known r old e.last traffic user (sym e.user_is ∙ named) at.ends) e.ends
-has_come {K = K} desk (admissions.Login users secret own) summary old new traffic user e named =
-    by_ends desk (admissions.Login users secret own) (HasLoggedIn users.now secret.now own.now traffic user) summary.ended e.last old new traffic
-    (λ r at. by_end users.now secret.now own.now (admissions.Login users secret own) (login_receives users secret own) desk old e.last user (sym e.user_is ∙ named) r traffic at.ends) e.ends
+    (λ r at. known_end desk known (AnswersSession desk) (known_step desk known) r old e.last traffic user (sym e.user_is ∙ named) at.ends) e.ends
+has_come {K = K} desk (admissions.Login file secret own) summary old new traffic user e named =
+    by_ends desk (admissions.Login file secret own) (HasLoggedIn (arc_value file).users secret own traffic user) summary.ended e.last old new traffic
+    (λ r at. by_end (arc_value file).users secret own (admissions.Login file secret own) (login_receives file secret own) desk
+    (AnswersSession desk) (step (arc_value file).users secret own (admissions.Login file secret own) (login_receives file secret own) desk) old e.last user (sym e.user_is ∙ named) r traffic at.ends) e.ends
 
 come_by_gains : {K : Type 0} (admission : Admission) (old new : DeskPass K) (traffic : Traffic) (found : Option User) → ((user : User) → found ≡ Some user → HasComeAs admission traffic user) → GainsOf found old new
     → (es : List Entry) × (mine asked_by new ≡ mine asked_by old ++ es) × All (λ (e : Entry). HasComeAs admission traffic e.user) es

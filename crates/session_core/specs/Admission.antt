@@ -1,4 +1,5 @@
 -- How a session comes by its user, and what a line comes to before he is welcome.
+use Rattle.std.specs.Arc.{arc_value}
 use Rattle.std.specs.Prelude.{◌≡◌, ℕ, ◌≤◌, ◌⊎◌, List, [], ◌++◌, length, codes, Option, Some, None, Ok, Err}
 use Rattle.base_core.specs.declared.name.User.{User}
 use Rattle.lexer_core.specs.declared.fault.Code.TheVariants as faults
@@ -61,10 +62,10 @@ ReceivesLast users begun line _ = ⊥
 abbrev pub Receives : Admission → Option Beginning → List ℕ → Reception → Type 0
 Receives admissions.Anyone begun line reception = ReceivesName line reception
 Receives (admissions.Known user) begun line reception = ReceivesKnown user line reception
-Receives (admissions.Login users secret own) None line reception =
-    ReceivesOpening users.now secret.now own.now line reception
-Receives (admissions.Login users secret own) (Some begun) line reception =
-    ReceivesLast users.now begun line reception
+Receives (admissions.Login file secret own) None line reception =
+    ReceivesOpening (arc_value file).users secret own line reception
+Receives (admissions.Login file secret own) (Some begun) line reception =
+    ReceivesLast (arc_value file).users begun line reception
 
 -- what is written for a user who is welcome
 abbrev pub welcome_text : User → List ℕ

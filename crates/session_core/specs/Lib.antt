@@ -4,7 +4,11 @@ pub mod Gains
 pub mod Checking
 pub mod EndNames
 pub mod LoggedIn
+pub mod Machines
+pub mod Parking
 pub mod Session
+pub mod Showing
+pub mod Stopping
 pub mod TooLong
 pub use Rattle.base_core.specs.Words
 pub use Rattle.base_core.specs.Streams

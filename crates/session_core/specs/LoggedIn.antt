@@ -1,4 +1,5 @@
 -- By what right a session was a user's.
+use Rattle.std.specs.Arc.{arc_value}
 use Rattle.std.specs.Prelude.{◌≡◌, ◌⊎◌, ℕ, List, ◌++◌}
 use Rattle.std.specs.Str.Lines.{lines}
 use Rattle.std.specs.Io.KnownBytes.{Consumes}
@@ -25,5 +26,5 @@ pub record HasLoggedIn (users : Users) (secret own : List ℕ) (traffic : Traffi
 abbrev pub HasComeAs : Admission → Traffic → User → Type 0
 HasComeAs admissions.Anyone traffic user = Unit {0}
 HasComeAs (admissions.Known known) traffic user = user ≡ known
-HasComeAs (admissions.Login users secret own) traffic user =
-    HasLoggedIn users.now secret.now own.now traffic user
+HasComeAs (admissions.Login file secret own) traffic user =
+    HasLoggedIn (arc_value file).users secret own traffic user

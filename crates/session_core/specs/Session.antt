@@ -1,5 +1,5 @@
 -- What the lines of a session say, what may be written for them, and how a session ends.
-use Rattle.std.specs.Prelude.{◌≡◌, ℕ, ◌+◌, ◌-◌, ◌^◌, ◌≤◌, ◌⊎◌, min, Bool, true, false, List, [], length, Option, Some, None, Result, Ok, Err}
+use Rattle.std.specs.Prelude.{◌≡◌, ℕ, ◌+◌, ◌-◌, ◌^◌, ◌≤◌, ◌⊎◌, min, Bool, true, false, List, [], ◌++◌, length, Option, Some, None, Result, Ok, Err}
 use Rattle.base_core.specs.declared.name.User.{User}
 use Rattle.lexer_core.specs.declared.fault.Code.{Code}
 use Rattle.lexer_core.specs.declared.lexer.TheConstants.{MAX_LINE}
@@ -12,7 +12,9 @@ use Rattle.system_core.specs.Replies.{told_moment}
 use Rattle.turnstile.specs.Passes.{IsSamePass}
 use Rattle.system_core.specs.declared.machine.event.Reply.{Reply}
 use Rattle.reply_core.specs.Texts.{fault_text, unread_text}
+use Rattle.reply_core.specs.Pending.{TellsPending}
 use Rattle.reply_core.specs.Telling.{TellsReply}
+use Rattle.reply_core.specs.declared.pending.Pending.{Pending}
 use Rattle.base_core.specs.declared.value.Moment.{Moment}
 use Rattle.desk_core.specs.declared.object.Ask.TheVariants as asks
 use Rattle.desk_core.specs.Guarded.{DeskLock, DeskPass}
@@ -55,6 +57,13 @@ abbrev pub AnswersNoted : {K : Type 0} → DeskLock K → User → List ℕ → 
     → DeskPass K → Option Moment → List ℕ → Type 0
 AnswersNoted desk user line old before new after text =
     (at : Option Moment) × AnswersUser desk user line old text at new × (after ≡ last_moment at before)
+
+-- The same of an answer that was begun, with whatever may still be written of what is pending of it.
+abbrev pub BeginsNoted : {K : Type 0} → DeskLock K → User → List ℕ → DeskPass K → Option Moment
+    → DeskPass K → Option Moment → Option Pending → List ℕ → Type 0
+BeginsNoted desk user line old before new after pending text =
+    (rest : List ℕ) → TellsPending pending rest
+    → AnswersNoted desk user line old before new after (text ++ rest)
 
 -- A line of a user at a desk whose reply is withheld: the change that it says was asked in a turn.
 -- Nothing is written for it.
@@ -109,6 +118,16 @@ progress_of server =
       pass = server.pass.now;
     }
 
+-- the server of lines has what it was lent, the same desk, and holds replies as before
+pub record KeepsLent {K R G : Type 0} (old new : Session K R G) : Type 0 where
+  pub pass : new.pass.ghost_name ≡ old.pass.ghost_name
+  pub begun : new.begun.ghost_name ≡ old.begun.ghost_name
+  pub tokens : new.tokens.ghost_name ≡ old.tokens.ghost_name
+  pub buffer : new.buffer.ghost_name ≡ old.buffer.ghost_name
+  pub owed : new.owed.ghost_name ≡ old.owed.ghost_name
+  pub desk : new.desk ≡ old.desk
+  pub holds : new.holds ≡ old.holds
+
 -- how far a session has come behind a line that nobody was welcome before
 abbrev pub behind_reception : {K : Type 0} → Reception → SessionState K → SessionState K
 behind_reception (receptions.Welcomed user answer) old = record old { user = Some user }
@@ -142,6 +161,21 @@ pub data AnswersSession {K : Type 0} (desk : DeskLock K) (old : SessionState K) 
       → Withholds desk user line old.pass pass
       → AnswersSession desk old line []
       (record old { pass = pass; answered = one_more old.answered; over = true; unkept = true })
+
+-- The answer to a line was begun: with whatever may still be written of what is owed of it, it is one.
+abbrev pub BeginsSession : {K : Type 0} → DeskLock K → SessionState K → List ℕ → List ℕ
+    → Option Pending → SessionState K → Type 0
+BeginsSession desk old line text owed new =
+    (rest : List ℕ) → TellsPending owed rest → AnswersSession desk old line (text ++ rest) new
+
+-- What a server of lines writes for a line, where nothing is owed of the one before. One that holds no
+-- replies owes nothing afterwards.
+pub record SessionAnswers {K R G : Type 0} (old : Session K R G) (line text : List ℕ) (new : Session K R G)
+    : Type 0 where
+  pub begins : old.owed.now ≡ None
+      → BeginsSession old.desk.now (progress_of old) line text new.owed.now (progress_of new)
+  pub lent : KeepsLent old new
+  pub whole : old.holds ≡ false → new.owed.now ≡ old.owed.now
 
 abbrev pub is_over : {K : Type 0} → SessionState K → Bool
 is_over progress = progress.over

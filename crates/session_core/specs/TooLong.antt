@@ -1,5 +1,6 @@
 -- Lines that are too long are answered alike.
-use Rattle.std.specs.Prelude.{◌≡◌, ℕ, ◌<◌, List, length, Option, Some, None, Err}
+use Rattle.std.specs.Arc.{arc_value}
+use Rattle.std.specs.Prelude.{◌≡◌, ℕ, ◌<◌, List, ◌++◌, length, Option, Some, None, Err}
 use Rattle.std.proofs.Common.{arith, sym, inl, inr, ◌∙◌}
 use Rattle.std.proofs.lemmas.Bool.Decides.{nat_tests}
 use Rattle.base_core.specs.declared.name.User.{User}
@@ -15,11 +16,13 @@ use Rattle.session_core.specs.declared.admission.Admission.{Admission}
 use Rattle.session_core.specs.declared.admission.Admission.TheVariants as admissions
 use Rattle.session_core.specs.declared.reception.Reception.{Reception}
 use Rattle.session_core.specs.declared.reception.Reception.TheVariants as receptions
+use Rattle.session_core.specs.declared.answering.Session.{Session}
 use Rattle.session_core.specs.Greeting.{greeting}
 use Rattle.login_core.specs.Users.{Users}
 use Rattle.login_core.specs.Login.{Beginning}
 use Rattle.session_core.specs.Admission.{ReceivesName, ReceivesKnown, ReceivesOpening, ReceivesLast, Receives, longest_message}
-use Rattle.session_core.specs.Session.{SessionState, AnswersUser, faulty, said, unread, AnswersSession, ended, received, served, withheld}
+use Rattle.session_core.specs.Parking.{AnswersThrough}
+use Rattle.session_core.specs.Session.{SessionState, AnswersUser, faulty, said, unread, AnswersSession, SessionAnswers, progress_of, ended, received, served, withheld}
 
 greeting-too_long : (line : List ℕ) → MAX_LINE < length line → greeting line ≡ Err (faults.TooLong, MAX_LINE)
 greeting-too_long line h = grind (arith, nat_tests)
@@ -105,11 +108,11 @@ Receives-too_long admissions.Anyone begun line other reception h k r =
     ReceivesName-too_long line other reception (same-greeting line other h k) r
 Receives-too_long (admissions.Known user) begun line other reception h k r =
     ReceivesKnown-too_long user line other reception (same-greeting line other h k) r
-Receives-too_long (admissions.Login users secret own) None line other reception h k r =
-    ReceivesOpening-too_long line other (omega (arith, h)) (omega (arith, k)) users.now secret.now own.now
+Receives-too_long (admissions.Login file secret own) None line other reception h k r =
+    ReceivesOpening-too_long line other (omega (arith, h)) (omega (arith, k)) (arc_value file).users secret own
     reception r
-Receives-too_long (admissions.Login users secret own) (Some begun) line other reception h k r =
-    ReceivesLast-too_long line other (omega (arith, h)) (omega (arith, k)) users.now begun reception r
+Receives-too_long (admissions.Login file secret own) (Some begun) line other reception h k r =
+    ReceivesLast-too_long line other (omega (arith, h)) (omega (arith, k)) (arc_value file).users begun reception r
 
 pub AnswersSession-too_long : {K : Type 0} (desk : DeskLock K) (old new : SessionState K) (line other text : List ℕ)
     → LONGEST_LINE < length line
@@ -123,3 +126,27 @@ AnswersSession-too_long desk old _ line other _ h k (served {text} {at} {pass} u
     served user o u (AnswersUser-too_long desk user old.pass pass line other text at (omega (arith, h)) (omega (arith, k)) a)
 AnswersSession-too_long desk old _ line other _ h k (withheld {pass} user o u w) =
     let s = w.spelled.says.short in absurd (omega (arith, h, s))
+
+-- and so they are through any pass that has seen no less
+pub AnswersThrough-too_long : {K : Type 0} (desk : DeskLock K) (old new : SessionState K) (line other text : List ℕ)
+    → LONGEST_LINE < length line
+    → LONGEST_LINE < length other
+    → AnswersThrough desk old line text new
+    → AnswersThrough desk old other text new
+AnswersThrough-too_long desk old new line other text h k a = record {
+  pass = a.pass;
+  sees = a.sees;
+  answered = AnswersSession-too_long desk (record old { pass = a.pass }) new line other text h k a.answered;
+}
+
+pub SessionAnswers-too_long : {K R G : Type 0} (old new : Session K R G) (line other text : List ℕ)
+    → LONGEST_LINE < length line
+    → LONGEST_LINE < length other
+    → SessionAnswers old line text new
+    → SessionAnswers old other text new
+SessionAnswers-too_long old new line other text h k a = record {
+  begins = λ none rest tells.
+      AnswersSession-too_long old.desk.now (progress_of old) (progress_of new) line other (text ++ rest) h k (a.begins none rest tells);
+  lent = a.lent;
+  whole = a.whole;
+}

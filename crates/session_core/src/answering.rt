@@ -7,12 +7,12 @@ use desk_core::{Desk, Pass};
 use journal_core::Keeper;
 use lexer_core::Token;
 use login_core::Beginning;
-use reply_core::ReplyBuffer;
+use reply_core::{Pending, ReplyBuffer};
 use std::alloc::Global;
 
 /// What answers the lines of a session.
 #[derive(Drop)]
-pub(crate) struct Session<'a, 'b, K: Keeper + Drop, R, G> {
+pub(crate) struct Session<'a, K: Keeper + Drop, R, G> {
     pub rt: &'a R,
     pub alloc: Global,
     pub desk: &'a Desk<K>,
@@ -20,8 +20,12 @@ pub(crate) struct Session<'a, 'b, K: Keeper + Drop, R, G> {
     pub gate: &'a G,
     pub tokens: &'a mut Vec<Token>,
     pub buffer: &'a mut ReplyBuffer,
-    pub admission: &'a Admission<'b>,
+    pub admission: &'a Admission,
     pub begun: &'a mut Option<Beginning>,
+    // What is still to be written of the last reply.
+    pub owed: &'a mut Option<Pending>,
+    // Whether long replies are only begun.
+    pub holds: bool,
     pub user: Option<User>,
     pub over: bool,
     pub unkept: bool,

@@ -12,6 +12,14 @@
 //! who he says, and [`serve_line`] is one line. The [`Summary`] that comes of a session says whose
 //! it was, how many lines came behind his welcome, and the moment of the last reply that bore one.
 //!
+//! A [`SessionMachine`] is a session between two pieces of what its client sends, which anyone goes on
+//! with through a pass of his own: it meets a note of what the session has seen. Its contract says how
+//! far it has come by its protocol, and its laws that it may end wherever its client stops, and that
+//! whose session it is has come by right (`specs/Machines.antt`). [`Parked`] is the one of lines, the
+//! same session as above (`specs/Parking.antt`). Of a long reply it writes the first, and owes the rest
+//! before the next line: once that is written, the whole is one answer. Wherever its client stops it
+//! ends as a session ends (law [`laws::parked_session_ends`]).
+//!
 //! A reply that the desk withholds, that to a change which could not be kept, is not written, and
 //! the session is over: it ends with [`SessionEnd::Journal`].
 //!
@@ -48,18 +56,24 @@ mod checkpointing;
 mod greeting;
 pub mod laws;
 mod line;
+mod parked;
 mod reception;
+mod scratch;
 mod session;
 mod session_end;
+mod session_machine;
 mod summary;
 mod witness;
 
-pub use admission::Admission;
+pub use admission::{Admission, NONCE_BYTES};
 pub use checkpointing::checkpointer;
 pub use line::serve_line;
 pub use lines_core::SessionFault;
+pub use parked::Parked;
 pub use reception::Reception;
+pub use scratch::Scratch;
 pub use session::{serve_admitted, serve_session};
 pub use session_end::{SessionEnd, end_name};
+pub use session_machine::SessionMachine;
 pub use summary::Summary;
 pub use witness::Witness;

@@ -120,18 +120,18 @@ fn challenged(
 /// this login, if he has.
 pub(crate) fn received(
     alloc: Global,
-    admission: &Admission<'_>,
+    admission: &Admission,
     begun: &Option<Beginning>,
     line: &[u8],
 ) -> Reception
     ensures { Receives admission.now begun.now line.now result }
 {
-    match *admission {
+    match admission {
         Admission::Anyone => named(alloc, line),
-        Admission::Known(user) => known(alloc, user, line),
-        Admission::Login { users, secret, own } => match begun {
-            Some(begun) => logged_in(alloc, users, begun, line),
-            None => challenged(alloc, users, secret, own, line),
+        Admission::Known(user) => known(alloc, *user, line),
+        Admission::Login { file, secret, own } => match begun {
+            Some(begun) => logged_in(alloc, &file.users, begun, line),
+            None => challenged(alloc, &file.users, secret, own, line),
         },
     }
 }

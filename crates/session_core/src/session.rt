@@ -4,11 +4,11 @@ ghost use Rattle.base_core.specs.Streams.{MayWrite, MayWriteText};
 ghost use Rattle.lines_core.specs.Serving.{traffic_of};
 ghost use Rattle.turnstile.specs.Passes.{IsSamePass};
 ghost use Rattle.session_core.specs.Admission.{welcome_text, refused_login_text};
-ghost use Rattle.session_core.specs.Session.{AnswersSession, progress_of, end_of, EndsSession};
+ghost use Rattle.session_core.specs.Session.{AnswersSession, BeginsSession, progress_of, KeepsLent, end_of, EndsSession};
 
 use crate::admission::Admission;
 use crate::answering::Session;
-use crate::line::serve_line;
+use crate::line::begin_line;
 use crate::reception::{Reception, received};
 use crate::session_end::SessionEnd;
 use crate::summary::Summary;
@@ -17,7 +17,7 @@ use base_core::{Broken, Sink, Source, User, write_all};
 use desk_core::{Desk, Pass, Unkept};
 use journal_core::Keeper;
 use lines_core::{LineServer, SessionFault, serve};
-use reply_core::{ReplyBuffer, write_fault, write_unread};
+use reply_core::{ReplyBuffer, write_fault, write_rest, write_unread};
 use std::alloc::Global;
 use std::sync::Wait;
 
@@ -53,13 +53,13 @@ fn write_admitted<W: Sink>(writer: &mut W, answer: &[u8], user: &User) -> Result
     write_welcome(writer, user)
 }
 
-impl<'a, 'b, K: Keeper + Drop, R: Wait, G: Witness> Session<'a, 'b, K, R, G> {
+impl<'a, K: Keeper + Drop, R: Wait, G: Witness> Session<'a, K, R, G> {
     /// Answers a line before a user is welcome.
     fn greet<W: Sink>(&mut self, writer: &mut W, line: &[u8]) -> Result<(), Broken>
         requires first { (self.old.over ≡ false) × (self.old.user ≡ None) }
         requires sink { W.failed writer.old ≡ false }
-        ensures holds { (self.new.pass.ghost_name ≡ self.old.pass.ghost_name)
-            × (self.new.desk ≡ self.old.desk) }
+        ensures lent { KeepsLent self.old self.new }
+        ensures owed { self.new.owed.now ≡ self.old.owed.now }
         ensures text { MayWrite W.failed W.taken
             (λ text. AnswersSession self.old.desk.now (progress_of self.old) line.now text
             (progress_of self.new))
@@ -91,19 +91,21 @@ impl<'a, 'b, K: Keeper + Drop, R: Wait, G: Witness> Session<'a, 'b, K, R, G> {
         }
     }
 
-    /// Answers a later line. One whose reply is withheld ends the session.
+    /// Answers a later line, or begins to, where replies are held. One whose reply is withheld ends the
+    /// session.
     fn attend<W: Sink>(&mut self, writer: &mut W, user: User, line: &[u8]) -> Result<(), Broken>
         requires later { (self.old.over ≡ false) × (self.old.user ≡ Some user) }
+        requires free { self.old.owed.now ≡ None }
         requires sink { W.failed writer.old ≡ false }
-        ensures holds { (self.new.pass.ghost_name ≡ self.old.pass.ghost_name)
-            × (self.new.desk ≡ self.old.desk) }
+        ensures lent { KeepsLent self.old self.new }
         ensures text { MayWrite W.failed W.taken
-            (λ text. AnswersSession self.old.desk.now (progress_of self.old) line.now text
-            (progress_of self.new))
+            (λ text. BeginsSession self.old.desk.now (progress_of self.old) line.now text
+            self.new.owed.now (progress_of self.new))
             result writer.old writer.new }
+        ensures whole { self.old.holds ≡ false → self.new.owed.now ≡ None }
     {
         self.answered = self.answered.saturating_add(1);
-        let told = serve_line(
+        let begun = begin_line(
             self.rt,
             self.alloc,
             self.desk,
@@ -116,15 +118,23 @@ impl<'a, 'b, K: Keeper + Drop, R: Wait, G: Witness> Session<'a, 'b, K, R, G> {
             self.gate,
             &mut self.moment,
         )?;
-        if let Err(Unkept) = told {
-            self.over = true;
-            self.unkept = true;
+        match begun {
+            Ok(pending) => {
+                if !self.holds {
+                    return write_rest(pending, self.buffer, writer, self.gate);
+                }
+                *self.owed = pending;
+            }
+            Err(Unkept) => {
+                self.over = true;
+                self.unkept = true;
+            }
         }
         Ok(())
     }
 }
 
-impl<'a, 'b, K: Keeper + Drop, R: Wait, G: Witness> Session<'a, 'b, K, R, G> {
+impl<'a, K: Keeper + Drop, R: Wait, G: Witness> Session<'a, K, R, G> {
     /// What is told of the session, if the answering of its lines ended so.
     fn summary(&self, served: Result<(), SessionFault>) -> Summary
         ensures { result ≡ record {
@@ -143,15 +153,11 @@ impl<'a, 'b, K: Keeper + Drop, R: Wait, G: Witness> Session<'a, 'b, K, R, G> {
     }
 }
 
-impl<'a, 'b, K: Keeper + Drop, R: Wait, G: Witness> LineServer for Session<'a, 'b, K, R, G> {
-    ghost use Rattle.std.specs.Prelude.{◌≡◌};
-    ghost use Rattle.session_core.specs.Session.{progress_of, AnswersSession};
-    ghost use Rattle.session_core.specs.TooLong.{AnswersSession-too_long};
+impl<'a, K: Keeper + Drop, R: Wait, G: Witness> LineServer for Session<'a, K, R, G> {
+    ghost use Rattle.session_core.specs.Session.{SessionAnswers};
+    ghost use Rattle.session_core.specs.TooLong.{SessionAnswers-too_long};
 
-    ghost answers = { λ old line text new.
-        AnswersSession old.desk.now (progress_of old) line text (progress_of new)
-        × (new.pass.ghost_name ≡ old.pass.ghost_name)
-        × (new.desk ≡ old.desk) };
+    ghost answers = { SessionAnswers };
 
     ghost over = { λ s. s.over };
 
@@ -160,7 +166,8 @@ impl<'a, 'b, K: Keeper + Drop, R: Wait, G: Witness> LineServer for Session<'a, '
     }
 
     fn answer<W: Sink>(&mut self, writer: &mut W, line: &[u8]) -> Result<(), Broken> {
-        if self.over {
+        // What is owed is written before the next line is looked at.
+        if self.over || self.owed.is_some() {
             return Ok(());
         }
         match self.user {
@@ -169,12 +176,11 @@ impl<'a, 'b, K: Keeper + Drop, R: Wait, G: Witness> LineServer for Session<'a, '
         }
     }
 
-    ghost too_long = { λ old new line other text h k a.
-        (AnswersSession-too_long _ _ _ line other text h k a.0, a.1, a.2) };
+    ghost too_long = { SessionAnswers-too_long };
 }
 
 /// How a session ended of which a reply was withheld or not, and whose lines were answered so.
-fn end_of(unkept: bool, served: Result<(), SessionFault>) -> Result<(), SessionEnd>
+pub(crate) fn end_of(unkept: bool, served: Result<(), SessionFault>) -> Result<(), SessionEnd>
     ensures { result ≡ end_of unkept served }
 {
     if unkept {
@@ -202,7 +208,7 @@ pub fn serve_admitted<K: Keeper + Drop, R: Wait, S: Source, W: Sink, G: Witness>
     alloc: Global,
     desk: &Desk<K>,
     pass: &mut Pass<K>,
-    admission: &Admission<'_>,
+    admission: &Admission,
     reader: &mut S,
     writer: &mut W,
     gate: &G,
@@ -231,6 +237,7 @@ pub fn serve_admitted<K: Keeper + Drop, R: Wait, S: Source, W: Sink, G: Witness>
     };
     let mut tokens = Vec::new(alloc);
     let mut begun = None;
+    let mut owed = None;
     let mut session = Session {
         rt,
         alloc,
@@ -241,6 +248,8 @@ pub fn serve_admitted<K: Keeper + Drop, R: Wait, S: Source, W: Sink, G: Witness>
         buffer: &mut buffer,
         admission,
         begun: &mut begun,
+        owed: &mut owed,
+        holds: false,
         user: None,
         over: false,
         unkept: false,

@@ -35,14 +35,14 @@ def connect(host: str, port: int, user: str, *, password: Optional[str] = None, 
     has to show that it knows this user's verifier. A server with a file of users takes no session without a password,
     and a server without such a file none with one: either is a `FaultError`, and nothing else is tried.
 
-    A server whose workers are all busy lets a session wait. `timeout` is in seconds: how long the connection may take,
+    A server whose workers are all busy lets a client wait. `timeout` is in seconds: how long the connection may take,
     and then each wait until a byte comes or goes; None is for ever. `tables` has columns by table, as
     `Connection.declare` takes them.
 
     Errors: `ProgrammingError` of what is no name, no port or no password; `ConnectionEnded` where nobody listens or the
     session is ended at once; `LoginError` where the login is refused, which is told a second later, or where the server
-    has not shown that it knows the user; `UnavailableError` where it has no memory for the session; `TimedOut`;
-    `ProtocolError` where something else than this server answers.
+    has not shown that it knows the user; `UnavailableError` where it has no memory for the session, or as many sessions
+    as it may (`refused: sessions`); `TimedOut`; `ProtocolError` where something else than this server answers.
     """
     user, known = name(user), Tables()
     login = None if password is None else Login(password)

@@ -100,8 +100,8 @@ class Interactive:
 
 @contextlib.contextmanager
 def patience() -> Iterator[None]:
-    """Says so where a connection takes long: a server whose workers are all busy lets a session wait."""
-    late = threading.Timer(PATIENCE, complain, ["waiting for a worker of the server; Ctrl-C gives up"])
+    """Says so where a connection takes long: a server whose workers are all busy lets a client wait."""
+    late = threading.Timer(PATIENCE, complain, ["waiting for the server; Ctrl-C gives up"])
     late.daemon = True
     late.start()
     try:

@@ -1,41 +1,41 @@
-use Rattle.std.proofs.Common.{◌≡◌, Some, ◌∙◌, refl, sym, subst}
-use Rattle.server_core.specs.Sessions.{Working, nobody}
-use Rattle.server_core.proofs.SamePass.{attends_same, attended_more}
+use Rattle.std.proofs.Common.{◌≡◌, Some, ◌∙◌, sym, subst}
+use Rattle.door_core.specs.Entrance.{Admittance}
+use Rattle.server_core.specs.Sessions.{Working, ServesPieces, nobody}
+use Rattle.server_core.proofs.SamePass.{pieces_same, attended_pieces, attended_count}
 use Rattle.server_core.proofs.worker.work.Goals as goal
 
 pub loop-init : goal.loop-init
 loop-init g c = record {
-  own = subst (λ (w : Working g.row.K.Denot). w.pass.lock ≡ Some c.args.desk.now) (sym c.worker.view_is) c.requires;
-  part = c.worker.invariant;
+  own = subst (λ (w : Working g.row.K.Denot). w.pass.lock ≡ Some c.args.desk.now) (sym c.worker.view_is) c.requires.pass;
+  part = c.worker.invariant.0;
+  nothing = c.worker.invariant.1;
   served = nobody;
 }
 
-pub loop-preserved : goal.loop-preserved
-loop-preserved g c =
+pub loop-preserved-in-Door : goal.loop-preserved-in-Door
+loop-preserved-in-Door g c =
+    let protocol = g.I.Session.SessionMachine.protocol in
     let by = c.args.service.now.entrance.now in
-    let desk = c.args.desk.now in
-    let summary = c.attend-summary.result in
-    let pass = c.attend-summary.new.pass in
     let old : Working g.row.K.Denot = record { pass = c.worker.inside.pass; sessions = c.worker.inside.token.amount } in
     let between : Working g.row.K.Denot = record { pass = c.loop.pass; sessions = c.loop.token.amount } in
-    let same = attends_same by desk summary c.loop.pass pass c.attend-summary.ensures in
     record {
-      own = same.0 ∙ c.loop.invariant.own;
-      part = c.admit.ensures.parts ∙ c.loop.invariant.part;
-      served = attended_more by desk old between summary pass _ (c.in-Some-admit.ensures.one refl) c.loop.invariant.served c.attend-summary.ensures;
+      own = c.loop.invariant.own;
+      part = c.open_door.ensures.parts ∙ c.loop.invariant.part;
+      nothing = c.loop.invariant.nothing;
+      served = attended_count protocol by c.args.desk.now old between c.open_door.new.token.amount c.loop.invariant.served c.open_door.ensures.amount;
     }
 
-pub loop-preserved-after-summary : goal.loop-preserved-after-summary
-loop-preserved-after-summary g c =
+pub loop-preserved-in-Session : goal.loop-preserved-in-Session
+loop-preserved-in-Session g c =
+    let protocol = g.I.Session.SessionMachine.protocol in
     let by = c.args.service.now.entrance.now in
     let desk = c.args.desk.now in
-    let summary = c.attend-summary.result in
-    let pass = c.attend-summary.new.pass in
     let old : Working g.row.K.Denot = record { pass = c.worker.inside.pass; sessions = c.worker.inside.token.amount } in
     let between : Working g.row.K.Denot = record { pass = c.loop.pass; sessions = c.loop.token.amount } in
-    let same = attends_same by desk summary c.loop.pass pass c.attend-summary.ensures in
+    let served : ServesPieces protocol by desk c.loop.pass c.attend.new.pass = subst (λ (b : Admittance). ServesPieces protocol b desk c.loop.pass c.attend.new.pass) c.requires.by c.attend.ensures.pieces in
     record {
-      own = same.0 ∙ c.loop.invariant.own;
-      part = c.admit.ensures.parts ∙ c.loop.invariant.part;
-      served = attended_more by desk old between summary pass _ (c.in-Some-admit.ensures.one refl) c.loop.invariant.served c.attend-summary.ensures;
+      own = (pieces_same protocol by desk c.loop.pass c.attend.new.pass served).0 ∙ c.loop.invariant.own;
+      part = c.loop.invariant.part;
+      nothing = c.attend.ensures.handed_on;
+      served = attended_pieces protocol by desk old between c.attend.new.pass c.loop.invariant.served served;
     }

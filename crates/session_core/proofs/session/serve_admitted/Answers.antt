@@ -8,23 +8,20 @@ use Rattle.session_core.specs.declared.summary.Summary.{Summary}
 use Rattle.session_core.specs.Session.{GainsOf, progress_of, EndsBy}
 use Rattle.lines_core.proofs.Over.{over-or-broken}
 use Rattle.session_core.proofs.Ending.{ends-by, ends-read, ends-write}
-use Rattle.session_core.specs.declared.answering.Session.{Session}
 use Rattle.session_core.proofs.Sessions.{session_ends, same_pass}
 use Rattle.session_core.proofs.session.serve_admitted.Goals as goal
 
 pub returns-clause-same : goal.returns-clause-same
 returns-clause-same g c =
-    let X = Session g.row.K.Denot g.row.R.Denot g.row.G.Denot in
-    let e = session_ends {X = X} progress_of (λ s. s.pass.ghost_name) (λ s. s.desk) (λ d. d.now) c.args.admission.now c.args.pass.now c.serve-served.result _ c.serve-served.new.server _ refl c.serve-served.ensures.ends in
-    let now = c.pass-1.given.1 (sym e.1) in
+    let e = session_ends c.args.admission.now c.args.pass.now c.serve-served.result _ c.serve-served.new.server _ c.serve-served.ensures.ends refl refl refl in
+    let now = c.pass-1.given.1 (sym e.1.pass) in
     subst (λ z. IsSamePass c.args.pass.now z) (sym now) (same_pass _ _ _ e.2)
 
 pub returns-clause-read : goal.returns-clause-read
 returns-clause-read g c =
-    let X = Session g.row.K.Denot g.row.R.Denot g.row.G.Denot in
     let y = c.serve-served.new.server in
     let served = c.serve-served.result in
-    let e = session_ends {X = X} progress_of (λ s. s.pass.ghost_name) (λ s. s.desk) (λ d. d.now) c.args.admission.now c.args.pass.now served _ y _ refl c.serve-served.ensures.ends in
+    let e = session_ends c.args.admission.now c.args.pass.now served _ y _ c.serve-served.ensures.ends refl refl refl in
     let how = λ (unkept : y.unkept ≡ true). over-or-broken served (g.W.Sink.failed c.serve-served.new.writer) false y.over c.serve-served.ensures.write.1 c.serve-served.ensures.not_over refl (e.3 unkept) in
     let same = ends-read y.unkept served how in
     let read = c.serve-served.ensures.read in
@@ -44,11 +41,10 @@ returns-clause-write g c =
 
 pub returns-clause-ends : goal.returns-clause-ends
 returns-clause-ends g c =
-    let X = Session g.row.K.Denot g.row.R.Denot g.row.G.Denot in
     let y = c.serve-served.new.server in
     let served = c.serve-served.result in
-    let e = session_ends {X = X} progress_of (λ s. s.pass.ghost_name) (λ s. s.desk) (λ d. d.now) c.args.admission.now c.args.pass.now served _ y _ refl c.serve-served.ensures.ends in
-    let now = c.pass-1.given.1 (sym e.1) in
+    let e = session_ends c.args.admission.now c.args.pass.now served _ y _ c.serve-served.ensures.ends refl refl refl in
+    let now = c.pass-1.given.1 (sym e.1.pass) in
     let last = progress_of y in
     let how = λ (unkept : y.unkept ≡ true). over-or-broken served (g.W.Sink.failed c.serve-served.new.writer) false y.over c.serve-served.ensures.write.1 c.serve-served.ensures.not_over refl (e.3 unkept) in
     let traffic = traffic_of (g.S.Source.left c.args.reader.now) (g.S.Source.left c.serve-served.new.reader) (g.W.Sink.taken c.args.writer.now) (g.W.Sink.taken c.serve-served.new.writer) in

@@ -1,14 +1,18 @@
-use Rattle.std.proofs.Common.{rules, ◌+◌, subst, sym}
+use Rattle.std.proofs.Common.{rules, arith, ◌≡◌, ℕ, suc, List, ◌∷◌, ◌+◌, get_or, subst, sym}
 use Rattle.std.specs.Prelude.{All}
-use Rattle.server_core.specs.Sessions.{IsCheckpointers}
+use Rattle.server_core.specs.Sessions.{IsNewWorker, IsCheckpointers}
 use Rattle.serving_core.specs.Promises.{IsOfServer}
 use denote.Param.{param}
 use denote.Param.Send.{sendable, param_send, arg_send}
 use Rattle.std.proofs.Crossing.{crosses}
 use Rattle.turnstile.proofs.pass.Pass.TheSendSync as pass
-use Rattle.serving_core.proofs.Sends.{core_send, desk_sync, worker_send, door_send, service_sync}
+use Rattle.server_core.specs.contracts.instance.AtSite as AtSite
+use Rattle.serving_core.proofs.Sends.{core_send, desk_sync, worker_send, door_send, at_site_send, service_sync}
 use Rattle.serving_core.proofs.threads.fn.serve_all.scope.Goals.{in-Ok-spawn_with-2, in-Err}
 use Rattle.serving_core.proofs.threads.fn.serve_all.scope.Goals as goal
+
+next_all : {A : Type 0} (P : A → Type 0) (old new : List A) (x : A) → old ≡ x ∷ new → (k : ℕ) (d : A) → P (get_or old (suc k) d) → P (get_or new k d)
+next_all P old new x e k d h = subst (λ xs. P (get_or xs (suc k) d)) e h
 
 pub spawn_with-requires-send-F : goal.spawn_with-requires-send-F
 spawn_with-requires-send-F g c κs within =
@@ -16,7 +20,9 @@ spawn_with-requires-send-F g c κs within =
     let rt = c.requires.crosses.1 in
     let core = core_send (param 0 g.row.K) g.K.Keeper k in
     let desk = desk_sync (param 0 g.row.K) g.K.Keeper k in
-    let service = service_sync in
+    let machine = c.requires.crosses.4 in
+    let site = at_site_send (param 2 g.row.S) (param 3 g.row.M) c.requires.crosses.3 machine in
+    let service = service_sync (param 0 g.row.K) (AtSite.the_row (param 2 g.row.S) (param 3 g.row.M)) (param 3 g.row.M) g.K.Keeper k site machine in
     search (param_send, arg_send, sendable, crosses, pass.the_send) depth 40 fits 20000
 
 pub spawn_with-requires-send-T : goal.spawn_with-requires-send-T
@@ -32,7 +38,9 @@ spawn_with-requires-in-loop-worker-send-F g c κs within =
     let desk = desk_sync (param 0 g.row.K) g.K.Keeper k in
     let own = worker_send (param 0 g.row.K) (param 1 g.row.L) g.K.Keeper g.L.Ledger k in
     let door = door_send (param 1 g.row.L) g.L.Ledger in
-    let service = service_sync in
+    let machine = c.requires.crosses.4 in
+    let site = at_site_send (param 2 g.row.S) (param 3 g.row.M) c.requires.crosses.3 machine in
+    let service = service_sync (param 0 g.row.K) (AtSite.the_row (param 2 g.row.S) (param 3 g.row.M)) (param 3 g.row.M) g.K.Keeper k site machine in
     search (param_send, arg_send, sendable, crosses) depth 40 fits 20000
 
 pub spawn_with-requires-in-loop-worker-send-T : goal.spawn_with-requires-in-loop-worker-send-T
@@ -44,7 +52,7 @@ pub loop-worker-preserved-after-spawn_with-2-2 : goal.loop-worker-preserved-afte
 loop-worker-preserved-after-spawn_with-2-2 g c =
     let was = c.loop-worker.invariant in
     let step = c.in-Some.ensures.steps in (
-      (λ k d below. let h = was.0 (k + 1) d in grind rules),
+      (λ k d below. next_all (λ w. IsNewWorker c.captures.begun.now.value.journal c.captures.desk.now w) _ _ c.in-Some.worker step.0 k d (was.0 (suc k) d (omega (arith, below, step.1)))),
       elim c.match-spawn_with-2.branch [
         | in-Ok-spawn_with-2 w ↦ subst (λ z. All (λ p. IsOfServer c.captures.desk.now c.captures.begun.now c.captures.service.now.entrance.now p.promise) z.items) (sym w.threads-is) w.keep.ensures
         | in-Err w ↦ subst (λ z. All (λ p. IsOfServer c.captures.desk.now c.captures.begun.now c.captures.service.now.entrance.now p.promise) z.items) (sym w.threads-is) was.1

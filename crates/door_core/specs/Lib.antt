@@ -1,0 +1,4 @@
+pub mod Door
+pub mod Entrance
+pub mod Telling
+pub use Rattle.login_core.specs.Users

@@ -1,0 +1,12 @@
+use Rattle.std.proofs.Common.{◌≡◌}
+use Rattle.std.specs.Prelude.{Some, []}
+use Rattle.server_core.specs.Sessions.{ServesPieces}
+use Rattle.server_core.proofs.attending.attend.Given as goal
+
+-- the pass is one of the desk, pieces of sessions alone went through it, and nothing is gathered
+abbrev pub invariant-loop : goal.invariant-loop
+invariant-loop g l = record {
+  own : l.pass.lock ≡ Some l.desk;
+  served : ServesPieces g.I.Session.SessionMachine.protocol g.I.Instance.by l.desk l.initial.pass l.pass;
+  nothing : l.room ≡ [];
+}

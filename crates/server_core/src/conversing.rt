@@ -1,0 +1,139 @@
+//! How lines of a session are answered, as far as its client takes the answers.
+ghost use Rattle.std.specs.Prelude.{◌≡◌, Some};
+ghost use Rattle.server_core.specs.Sessions.{IsOf, ServesPiece, ServesPieces};
+
+use crate::connection::Connection;
+use crate::instance::Instance;
+use crate::leaving::REFUSED;
+use crate::outbox::{Outbox, send};
+use crate::parked_session::{ParkedSession, Progress};
+use crate::room::{OUTPUT_BYTES, Speech};
+use crate::service::Service;
+use base_core::{Name, NoGate, Unbuffered};
+use desk_core::{Desk, Pass};
+use journal_core::Keeper;
+use reply_core::Pending;
+use session_core::{SessionFault, Summary, Witness};
+use std::alloc::Global;
+use std::sync::Wait;
+
+/// How far a session has come by what its client has sent.
+#[derive(Drop)]
+pub(crate) enum Spoken<K: Keeper + Drop, I: Instance<K>> {
+    /// It waits for its client, and has taken so many bytes.
+    Waits(ParkedSession<K, I>, usize),
+    /// It has ended, once this is written, if anything is still to be.
+    Ended(Summary, Option<Pending>),
+    /// Its login was refused, that of this user, if he has said who he is.
+    Refused(Option<Name>),
+}
+
+/// Whether there is room for more, where the client takes what was gathered. None where his connection is
+/// gone.
+pub(crate) fn has_room(connection: &Connection, gathered: &mut Vec<u8>) -> Option<bool> {
+    if gathered.len() < OUTPUT_BYTES {
+        return Some(true);
+    }
+    match send(&connection.stream, gathered) {
+        Ok(()) => Some(gathered.len() < OUTPUT_BYTES),
+        Err(_) => None,
+    }
+}
+
+/// What comes of a session that has ended so: where it was logging in, and its client has said who he is, his
+/// login was refused.
+fn ended<K: Keeper + Drop, I: Instance<K>>(
+    was_logging_in: bool,
+    summary: Summary,
+    claimed: Option<Name>,
+    owed: Option<Pending>,
+) -> Spoken<K, I> {
+    if was_logging_in && summary.user.is_none() && claimed.is_some() {
+        return Spoken::Refused(claimed);
+    }
+    Spoken::Ended(summary, owed)
+}
+
+/// Goes on with the reply that a session owes.
+fn tell_on<K: Keeper + Drop, I: Instance<K>>(
+    session: ParkedSession<K, I>,
+    speech: &mut Speech,
+) -> Progress<K, I> {
+    let Speech { output, scratch } = speech;
+    let mut writer = Unbuffered::new(Outbox::new(output));
+    session.go_on(scratch, &mut writer, &NoGate)
+}
+
+/// Answers the next line of a session. A login that may not be made any more as it was begun is refused.
+fn answer_next<K: Keeper + Drop, I: Instance<K>, R: Wait, G: Witness>(
+    rt: &R,
+    alloc: Global,
+    desk: &Desk<K>,
+    pass: &mut Pass<K>,
+    session: ParkedSession<K, I>,
+    speech: &mut Speech,
+    piece: &[u8],
+    service: &Service<'_, K, I>,
+    gate: &G,
+) -> Progress<K, I>
+    requires desk { I.desk ≡ Some desk.now }
+    requires pass { IsOf desk.now pass.old }
+    ensures { ServesPiece I.Session.protocol I.by desk.now pass.old pass.new }
+{
+    let Speech { output, scratch } = speech;
+    if session.is_outdated(rt, service.entrance.login()) {
+        let _ = output.extend_from_slice(REFUSED);
+        return session.given_up();
+    }
+    let mut writer = Unbuffered::new(Outbox::new(output));
+    session.feed(rt, alloc, desk, pass, scratch, &mut writer, gate, piece)
+}
+
+/// Goes on with a session by these bytes, line by line, as far as its client takes the answers.
+pub(crate) fn converse<K: Keeper + Drop, I: Instance<K>, R: Wait, G: Witness>(
+    rt: &R,
+    alloc: Global,
+    desk: &Desk<K>,
+    pass: &mut Pass<K>,
+    connection: &Connection,
+    session: ParkedSession<K, I>,
+    speech: &mut Speech,
+    piece: &[u8],
+    service: &Service<'_, K, I>,
+    gate: &G,
+) -> Spoken<K, I>
+    requires desk { I.desk ≡ Some desk.now }
+    requires pass { IsOf desk.now pass.old }
+    ensures { ServesPieces I.Session.protocol I.by desk.now pass.old pass.new }
+{
+    let mut session = session;
+    let mut taken = 0;
+    for _ in rt.forever() {
+        match has_room(connection, &mut speech.output) {
+            Some(true) => {}
+            Some(false) => return Spoken::Waits(session, taken),
+            None => return Spoken::Ended(session.fails(SessionFault::Write), None),
+        }
+        let was_logging_in = session.is_logging_in();
+        let progress = if session.is_owing() {
+            tell_on(session, speech)
+        } else if taken < piece.len() {
+            let left = &piece[taken..];
+            answer_next(rt, alloc, desk, pass, session, speech, left, service, gate)
+        } else {
+            return Spoken::Waits(session, taken);
+        };
+        match progress {
+            Progress::Parked(next, more) => {
+                session = next;
+                taken = taken.saturating_add(more);
+            }
+            Progress::Ended {
+                summary,
+                claimed,
+                owed,
+            } => return ended(was_logging_in, summary, claimed, owed),
+        }
+    }
+    unreachable!()
+}

@@ -1,0 +1,70 @@
+-- Sessions between two pieces of what their clients send, whatever protocol they speak.
+use Rattle.std.specs.Prelude.{◌≡◌, ◌<◌, ◌^◌, ℕ, List, Bool, true, false, Option, Some, None, Result, Ok, Err}
+use Rattle.base_core.specs.declared.name.User.{User}
+use Rattle.base_core.specs.declared.value.Moment.{Moment}
+use Rattle.lines_core.specs.Serving.{Traffic}
+use Rattle.lines_core.specs.declared.serving.SessionFault.{SessionFault}
+use Rattle.lines_core.specs.declared.serving.SessionFault.TheVariants as faults
+use Rattle.login_core.specs.Login.{Beginning}
+use Rattle.reply_core.specs.Pending.{count_left}
+use Rattle.reply_core.specs.declared.pending.Pending.{Pending}
+use Rattle.desk_core.specs.Guarded.{DeskLock, DeskNote}
+use Rattle.session_core.specs.declared.admission.Admission.{Admission}
+use Rattle.session_core.specs.declared.summary.Summary.{Summary}
+use Rattle.session_core.specs.Session.{end_of}
+
+-- What a protocol says of its sessions, wherever they end: at this desk one that came by its user so, over
+-- this traffic, has this user, and this is the note of what it has seen.
+abbrev pub Protocol : Type 0 → Type 1
+Protocol K = DeskLock K → Admission → Option User → Option (DeskNote K) → Traffic → Type 0
+
+-- What is known of a session in any protocol: how many bytes may still come, the login that is under way,
+-- its user, what is told of it, what is owed of the last reply, and the note of the pass that it went
+-- through last.
+pub record MachineState (K : Type 0) : Type 0 where
+  pub unread : ℕ
+  pub begun : Option Beginning
+  pub user : Option User
+  pub over : Bool
+  pub unkept : Bool
+  pub answered : ℕ
+  pub moment : Option Moment
+  pub owed : Option Pending
+  pub note : Option (DeskNote K)
+
+-- before the first piece
+abbrev pub first_state : {K : Type 0} → MachineState K
+first_state = record {
+  unread = 2 ^ 32;
+  begun = None;
+  user = None;
+  over = false;
+  unkept = false;
+  answered = 0;
+  moment = None;
+  owed = None;
+  note = None;
+}
+
+-- what is told of a session that ended in this state, if what it was sent was answered so
+abbrev pub summary_of : {K : Type 0} → MachineState K → Result (Unit {0}) SessionFault → Summary
+summary_of state served = record {
+  user = state.user;
+  lines = state.answered;
+  moment = state.moment;
+  ended = end_of state.unkept served;
+}
+
+-- less is owed than before, and nothing where nothing was
+abbrev pub OwesLess : Option Pending → Option Pending → Type 0
+OwesLess (Some before) (Some rest) = count_left rest < count_left before
+OwesLess None (Some rest) = ⊥
+OwesLess before None = Unit {0}
+
+-- How a session may end where its client stops: it is over, the reader has failed, or as much was read as
+-- may be.
+abbrev pub MayStop : {K : Type 0} → MachineState K → Result (Unit {0}) SessionFault → Type 0
+MayStop state (Ok x) = state.over ≡ true
+MayStop state (Err faults.Read) = Unit {0}
+MayStop state (Err faults.Bound) = state.unread ≡ 0
+MayStop state (Err fault) = ⊥
