@@ -7,6 +7,8 @@
 #[cfg(test)]
 mod calls;
 #[cfg(test)]
+mod command_lines;
+#[cfg(test)]
 mod desk;
 #[cfg(test)]
 mod exports;
@@ -18,6 +20,8 @@ mod keeping;
 mod lines;
 #[cfg(test)]
 mod locks;
+#[cfg(test)]
+mod logins;
 #[cfg(test)]
 mod pieces;
 #[cfg(test)]

@@ -1,6 +1,7 @@
 //! Statements printed, and read back.
-use printer_core::{PrintFault, print};
-use reader_core::read;
+use base_core::{Name, User};
+use printer_core::{Page, PrintFault, print};
+use reader_core::{Statement, read};
 use std::alloc::Global;
 use std::process::Abort;
 
@@ -80,4 +81,11 @@ fn too_long_to_print(rt: HostRuntime) {
         drop(statement);
         assert!(rt; printed.err() == fault);
     }
+}
+
+#[test]
+fn line_of_a_journal(rt: HostRuntime) {
+    let mut page = Page::new(rt.alloc()).expect(&rt, "memory");
+    let ann = User(Name::read(b"ann").expect(&rt, "a name"));
+    assert!(rt; page.line(ann, &Statement::Checkpoint) == b"ann: CHECKPOINT\n".as_slice());
 }

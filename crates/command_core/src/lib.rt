@@ -28,8 +28,6 @@ mod commands;
 mod explain_commands;
 mod reading;
 mod reading_flags;
-#[cfg(test)]
-mod tests;
 mod users;
 
 pub use command_line::{CommandLine, Explaining, Running, Serving, StatusForm, options, refuse};

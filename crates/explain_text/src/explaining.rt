@@ -4,15 +4,16 @@ ghost use Rattle.std.specs.Io.KnownBytes.{Keeps};
 ghost use Rattle.explain_text.specs.Questions.{may_be_no, may_remark};
 ghost use Rattle.explain_text.specs.declared.fault.Unanswered.{Unanswered as reasons};
 
+use crate::answer::Answer;
 use crate::fault::{ExplainFault, Unanswered};
 use crate::question::Question;
 use crate::words::{atoms_named, table_of, user_of};
 use base_core::{Atom, Name, NoMemory, Sink, User, write_all};
 use explain_core::History;
 use explain_words::{
-    Answer, Format, Past, Prose, atoms_of_table, consequences_as_records, cut_answer,
-    fallen_records, grants_made, holders_as_records, put_all_fallen, put_consequences,
-    put_grants_graph, put_holders, put_reasons_of, put_why_graph, rights_in_force, steps_of,
+    Format, Past, Prose, atoms_of_table, consequences_as_records, cut_told, fallen_records,
+    grants_made, holders_as_records, put_all_fallen, put_consequences, put_grants_graph,
+    put_holders, put_reasons_of, put_why_graph, rights_in_force, steps_of,
 };
 use load_core::Replayed;
 use monitor_core::columns_of;
@@ -49,7 +50,7 @@ fn why_answer(
             return Ok(Answer::of(text, is_yes));
         }
     };
-    Ok(Answer::of(text.bytes, is_yes))
+    Ok(Answer::of(text.finish()?, is_yes))
 }
 
 /// Who holds the atoms.
@@ -66,36 +67,40 @@ fn who_answer(
     let mut text = Prose::new(alloc);
     match format {
         Format::Text => put_holders(&mut text, alloc, past, table, atoms)?,
-        Format::Dot => put_grants_graph(&mut text, alloc, past, table, atoms)?,
+        Format::Dot => put_grants_graph(&mut text, alloc, past, table, atoms),
         Format::Csv => return Ok(Answer::told(holders_as_records(alloc, past, atoms)?)),
     }
-    Ok(Answer::told(text.bytes))
+    Ok(Answer::told(text.finish()?))
 }
 
 /// The grants that fell.
-fn fell_answer(alloc: Global, past: &Past<'_>, format: Format) -> Result<Answer, NoMemory>
+fn fell_answer(alloc: Global, past: &Past<'_>, format: Format) -> Result<Answer, Unanswered>
     ensures is_yes { IfOk result (λ answer. answer.is_yes ≡ true) }
     ensures remark { IfOk result (λ answer. answer.remark ≡ None) }
 {
     if format == Format::Csv {
-        return Ok(Answer::told(fallen_records(alloc, past)?));
+        return told(fallen_records(alloc, past));
     }
     let mut text = Prose::new(alloc);
-    put_all_fallen(&mut text, alloc, past)?;
-    Ok(Answer::told(text.bytes))
+    match put_all_fallen(&mut text, alloc, past) {
+        Ok(()) => told(text.finish()),
+        Err(NoMemory) => Err(Unanswered::NoMemory),
+    }
 }
 
 /// What the change that was supposed takes.
-fn if_answer(alloc: Global, past: &Past<'_>, format: Format) -> Result<Answer, NoMemory>
+fn if_answer(alloc: Global, past: &Past<'_>, format: Format) -> Result<Answer, Unanswered>
     ensures is_yes { IfOk result (λ answer. answer.is_yes ≡ true) }
     ensures remark { IfOk result (λ answer. answer.remark ≡ None) }
 {
     if format == Format::Csv {
-        return Ok(Answer::told(consequences_as_records(alloc, past)?));
+        return told(consequences_as_records(alloc, past));
     }
     let mut text = Prose::new(alloc);
-    put_consequences(&mut text, alloc, past)?;
-    Ok(Answer::told(text.bytes))
+    match put_consequences(&mut text, alloc, past) {
+        Ok(()) => told(text.finish()),
+        Err(NoMemory) => Err(Unanswered::NoMemory),
+    }
 }
 
 /// The atoms that are asked for on the table: those that the words name, or all.
@@ -111,6 +116,71 @@ fn atoms_asked(
     }
 }
 
+/// A text that is no answer of yes or no.
+fn told(text: Result<Vec<u8>, NoMemory>) -> Result<Answer, Unanswered>
+    ensures is_yes { IfOk result (λ answer. answer.is_yes ≡ true) }
+    ensures remark { IfOk result (λ answer. answer.remark ≡ None) }
+{
+    match text {
+        Ok(text) => Ok(Answer::told(text)),
+        Err(NoMemory) => Err(Unanswered::NoMemory),
+    }
+}
+
+/// Why the user holds what these words say, or does not.
+fn why_asked(
+    alloc: Global,
+    past: &Past<'_>,
+    user: &str,
+    privilege: &str,
+    table: &str,
+    format: Format,
+) -> Result<Answer, Unanswered>
+    ensures { IfOk result (λ answer. answer.remark ≡ None) }
+{
+    let user = user_of(user)?;
+    let table = table_of(past.tables, table)?;
+    let atoms = atoms_named(alloc, past.tables, table, privilege)?;
+    Ok(why_answer(alloc, past, &user, &table, &atoms, format)?)
+}
+
+/// Who holds what these words say.
+fn who_asked(
+    alloc: Global,
+    past: &Past<'_>,
+    table: &str,
+    privilege: Option<&str>,
+    format: Format,
+) -> Result<Answer, Unanswered>
+    ensures is_yes { IfOk result (λ answer. answer.is_yes ≡ true) }
+    ensures remark { IfOk result (λ answer. answer.remark ≡ None) }
+{
+    let table = table_of(past.tables, table)?;
+    let atoms = atoms_asked(alloc, past, table, privilege)?;
+    Ok(who_answer(alloc, past, &table, &atoms, format)?)
+}
+
+/// What would take what these words say from the user. It is no where he owns the table.
+fn cut_asked(
+    alloc: Global,
+    past: &Past<'_>,
+    user: &str,
+    privilege: &str,
+    table: &str,
+    format: Format,
+) -> Result<Answer, Unanswered> {
+    let user = user_of(user)?;
+    let table = table_of(past.tables, table)?;
+    let atoms = atoms_named(alloc, past.tables, table, privilege)?;
+    let (text, remark) = cut_told(alloc, past, &user, &table, &atoms, format)?;
+    let is_yes = past.tables.owner(table) != Some(user);
+    Ok(Answer {
+        text,
+        is_yes,
+        remark,
+    })
+}
+
 /// The answer to a question of the past.
 fn answer_of(
     alloc: Global,
@@ -123,37 +193,23 @@ fn answer_of(
     ensures remark { may_remark question.now ≡ false
         → IfOk result (λ answer. answer.remark ≡ None) }
 {
-    Ok(match *question {
+    match *question {
         Question::Why {
             user,
             privilege,
             table,
-        } => {
-            let user = user_of(user)?;
-            let table = table_of(past.tables, table)?;
-            let atoms = atoms_named(alloc, past.tables, table, privilege)?;
-            why_answer(alloc, past, &user, &table, &atoms, format)?
-        }
-        Question::Who { table, privilege } => {
-            let table = table_of(past.tables, table)?;
-            let atoms = atoms_asked(alloc, past, table, privilege)?;
-            who_answer(alloc, past, &table, &atoms, format)?
-        }
-        Question::Rights => Answer::told(rights_in_force(alloc, past)?),
-        Question::Fell => fell_answer(alloc, past, format)?,
-        Question::Grants => Answer::told(grants_made(alloc, past)?),
-        Question::If { .. } => if_answer(alloc, past, format)?,
+        } => why_asked(alloc, past, user, privilege, table, format),
+        Question::Who { table, privilege } => who_asked(alloc, past, table, privilege, format),
+        Question::Rights => told(rights_in_force(alloc, past)),
+        Question::Fell => fell_answer(alloc, past, format),
+        Question::Grants => told(grants_made(alloc, past)),
+        Question::If { .. } => if_answer(alloc, past, format),
         Question::Cut {
             user,
             privilege,
             table,
-        } => {
-            let user = user_of(user)?;
-            let table = table_of(past.tables, table)?;
-            let atoms = atoms_named(alloc, past.tables, table, privilege)?;
-            cut_answer(alloc, past, &user, &table, &atoms, format)?
-        }
-    })
+        } => cut_asked(alloc, past, user, privilege, table, format),
+    }
 }
 
 /// Writes the answer to a question about the rights that a script made, and has the writer hand it

@@ -31,9 +31,9 @@ pub fn table_of(tables: &Tables, word: &str) -> Result<Name, Unanswered> {
 /// A sentence of the language that grants the privilege, on the table and to a user of its name.
 fn granting(alloc: Global, privilege: &str, table: &Name) -> Result<Vec<u8>, NoMemory> {
     let mut line = Prose::new(alloc);
-    line.put_all(&[b"GRANT ", privilege.as_bytes(), b" ON ", table.as_bytes()])?;
-    line.put_all(&[b" TO ", table.as_bytes()])?;
-    Ok(line.bytes)
+    line.put_all(&[b"GRANT ", privilege.as_bytes(), b" ON ", table.as_bytes()]);
+    line.put_all(&[b" TO ", table.as_bytes()]);
+    line.finish()
 }
 
 /// The first of the names that is no column, if one is not.

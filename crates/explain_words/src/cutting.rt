@@ -1,6 +1,5 @@
 //! Revocations that would take a privilege from a user.
 
-use crate::answer::Answer;
 use crate::format::Format;
 use crate::past::Past;
 use crate::privileges::{push_atom, put_privilege};
@@ -56,35 +55,27 @@ fn cuts_of(
     Ok(cuts)
 }
 
-fn put_users(text: &mut Prose, users: &[User]) -> Result<(), NoMemory> {
+fn put_users(text: &mut Prose, users: &[User]) {
     let mut between: &[u8] = b" ";
     for user in users {
-        text.put_all(&[between, user.0.as_bytes()])?;
+        text.put_all(&[between, user.0.as_bytes()]);
         between = b", ";
     }
-    Ok(())
 }
 
 /// A line that takes the atoms from so many users as a line may name.
-fn put_line(
-    text: &mut Prose,
-    tables: &Tables,
-    cuts: &Cuts,
-    table: &Name,
-    users: &[User],
-) -> Result<(), NoMemory> {
-    text.put_all(&[cuts.cut.by.0.as_bytes(), b": REVOKE "])?;
-    put_privilege(text, tables, &cuts.atoms)?;
-    text.put_all(&[b" ON ", table.as_bytes(), b" FROM"])?;
-    put_users(text, users)?;
-    text.put(b"\n")
+fn put_line(text: &mut Prose, tables: &Tables, cuts: &Cuts, table: &Name, users: &[User]) {
+    text.put_all(&[cuts.cut.by.0.as_bytes(), b": REVOKE "]);
+    put_privilege(text, tables, &cuts.atoms);
+    text.put_all(&[b" ON ", table.as_bytes(), b" FROM"]);
+    put_users(text, users);
+    text.put(b"\n");
 }
 
-fn put_lines(text: &mut Prose, tables: &Tables, cuts: &Cuts, table: &Name) -> Result<(), NoMemory> {
+fn put_lines(text: &mut Prose, tables: &Tables, cuts: &Cuts, table: &Name) {
     for users in cuts.cut.whom.chunks(MAX_USERS) {
-        put_line(text, tables, cuts, table, users)?;
+        put_line(text, tables, cuts, table, users);
     }
-    Ok(())
 }
 
 /// The lines of a script that take what these cuts take.
@@ -96,34 +87,32 @@ fn lines_of(
 ) -> Result<Vec<u8>, NoMemory> {
     let mut text = Prose::new(alloc);
     for one in cuts {
-        put_lines(&mut text, tables, one, table)?;
+        put_lines(&mut text, tables, one, table);
     }
-    Ok(text.bytes)
+    text.finish()
 }
 
 /// The records of what a cut names: for each atom and user one.
-fn put_records_of(records: &mut Records, cuts: &Cuts, user: &User) -> Result<(), NoMemory> {
+fn put_records_of(records: &mut Records, cuts: &Cuts, user: &User) {
     for atom in &cuts.atoms {
-        records.put_name(&cuts.cut.by.0)?;
-        records.put_privilege(atom)?;
-        records.put_name(&user.0)?;
-        records.end()?;
+        records.put_name(&cuts.cut.by.0);
+        records.put_privilege(atom);
+        records.put_name(&user.0);
+        records.end();
     }
-    Ok(())
 }
 
-fn put_all_records_of(records: &mut Records, cuts: &Cuts) -> Result<(), NoMemory> {
+fn put_all_records_of(records: &mut Records, cuts: &Cuts) {
     for user in &cuts.cut.whom {
-        put_records_of(records, cuts, user)?;
+        put_records_of(records, cuts, user);
     }
-    Ok(())
 }
 
 /// The records of these cuts.
 fn records_of(alloc: Global, cuts: &[Cuts]) -> Result<Vec<u8>, NoMemory> {
-    let mut records = Records::under(alloc, &FIELDS)?;
+    let mut records = Records::under(alloc, &FIELDS);
     for one in cuts {
-        put_all_records_of(&mut records, one)?;
+        put_all_records_of(&mut records, one);
     }
     records.finish()
 }
@@ -131,9 +120,9 @@ fn records_of(alloc: Global, cuts: &[Cuts]) -> Result<Vec<u8>, NoMemory> {
 /// That the user owns the table.
 fn owner_remark(alloc: Global, user: &User, table: &Name) -> Result<Vec<u8>, NoMemory> {
     let mut text = Prose::new(alloc);
-    text.put_all(&[user.0.as_bytes(), b" owns ", table.as_bytes()])?;
-    text.put(b": nothing takes it from an owner")?;
-    Ok(text.bytes)
+    text.put_all(&[user.0.as_bytes(), b" owns ", table.as_bytes()]);
+    text.put(b": nothing takes it from an owner");
+    text.finish()
 }
 
 /// That the user holds none of the atoms.
@@ -145,10 +134,10 @@ fn lack_remark(
     atoms: &[Atom],
 ) -> Result<Vec<u8>, NoMemory> {
     let mut text = Prose::new(alloc);
-    text.put_all(&[user.0.as_bytes(), b" does not hold "])?;
-    put_privilege(&mut text, tables, atoms)?;
-    text.put_all(&[b" on ", table.as_bytes(), b": there is nothing to take"])?;
-    Ok(text.bytes)
+    text.put_all(&[user.0.as_bytes(), b" does not hold "]);
+    put_privilege(&mut text, tables, atoms);
+    text.put_all(&[b" on ", table.as_bytes(), b": there is nothing to take"]);
+    text.finish()
 }
 
 /// The cuts, as this format tells them.
@@ -165,29 +154,23 @@ fn text_of(
     }
 }
 
-/// What would take the atoms from the user. It is no where he owns the table. Where nothing is
-/// taken, the remark says why.
-pub fn cut_answer(
+/// What would take the atoms from the user, and where nothing is taken a remark that says why.
+pub fn cut_told(
     alloc: Global,
     past: &Past<'_>,
     user: &User,
     table: &Name,
     atoms: &[Atom],
     format: Format,
-) -> Result<Answer, NoMemory> {
+) -> Result<(Vec<u8>, Option<Vec<u8>>), NoMemory> {
     let cuts = cuts_of(alloc, past, user, atoms)?;
     let text = text_of(alloc, past.tables, &cuts, table, format)?;
-    let is_yes = past.tables.owner(*table) != Some(*user);
-    let remark = if !is_yes {
+    let remark = if past.tables.owner(*table) == Some(*user) {
         Some(owner_remark(alloc, user, table)?)
     } else if cuts.is_empty() {
         Some(lack_remark(alloc, past.tables, user, table, atoms)?)
     } else {
         None
     };
-    Ok(Answer {
-        text,
-        is_yes,
-        remark,
-    })
+    Ok((text, remark))
 }

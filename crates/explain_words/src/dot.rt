@@ -107,22 +107,22 @@ fn edges_of(
 }
 
 /// What stands at an edge: its moments, and its privilege where that is not all that was asked.
-fn put_label(text: &mut Prose, past: &Past<'_>, asked: usize, fold: &Fold) -> Result<(), NoMemory> {
-    text.put_moment(fold.life.grant.moment)?;
+fn put_label(text: &mut Prose, past: &Past<'_>, asked: usize, fold: &Fold) {
+    text.put_moment(fold.life.grant.moment);
     if let Some(fell) = fold.life.fell {
-        text.put(b" - ")?;
-        text.put_moment(fell)?;
+        text.put(b" - ");
+        text.put_moment(fell);
     }
     if fold.atoms.len() < asked {
-        text.put(b" ")?;
-        put_privilege(text, past.tables, &fold.atoms)?;
+        text.put(b" ");
+        put_privilege(text, past.tables, &fold.atoms);
     }
     match fold.life.option_end {
         Some(end) if fold.life.grant.option && fold.life.fell != Some(end) => {
-            text.put(b", option - ")?;
+            text.put(b", option - ");
             text.put_moment(end)
         }
-        _ => Ok(()),
+        _ => {}
     }
 }
 
@@ -137,21 +137,15 @@ fn style_of(life: &Life) -> &'static [u8] {
     }
 }
 
-fn put_edge(
-    text: &mut Prose,
-    past: &Past<'_>,
-    asked: usize,
-    fold: &Fold,
-    colour: &[u8],
-) -> Result<(), NoMemory> {
+fn put_edge(text: &mut Prose, past: &Past<'_>, asked: usize, fold: &Fold, colour: &[u8]) {
     let grant = &fold.life.grant;
-    text.put_all(&[b"  \"", grant.grantor.0.as_bytes(), b"\" -> \""])?;
-    text.put_all(&[grant.grantee.0.as_bytes(), b"\" [label=\""])?;
-    put_label(text, past, asked, fold)?;
-    text.put(b"\", style=")?;
-    text.put(style_of(&fold.life))?;
-    text.put(colour)?;
-    text.put(b"];\n")
+    text.put_all(&[b"  \"", grant.grantor.0.as_bytes(), b"\" -> \""]);
+    text.put_all(&[grant.grantee.0.as_bytes(), b"\" [label=\""]);
+    put_label(text, past, asked, fold);
+    text.put(b"\", style=");
+    text.put(style_of(&fold.life));
+    text.put(colour);
+    text.put(b"];\n");
 }
 
 fn colour_of(part: Part) -> &'static [u8]
@@ -172,29 +166,24 @@ fn put_edges(
     atoms: &[Atom],
     parts: &[Part],
     part: Part,
-) -> Result<(), NoMemory> {
-    let lives = edges_of(alloc, past, atoms, parts, part)?;
-    for fold in &folds_of(alloc, &lives)? {
-        put_edge(text, past, atoms.len(), fold, colour_of(part))?;
+) {
+    let lives = text.found(edges_of(alloc, past, atoms, parts, part));
+    let folds = text.found(folds_of(alloc, &lives));
+    for fold in &folds {
+        put_edge(text, past, atoms.len(), fold, colour_of(part));
     }
-    Ok(())
 }
 
 /// The name of the graph: the privilege, if it is one, on the table at the moment.
-fn put_title(
-    text: &mut Prose,
-    past: &Past<'_>,
-    table: &Name,
-    atoms: &[Atom],
-) -> Result<(), NoMemory> {
-    text.put(b"digraph \"")?;
+fn put_title(text: &mut Prose, past: &Past<'_>, table: &Name, atoms: &[Atom]) {
+    text.put(b"digraph \"");
     if are_of_one_word(atoms) {
-        put_privilege(text, past.tables, atoms)?;
-        text.put(b" on ")?;
+        put_privilege(text, past.tables, atoms);
+        text.put(b" on ");
     }
-    text.put_all(&[table.as_bytes(), b" "])?;
-    text.put_moment(past.now())?;
-    text.put(b"\" {\n  rankdir=LR;\n")
+    text.put_all(&[table.as_bytes(), b" "]);
+    text.put_moment(past.now());
+    text.put(b"\" {\n  rankdir=LR;\n");
 }
 
 /// Whether the atoms differ in their columns alone.
@@ -215,15 +204,15 @@ fn put_graph(
     table: &Name,
     atoms: &[Atom],
     parts: &[Part],
-) -> Result<(), NoMemory> {
-    put_title(text, past, table, atoms)?;
+) {
+    put_title(text, past, table, atoms);
     if let Some(owned) = past.owned(table) {
-        text.put_all(&[b"  \"", owned.owner.0.as_bytes(), b"\" [peripheries=2];\n"])?;
+        text.put_all(&[b"  \"", owned.owner.0.as_bytes(), b"\" [peripheries=2];\n"]);
     }
-    put_edges(text, alloc, past, atoms, parts, Part::Beside)?;
-    put_edges(text, alloc, past, atoms, parts, Part::Lost)?;
-    put_edges(text, alloc, past, atoms, parts, Part::Holds)?;
-    text.put(b"}\n")
+    put_edges(text, alloc, past, atoms, parts, Part::Beside);
+    put_edges(text, alloc, past, atoms, parts, Part::Lost);
+    put_edges(text, alloc, past, atoms, parts, Part::Holds);
+    text.put(b"}\n");
 }
 
 /// Appends the graph of the atoms on the table.
@@ -233,9 +222,9 @@ pub fn put_grants_graph(
     past: &Past<'_>,
     table: &Name,
     atoms: &[Atom],
-) -> Result<(), NoMemory> {
-    let parts = no_parts(alloc, past)?;
-    put_graph(text, alloc, past, table, atoms, &parts)
+) {
+    let parts = text.found(no_parts(alloc, past));
+    put_graph(text, alloc, past, table, atoms, &parts);
 }
 
 /// Notes what tells why the user holds the atoms, or how he lost them. Says whether he holds them
@@ -266,6 +255,6 @@ pub fn put_why_graph(
 ) -> Result<bool, NoMemory> {
     let mut parts = no_parts(alloc, past)?;
     let holds = note_each(&mut parts, alloc, past, user, atoms)?;
-    put_graph(text, alloc, past, table, atoms, &parts)?;
+    put_graph(text, alloc, past, table, atoms, &parts);
     Ok(holds)
 }

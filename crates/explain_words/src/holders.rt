@@ -67,26 +67,25 @@ struct Group {
 }
 
 /// A row for who holds it: `  cy, with option   ann -@25-> cy`.
-fn push_holder(teller: &mut Teller<'_>, user: &User, held: Held) -> Result<(), NoMemory> {
-    let chain = teller.past.chain_to(teller.alloc, held.number)?;
-    let mut left = teller.indented(2)?;
-    left.put_name(&user.0)?;
+fn push_holder(teller: &mut Teller<'_>, user: &User, held: Held) {
+    let mut left = teller.indented(2);
+    left.put_name(&user.0);
     if held.option {
-        left.put(b", with option")?;
+        left.put(b", with option");
     }
-    let mut right = teller.indented(0)?;
-    put_chain(&mut right, &chain)?;
-    teller.rows.push(left, right.bytes)
+    let mut right = teller.indented(0);
+    let chain = right.found(teller.past.chain_to(teller.alloc, held.number));
+    put_chain(&mut right, &chain);
+    teller.rows.push(left, right);
 }
 
 /// The rows of an atom's holders.
-fn push_holders(teller: &mut Teller<'_>, holders: &Holders, atom: &Atom) -> Result<(), NoMemory> {
+fn push_holders(teller: &mut Teller<'_>, holders: &Holders, atom: &Atom) {
     for (holding, held) in holders.iter() {
         if holding.privilege.0 == *atom {
-            push_holder(teller, &holding.user, *held)?;
+            push_holder(teller, &holding.user, *held);
         }
     }
-    Ok(())
 }
 
 /// Adds an atom to the group of its word that has the same rows, or as a further group.
@@ -115,7 +114,7 @@ fn groups_of(
 ) -> Result<Vec<Group>, NoMemory> {
     let mut groups = Vec::new(teller.alloc);
     for atom in atoms {
-        push_holders(teller, holders, atom)?;
+        push_holders(teller, holders, atom);
         let rows = teller.take_rows();
         add_atom(teller.alloc, &mut groups, atom, rows)?;
     }
@@ -123,44 +122,28 @@ fn groups_of(
 }
 
 /// The line above a group, `SELECT on pay @27`, or that nobody but the owner holds it.
-fn push_head(
-    teller: &mut Teller<'_>,
-    table: &Name,
-    owned: &Owned,
-    group: &Group,
-) -> Result<(), NoMemory> {
-    let mut left = teller.indented(0)?;
-    put_privilege(&mut left, teller.past.tables, &group.atoms)?;
-    left.put_all(&[b" on ", table.as_bytes(), b" "])?;
-    left.put_moment(teller.past.now())?;
+fn push_head(teller: &mut Teller<'_>, table: &Name, owned: &Owned, group: &Group) {
+    let mut left = teller.indented(0);
+    put_privilege(&mut left, teller.past.tables, &group.atoms);
+    left.put_all(&[b" on ", table.as_bytes(), b" "]);
+    left.put_moment(teller.past.now());
     if group.rows.is_empty() {
-        left.put_all(&[b": nobody but ", owned.owner.0.as_bytes()])?;
+        left.put_all(&[b": nobody but ", owned.owner.0.as_bytes()]);
     }
-    teller.rows.push_alone(left)
+    teller.rows.push_alone(left);
 }
 
 /// The rows of a group, under its head.
-fn push_group(
-    teller: &mut Teller<'_>,
-    table: &Name,
-    owned: &Owned,
-    group: Group,
-) -> Result<(), NoMemory> {
-    push_head(teller, table, owned, &group)?;
+fn push_group(teller: &mut Teller<'_>, table: &Name, owned: &Owned, group: Group) {
+    push_head(teller, table, owned, &group);
     let Group { rows, .. } = group;
-    teller.rows.append(rows)
+    teller.rows.append(rows);
 }
 
-fn push_groups(
-    teller: &mut Teller<'_>,
-    table: &Name,
-    owned: &Owned,
-    groups: Vec<Group>,
-) -> Result<(), NoMemory> {
+fn push_groups(teller: &mut Teller<'_>, table: &Name, owned: &Owned, groups: Vec<Group>) {
     for group in groups {
-        push_group(teller, table, owned, group)?;
+        push_group(teller, table, owned, group);
     }
-    Ok(())
 }
 
 /// Those who hold the atoms on the table by grants, together by atoms.
@@ -175,15 +158,11 @@ fn grouped(
 }
 
 /// The owner's row, and behind it those of each group.
-fn push_all(
-    teller: &mut Teller<'_>,
-    table: &Name,
-    owned: &Owned,
-    atoms: &[Atom],
-) -> Result<(), NoMemory> {
-    let groups = grouped(teller, table, owned, atoms)?;
-    teller.push_owner(0, table, owned)?;
-    push_groups(teller, table, owned, groups)
+fn push_all(teller: &mut Teller<'_>, table: &Name, owned: &Owned, atoms: &[Atom]) {
+    let groups = grouped(teller, table, owned, atoms);
+    let groups = teller.rows.found(groups);
+    teller.push_owner(0, table, owned);
+    push_groups(teller, table, owned, groups);
 }
 
 /// Appends who holds the atoms on the table: its owner, and for each privilege who holds it by
@@ -199,17 +178,18 @@ pub fn put_holders(
         return Ok(());
     };
     let mut teller = Teller::new(alloc, *past)?;
-    push_all(&mut teller, table, &owned, atoms)?;
-    teller.rows.write(text)
+    push_all(&mut teller, table, &owned, atoms);
+    teller.rows.write(text);
+    Ok(())
 }
 
 /// The record of who holds an atom by a grant in force.
-fn put_record(records: &mut Records, life: &Life) -> Result<(), NoMemory> {
-    records.put_holding(&life.grant.grantee.0, &life.grant.atom)?;
-    records.put_flag(life.option_end.is_none())?;
-    records.put_moment(Some(life.grant.moment))?;
-    records.put_name(&life.grant.grantor.0)?;
-    records.end()
+fn put_record(records: &mut Records, life: &Life) {
+    records.put_holding(&life.grant.grantee.0, &life.grant.atom);
+    records.put_flag(life.option_end.is_none());
+    records.put_moment(Some(life.grant.moment));
+    records.put_name(&life.grant.grantor.0);
+    records.end();
 }
 
 /// The records of those who hold the atoms on the table by grants in force.
@@ -218,10 +198,10 @@ pub fn holders_as_records(
     past: &Past<'_>,
     atoms: &[Atom],
 ) -> Result<Vec<u8>, NoMemory> {
-    let mut records = Records::under(alloc, &FIELDS)?;
+    let mut records = Records::under(alloc, &FIELDS);
     for life in past.history.lives() {
         if life.fell.is_none() && atoms.contains(&life.grant.atom) {
-            put_record(&mut records, life)?;
+            put_record(&mut records, life);
         }
     }
     records.finish()

@@ -35,11 +35,11 @@ struct Left {
     /// Whether he keeps them.
     keeps: bool,
     /// By what he does.
-    by: Vec<u8>,
+    by: Prose,
 }
 
 /// How a grant is taken.
-fn put_taking(text: &mut Prose, past: &Past<'_>, life: &Life, at: Moment) -> Result<(), NoMemory> {
+fn put_taking(text: &mut Prose, past: &Past<'_>, life: &Life, at: Moment) {
     if life.fell != Some(at) {
         return text.put(b"option revoked: ");
     }
@@ -47,7 +47,7 @@ fn put_taking(text: &mut Prose, past: &Past<'_>, life: &Life, at: Moment) -> Res
         b"revoked: ".as_slice()
     } else {
         b"falls: ".as_slice()
-    })
+    });
 }
 
 /// Whether the atoms of the fold are all that the change of the moment names.
@@ -80,74 +80,60 @@ fn alike_ahead(past: &Past<'_>, folds: &[Fold]) -> usize
 }
 
 /// The grantees of folds, each with a comma before it.
-fn put_more_grantees(text: &mut Prose, folds: &[Fold]) -> Result<(), NoMemory> {
+fn put_more_grantees(text: &mut Prose, folds: &[Fold]) {
     for fold in folds {
-        text.put_all(&[b", ", fold.life.grant.grantee.0.as_bytes()])?;
+        text.put_all(&[b", ", fold.life.grant.grantee.0.as_bytes()]);
     }
-    Ok(())
 }
 
 /// `falls: @13 bob -> cy, di, with option`, of a fold and of others that are alike. The privilege is
 /// told where it is not all that the change names.
-fn put_taken(
-    text: &mut Prose,
-    past: &Past<'_>,
-    first: &Fold,
-    others: &[Fold],
-    at: Moment,
-) -> Result<(), NoMemory> {
-    put_taking(text, past, &first.life, at)?;
-    put_arrow(text, &first.life.grant)?;
-    put_more_grantees(text, others)?;
+fn put_taken(text: &mut Prose, past: &Past<'_>, first: &Fold, others: &[Fold], at: Moment) {
+    put_taking(text, past, &first.life, at);
+    put_arrow(text, &first.life.grant);
+    put_more_grantees(text, others);
     if !is_all_named(past, first, at) {
-        text.put(b", ")?;
-        put_privilege(text, past.tables, &first.atoms)?;
+        text.put(b", ");
+        put_privilege(text, past.tables, &first.atoms);
     }
     if first.life.fell == Some(at) {
-        put_option(text, &first.life)?;
+        put_option(text, &first.life);
     }
-    Ok(())
 }
 
 /// The row of folds that are alike, with the line that granted them.
-fn push_taken(teller: &mut Teller<'_>, folds: &[Fold], at: Moment) -> Result<(), NoMemory> {
+fn push_taken(teller: &mut Teller<'_>, folds: &[Fold], at: Moment) {
     let Some((first, others)) = folds.split_first() else {
-        return Ok(());
+        return;
     };
-    let mut left = teller.indented(2)?;
-    put_taken(&mut left, &teller.past, first, others, at)?;
-    teller.push_quoted(left, first.life.grant.moment)
+    let mut left = teller.indented(2);
+    put_taken(&mut left, &teller.past, first, others, at);
+    teller.push_quoted(left, first.life.grant.moment);
 }
 
-fn push_all_taken(teller: &mut Teller<'_>, lives: &[Life], at: Moment) -> Result<(), NoMemory> {
-    let folds = folds_of(teller.alloc, lives)?;
+fn push_all_taken(teller: &mut Teller<'_>, lives: &[Life], at: Moment) {
+    let folds = teller.rows.found(folds_of(teller.alloc, lives));
     let mut rest = folds.as_slice();
     while !rest.is_empty() {
         let (front, behind) = rest.split_at(alike_ahead(&teller.past, rest));
-        push_taken(teller, front, at)?;
+        push_taken(teller, front, at);
         rest = behind;
     }
-    Ok(())
 }
 
 /// By what a user keeps a privilege.
-fn put_kept(
-    text: &mut Prose,
-    teller: &Teller<'_>,
-    outcome: Outcome,
-    is_owner: bool,
-) -> Result<(), NoMemory> {
+fn put_kept(text: &mut Prose, teller: &Teller<'_>, outcome: Outcome, is_owner: bool) {
     if is_owner {
         return text.put(b" as its owner");
     }
     if let Some(number) = outcome.kept {
-        text.put(b" by ")?;
-        put_chain(text, &teller.past.chain_to(teller.alloc, number)?)?;
+        text.put(b" by ");
+        let chain = text.found(teller.past.chain_to(teller.alloc, number));
+        put_chain(text, &chain);
     }
     if outcome.lost_option && !outcome.has_option {
-        text.put(b", but could not grant it on")?;
+        text.put(b", but could not grant it on");
     }
-    Ok(())
 }
 
 /// Adds an atom to those of which the same is left, or by itself.
@@ -156,10 +142,10 @@ fn add_left(
     lefts: &mut Vec<Left>,
     atom: &Atom,
     keeps: bool,
-    by: Vec<u8>,
+    by: Prose,
 ) -> Result<(), NoMemory> {
     for at in 0..lefts.len() {
-        let is_same = lefts[at].keeps == keeps && lefts[at].by == by;
+        let is_same = lefts[at].keeps == keeps && lefts[at].by.same(&by);
         if is_same && are_of_word(&lefts[at].atoms, &atom.kind) {
             return push_atom(&mut lefts[at].atoms, atom);
         }
@@ -187,97 +173,95 @@ fn lefts_of(
         if let Some(outcome) = outcomes.of.get(&holding) {
             let is_owner = teller.past.history.owns(user, atom);
             let keeps = is_owner || outcome.kept.is_some();
-            let mut by = teller.indented(0)?;
+            let mut by = teller.indented(0);
             if keeps {
-                put_kept(&mut by, teller, *outcome, is_owner)?;
+                put_kept(&mut by, teller, *outcome, is_owner);
             }
-            add_left(teller.alloc, &mut lefts, atom, keeps, by.bytes)?;
+            add_left(teller.alloc, &mut lefts, atom, keeps, by)?;
         }
     }
     Ok(lefts)
 }
 
 /// `  bob would lose SELECT on pay`, for each privilege of his of which a grant is taken.
-fn push_lefts(
-    teller: &mut Teller<'_>,
-    user: &User,
-    table: &Name,
-    lefts: &[Left],
-) -> Result<(), NoMemory> {
+fn push_lefts(teller: &mut Teller<'_>, user: &User, table: &Name, lefts: &[Left]) {
     for one in lefts {
-        let mut left = teller.indented(2)?;
-        left.put_name(&user.0)?;
+        let mut left = teller.indented(2);
+        left.put_name(&user.0);
         left.put(if one.keeps {
             b" would keep ".as_slice()
         } else {
             b" would lose ".as_slice()
-        })?;
-        put_privilege(&mut left, teller.past.tables, &one.atoms)?;
-        left.put_all(&[b" on ", table.as_bytes(), &one.by])?;
-        teller.rows.push_alone(left)?;
+        });
+        put_privilege(&mut left, teller.past.tables, &one.atoms);
+        left.put_all(&[b" on ", table.as_bytes()]);
+        left.append(&one.by);
+        teller.rows.push_alone(left);
     }
-    Ok(())
 }
 
 /// What is left to each user whose grants on the table are taken.
-fn push_outcomes(
-    teller: &mut Teller<'_>,
-    outcomes: &Outcomes,
-    table: &Name,
-) -> Result<(), NoMemory> {
+fn push_outcomes(teller: &mut Teller<'_>, outcomes: &Outcomes, table: &Name) {
     let columns = columns_of(teller.past.tables, *table);
-    let atoms = atoms_of_table(teller.alloc, *table, columns)?;
-    for user in &users_of(teller.alloc, outcomes)? {
-        let lefts = lefts_of(teller, outcomes, user, &atoms)?;
-        push_lefts(teller, user, table, &lefts)?;
+    let atoms = teller
+        .rows
+        .found(atoms_of_table(teller.alloc, *table, columns));
+    let users = teller.rows.found(users_of(teller.alloc, outcomes));
+    for user in &users {
+        let lefts = lefts_of(teller, outcomes, user, &atoms);
+        let lefts = teller.rows.found(lefts);
+        push_lefts(teller, user, table, &lefts);
     }
-    Ok(())
 }
 
 /// The last change, which is only supposed.
-fn put_supposed(text: &mut Prose, quotes: &mut Quotes, past: &Past<'_>) -> Result<(), NoMemory> {
+fn put_supposed(text: &mut Prose, quotes: &mut Quotes, past: &Past<'_>) {
     let at = past.now();
-    text.put_moment(at)?;
-    text.put(b" would be ")?;
-    quotes.put_statement(text, past, at)
+    text.put_moment(at);
+    text.put(b" would be ");
+    quotes.put_statement(text, past, at);
 }
 
-fn push_supposed(teller: &mut Teller<'_>) -> Result<(), NoMemory> {
-    let mut left = teller.indented(0)?;
-    put_supposed(&mut left, &mut teller.quotes, &teller.past)?;
-    teller.rows.push_alone(left)
+fn push_supposed(teller: &mut Teller<'_>) {
+    let mut left = teller.indented(0);
+    put_supposed(&mut left, &mut teller.quotes, &teller.past);
+    teller.rows.push_alone(left);
 }
 
-fn push_nothing_taken(teller: &mut Teller<'_>) -> Result<(), NoMemory> {
-    let mut left = teller.indented(2)?;
-    left.put(b"it takes nothing from anybody")?;
-    teller.rows.push_alone(left)
+fn push_nothing_taken(teller: &mut Teller<'_>) {
+    let mut left = teller.indented(2);
+    left.put(b"it takes nothing from anybody");
+    teller.rows.push_alone(left);
 }
 
 /// What the change of the moment takes: these, of one table.
-fn push_consequences(teller: &mut Teller<'_>, lives: &[Life], at: Moment) -> Result<(), NoMemory> {
+fn push_consequences(teller: &mut Teller<'_>, lives: &[Life], at: Moment) {
     let Some(first) = lives.first() else {
         return push_nothing_taken(teller);
     };
-    push_all_taken(teller, lives, at)?;
-    let outcomes = Outcomes::read(teller.alloc, &teller.past, lives, at)?;
-    push_outcomes(teller, &outcomes, &first.grant.atom.table)
+    push_all_taken(teller, lives, at);
+    match Outcomes::read(teller.alloc, &teller.past, lives, at) {
+        Ok(outcomes) => push_outcomes(teller, &outcomes, &first.grant.atom.table),
+        Err(NoMemory) => teller.rows.note(true),
+    }
 }
 
 /// Pushes all that is told of the last change.
-fn push_all(teller: &mut Teller<'_>) -> Result<(), NoMemory> {
+fn push_all(teller: &mut Teller<'_>) {
     let at = teller.past.now();
-    push_supposed(teller)?;
-    let lives = teller.past.history.taken_at(teller.alloc, at)?;
-    push_consequences(teller, &lives, at)
+    push_supposed(teller);
+    let lives = teller.past.history.taken_at(teller.alloc, at);
+    let lives = teller.rows.found(lives);
+    push_consequences(teller, &lives, at);
 }
 
 /// Appends what the last change takes, which is only supposed: the grants that it revokes, those
 /// that fall with them, and who loses what, or keeps it by which chain.
 pub fn put_consequences(text: &mut Prose, alloc: Global, past: &Past<'_>) -> Result<(), NoMemory> {
     let mut teller = Teller::new(alloc, *past)?;
-    push_all(&mut teller)?;
-    teller.rows.write(text)
+    push_all(&mut teller);
+    teller.rows.write(text);
+    Ok(())
 }
 
 /// How a grant is taken, in a word or two. The option of one that stays ends by a revocation alone.
@@ -310,15 +294,15 @@ fn put_consequence(
     outcomes: &Outcomes,
     life: &Life,
     at: Moment,
-) -> Result<(), NoMemory> {
-    records.put_holding(&life.grant.grantee.0, &life.grant.atom)?;
-    records.put_flag(life.loses_option_at(at))?;
-    records.put_moment(Some(life.grant.moment))?;
-    records.put_name(&life.grant.grantor.0)?;
-    records.put(taking_word(past, life, at))?;
-    records.put_any(past.line_of(life.grant.moment))?;
-    records.put(outcome_words(past, outcomes, life))?;
-    records.end()
+) {
+    records.put_holding(&life.grant.grantee.0, &life.grant.atom);
+    records.put_flag(life.loses_option_at(at));
+    records.put_moment(Some(life.grant.moment));
+    records.put_name(&life.grant.grantor.0);
+    records.put(taking_word(past, life, at));
+    records.put_any(past.line_of(life.grant.moment));
+    records.put(outcome_words(past, outcomes, life));
+    records.end();
 }
 
 /// The records of those that are taken, with what is left to their users.
@@ -329,9 +313,9 @@ fn records_of(
     lives: &[Life],
     at: Moment,
 ) -> Result<Vec<u8>, NoMemory> {
-    let mut records = Records::under(alloc, &FIELDS)?;
+    let mut records = Records::under(alloc, &FIELDS);
     for life in lives {
-        put_consequence(&mut records, past, outcomes, life, at)?;
+        put_consequence(&mut records, past, outcomes, life, at);
     }
     records.finish()
 }

@@ -6,7 +6,7 @@
 //! [`holders_as_records`], [`put_grants_graph`]); all rights, all grants and all that fell
 //! ([`rights_in_force`], [`grants_made`], [`put_all_fallen`], [`fallen_records`]); what the last change
 //! took ([`put_consequences`], [`consequences_as_records`]); and what would take a privilege
-//! ([`cut_answer`]). An [`Answer`] is a text, whether it is yes, and what is remarked beside it.
+//! ([`cut_told`]).
 //!
 //! ```text
 //! let mut text = Prose::new(alloc);
@@ -15,9 +15,9 @@
 //! //   @15 di -> eve, fell @23           line 15: di: GRANT SELECT ON pay TO eve
 //! ```
 //!
-//! **The contract**: an answer is yes as it was made ([`Answer::of`]). Which grants are told is by the
-//! contracts of `explain_core`; in which words they are told is tested. Where a list has more than 24
-//! grants, it shows the first ten and the last ten; records have no such folds.
+//! Which grants are told is by the contracts of `explain_core`; in which words they are told is tested.
+//! Where a list has more than 24 grants, it shows the first ten and the last ten; records have no such
+//! folds.
 //!
 //! # Cost
 //!
@@ -26,7 +26,6 @@
 //! descent. A text is gathered in memory.
 #![tactic(auto)]
 
-mod answer;
 mod cutting;
 mod dot;
 mod folds;
@@ -45,11 +44,11 @@ mod reasons;
 mod records;
 mod rights;
 mod rows;
+mod shortage;
 mod steps;
 mod teller;
 
-pub use answer::Answer;
-pub use cutting::cut_answer;
+pub use cutting::cut_told;
 pub use dot::{put_grants_graph, put_why_graph};
 pub use format::Format;
 pub use holders::{holders_as_records, put_holders};

@@ -80,38 +80,36 @@ fn column_of(kind: &Kind) -> Option<Name> {
 }
 
 /// A kind as replies name it: `SELECT(wage)`.
-pub fn put_kind(text: &mut Prose, kind: &Kind) -> Result<(), NoMemory> {
-    text.put(word_of(kind))?;
-    match column_of(kind) {
-        Some(column) => text.put_all(&[b"(", column.as_bytes(), b")"]),
-        None => Ok(()),
+pub fn put_kind(text: &mut Prose, kind: &Kind) {
+    text.put(word_of(kind));
+    if let Some(column) = column_of(kind) {
+        text.put_all(&[b"(", column.as_bytes(), b")"]);
     }
 }
 
 /// The columns of kinds of one word, with commas between them.
-fn put_columns(text: &mut Prose, atoms: &[Atom]) -> Result<(), NoMemory> {
+fn put_columns(text: &mut Prose, atoms: &[Atom]) {
     for at in 0..atoms.len() {
         if at > 0 {
-            text.put(b", ")?;
+            text.put(b", ");
         }
         if let Some(column) = column_of(&atoms[at].kind) {
-            text.put_name(&column)?;
+            text.put_name(&column);
         }
     }
-    Ok(())
 }
 
 /// Atoms of one word as a statement names them: `SELECT (name, wage)`, or `SELECT` alone where
 /// these are all of the table's columns.
-pub fn put_privilege(text: &mut Prose, tables: &Tables, atoms: &[Atom]) -> Result<(), NoMemory> {
+pub fn put_privilege(text: &mut Prose, tables: &Tables, atoms: &[Atom]) {
     let Some(first) = atoms.first() else {
-        return Ok(());
+        return;
     };
-    text.put(word_of(&first.kind))?;
+    text.put(word_of(&first.kind));
     if column_of(&first.kind).is_none() || atoms.len() == columns_of(tables, first.table).len() {
-        return Ok(());
+        return;
     }
-    text.put(b" (")?;
-    put_columns(text, atoms)?;
-    text.put(b")")
+    text.put(b" (");
+    put_columns(text, atoms);
+    text.put(b")");
 }

@@ -21,31 +21,25 @@ impl Quotes {
     }
 
     /// What the change of this moment says, `di: GRANT SELECT ON pay TO eve`.
-    pub fn put_statement(
-        &mut self,
-        text: &mut Prose,
-        past: &Past<'_>,
-        at: Moment,
-    ) -> Result<(), NoMemory> {
+    pub fn put_statement(&mut self, text: &mut Prose, past: &Past<'_>, at: Moment) {
         let Some(entry) = past.entry_of(at) else {
-            return Ok(());
+            return;
         };
-        match self.page.line_if_short(entry.user, &entry.statement) {
-            Some(line) => text.put(&line[..line.len().saturating_sub(1)]),
-            None => Ok(()),
+        if let Some(line) = self.page.line_if_short(entry.user, &entry.statement) {
+            text.put(&line[..line.len().saturating_sub(1)]);
         }
     }
 
     /// The line that made the change of this moment, `line 15: di: GRANT SELECT ON pay TO eve`. Of
     /// a change that is only supposed there is no number.
-    pub fn of(&mut self, past: &Past<'_>, at: Moment) -> Result<Vec<u8>, NoMemory> {
+    pub fn of(&mut self, past: &Past<'_>, at: Moment) -> Prose {
         let mut text = Prose::new(self.alloc);
         if let Some(number) = past.line_of(at) {
-            text.put(b"line ")?;
-            text.put_number(number)?;
-            text.put(b": ")?;
+            text.put(b"line ");
+            text.put_number(number);
+            text.put(b": ");
         }
-        self.put_statement(&mut text, past, at)?;
-        Ok(text.bytes)
+        self.put_statement(&mut text, past, at);
+        text
     }
 }

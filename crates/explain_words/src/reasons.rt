@@ -31,36 +31,29 @@ impl Part {
     }
 
     /// The line above its rows: `eve lacks SELECT on pay @27`.
-    fn put_head(
-        &self,
-        text: &mut Prose,
-        past: &Past<'_>,
-        user: &User,
-        table: &Name,
-    ) -> Result<(), NoMemory> {
-        text.put_name(&user.0)?;
+    fn put_head(&self, text: &mut Prose, past: &Past<'_>, user: &User, table: &Name) {
+        text.put_name(&user.0);
         text.put(if self.holds {
             b" holds ".as_slice()
         } else {
             b" lacks ".as_slice()
-        })?;
-        put_privilege(text, past.tables, &self.atoms)?;
-        text.put_all(&[b" on ", table.as_bytes(), b" "])?;
-        text.put_moment(past.now())?;
+        });
+        put_privilege(text, past.tables, &self.atoms);
+        text.put_all(&[b" on ", table.as_bytes(), b" "]);
+        text.put_moment(past.now());
         if self.option {
-            text.put(b", with option")?;
+            text.put(b", with option");
         }
         if !self.given {
-            text.put(b": nobody ever granted it to ")?;
-            text.put_name(&user.0)?;
+            text.put(b": nobody ever granted it to ");
+            text.put_name(&user.0);
         }
-        Ok(())
     }
 
-    fn head(&self, teller: &Teller<'_>, user: &User, table: &Name) -> Result<Prose, NoMemory> {
-        let mut left = teller.indented(0)?;
-        self.put_head(&mut left, &teller.past, user, table)?;
-        Ok(left)
+    fn head(&self, teller: &Teller<'_>, user: &User, table: &Name) -> Prose {
+        let mut left = teller.indented(0);
+        self.put_head(&mut left, &teller.past, user, table);
+        left
     }
 }
 
@@ -89,40 +82,55 @@ fn one_atom(alloc: Global, atom: &Atom) -> Result<Vec<Atom>, NoMemory> {
     Ok(atoms)
 }
 
-/// What is told of an atom that the user holds by this chain.
+/// What is told of an atom that the user holds by this chain, where these grants of it were made to
+/// him.
 fn held_part(
     teller: &mut Teller<'_>,
-    user: &User,
-    atom: &Atom,
+    atoms: Vec<Atom>,
+    table: &Name,
     owned: &Owned,
     chain: &[Grant],
-) -> Result<Part, NoMemory> {
-    let given = teller.past.history.given_to(teller.alloc, user, atom)?;
-    teller.push_owner(2, &atom.table, owned)?;
-    teller.push_chain(chain)?;
+    given: &[Life],
+) -> Part {
+    teller.push_owner(2, table, owned);
+    teller.push_chain(chain);
     if let Some(last) = chain.last() {
-        teller.push_further(&given, last.number)?;
+        teller.push_further(given, last.number);
     }
-    Ok(Part {
+    Part {
         holds: true,
-        option: is_optioned(&given),
+        option: is_optioned(given),
         given: true,
-        atoms: one_atom(teller.alloc, atom)?,
+        atoms,
         rows: teller.take_rows(),
-    })
+    }
 }
 
-/// What is told of an atom that the user lacks, where these grants of it were made to him.
-fn lost_part(teller: &mut Teller<'_>, atom: &Atom, given: &[Life]) -> Result<Part, NoMemory> {
-    let lives = lives_of(teller.alloc, &teller.past, atom)?;
-    teller.push_losses(&lives, given)?;
-    Ok(Part {
+/// What is told of an atom that the user lacks, where these grants of it were made to him. The lives
+/// are all of it.
+fn lost_part(teller: &mut Teller<'_>, atoms: Vec<Atom>, lives: &[Life], given: &[Life]) -> Part {
+    teller.push_losses(lives, given);
+    Part {
         holds: false,
         option: false,
         given: !given.is_empty(),
-        atoms: one_atom(teller.alloc, atom)?,
+        atoms,
         rows: teller.take_rows(),
-    })
+    }
+}
+
+/// The lives that are told besides: of an atom that the user holds those of grants to him, and of one
+/// that he lacks all.
+fn lives_beside(
+    teller: &Teller<'_>,
+    user: &User,
+    atom: &Atom,
+    why: &Why,
+) -> Result<Vec<Life>, NoMemory> {
+    match why {
+        Why::Lacks { .. } => lives_of(teller.alloc, &teller.past, atom),
+        _ => teller.past.history.given_to(teller.alloc, user, atom),
+    }
 }
 
 /// What is told of an atom, if the user does not own its table.
@@ -132,11 +140,16 @@ fn part_of(
     atom: &Atom,
     owned: &Owned,
 ) -> Result<Part, NoMemory> {
-    match teller.past.history.why(teller.alloc, user, atom)? {
-        Why::Owns { .. } => held_part(teller, user, atom, owned, &[]),
-        Why::Holds { chain } => held_part(teller, user, atom, owned, &chain),
-        Why::Lacks { given } => lost_part(teller, atom, &given),
-    }
+    let why = teller.past.history.why(teller.alloc, user, atom)?;
+    let atoms = one_atom(teller.alloc, atom);
+    let atoms = teller.rows.found(atoms);
+    let lives = lives_beside(teller, user, atom, &why);
+    let lives = teller.rows.found(lives);
+    Ok(match &why {
+        Why::Owns { .. } => held_part(teller, atoms, &atom.table, owned, &[], &lives),
+        Why::Holds { chain } => held_part(teller, atoms, &atom.table, owned, chain, &lives),
+        Why::Lacks { given } => lost_part(teller, atoms, &lives, given),
+    })
 }
 
 /// Adds a part, or its atom to the part of which the same is told.
@@ -173,30 +186,20 @@ fn parts_of(
 }
 
 /// The rows of a part, under its head. Says whether he holds its atoms.
-fn push_part(
-    teller: &mut Teller<'_>,
-    user: &User,
-    table: &Name,
-    part: Part,
-) -> Result<bool, NoMemory> {
-    let head = part.head(teller, user, table)?;
-    teller.rows.push_alone(head)?;
+fn push_part(teller: &mut Teller<'_>, user: &User, table: &Name, part: Part) -> bool {
+    let head = part.head(teller, user, table);
+    teller.rows.push_alone(head);
     let Part { holds, rows, .. } = part;
-    teller.rows.append(rows)?;
-    Ok(holds)
+    teller.rows.append(rows);
+    holds
 }
 
-fn push_parts(
-    teller: &mut Teller<'_>,
-    user: &User,
-    table: &Name,
-    parts: Vec<Part>,
-) -> Result<bool, NoMemory> {
+fn push_parts(teller: &mut Teller<'_>, user: &User, table: &Name, parts: Vec<Part>) -> bool {
     let mut holds = true;
     for part in parts {
-        holds &= push_part(teller, user, table, part)?;
+        holds &= push_part(teller, user, table, part);
     }
-    Ok(holds)
+    holds
 }
 
 /// The rows that tell why the user holds the atoms, or does not. Says whether he holds them all.
@@ -206,12 +209,13 @@ fn push_reasons(
     table: &Name,
     atoms: &[Atom],
     owned: &Owned,
-) -> Result<bool, NoMemory> {
+) -> bool {
     if owned.owner == *user {
-        teller.push_owner(0, table, owned)?;
-        return Ok(true);
+        teller.push_owner(0, table, owned);
+        return true;
     }
-    let parts = parts_of(teller, user, atoms, owned)?;
+    let parts = parts_of(teller, user, atoms, owned);
+    let parts = teller.rows.found(parts);
     push_parts(teller, user, table, parts)
 }
 
@@ -229,7 +233,7 @@ pub fn put_reasons_of(
         return Ok(false);
     };
     let mut teller = Teller::new(alloc, *past)?;
-    let holds = push_reasons(&mut teller, user, table, atoms, &owned)?;
-    teller.rows.write(text)?;
+    let holds = push_reasons(&mut teller, user, table, atoms, &owned);
+    teller.rows.write(text);
     Ok(holds)
 }

@@ -1,6 +1,7 @@
 //! Rows of a text, with what stands behind them in one column.
 
 use crate::prose::Prose;
+use crate::shortage::found_or_short;
 use base_core::NoMemory;
 use std::alloc::Global;
 
@@ -15,16 +16,18 @@ const WIDEST_ROW: usize = 100;
 
 /// What stands on the left, and what behind it.
 #[derive(Drop)]
-pub struct Row {
-    pub left: Vec<u8>,
-    pub right: Vec<u8>,
+struct Row {
+    left: Prose,
+    right: Prose,
 }
 
-/// Rows that share a column.
+/// Rows that share a column. Where a request for memory is refused, some are left out, and the text
+/// that they are written to says so.
 #[derive(Drop)]
 pub struct Rows {
     alloc: Global,
     rows: Vec<Row>,
+    is_short: bool,
 }
 
 /// What is shown of a list at one of its places.
@@ -49,10 +52,10 @@ pub fn shown_at(at: usize, count: usize) -> Shown {
 }
 
 /// That so many more stand here: `.. 7 more ..`.
-pub fn put_more(text: &mut Prose, count: usize) -> Result<(), NoMemory> {
-    text.put(b".. ")?;
-    text.put_number(count as u64)?;
-    text.put(b" more ..")
+pub fn put_more(text: &mut Prose, count: usize) {
+    text.put(b".. ");
+    text.put_number(count as u64);
+    text.put(b" more ..");
 }
 
 /// The blanks at the front of a text.
@@ -69,6 +72,7 @@ impl Rows {
         Rows {
             alloc,
             rows: Vec::new(alloc),
+            is_short: false,
         }
     }
 
@@ -77,45 +81,55 @@ impl Rows {
         self.rows.is_empty()
     }
 
+    /// Notes whether something is left out.
+    pub fn note(&mut self, is_short: bool) {
+        self.is_short |= is_short;
+    }
+
+    /// What was found to be told. Nothing is, where a request for memory was refused.
+    pub fn found<T: Drop>(&mut self, found: Result<Vec<T>, NoMemory>) -> Vec<T> {
+        found_or_short(self.alloc, found, &mut self.is_short)
+    }
+
+    fn push_row(&mut self, row: Row) {
+        let is_short = self.rows.push(row).is_err();
+        self.note(is_short);
+    }
+
     /// Appends a row of two columns.
-    pub fn push(&mut self, left: Prose, right: Vec<u8>) -> Result<(), NoMemory> {
-        self.rows.push(Row {
-            left: left.bytes,
-            right,
-        })?;
-        Ok(())
+    pub fn push(&mut self, left: Prose, right: Prose) {
+        self.push_row(Row { left, right });
     }
 
     /// A row with nothing behind it.
-    pub fn push_alone(&mut self, left: Prose) -> Result<(), NoMemory> {
-        self.push(left, Vec::new(self.alloc))
+    pub fn push_alone(&mut self, left: Prose) {
+        self.push(left, Prose::new(self.alloc));
     }
 
     /// A row that says that so many more stand here, behind so many blanks.
-    pub fn push_more(&mut self, indent: usize, count: usize) -> Result<(), NoMemory> {
+    pub fn push_more(&mut self, indent: usize, count: usize) {
         let mut left = Prose::new(self.alloc);
-        left.put_blanks(indent)?;
-        put_more(&mut left, count)?;
-        self.push_alone(left)
+        left.put_blanks(indent);
+        put_more(&mut left, count);
+        self.push_alone(left);
     }
 
     /// Appends other rows.
-    pub fn append(&mut self, others: Rows) -> Result<(), NoMemory> {
-        let Rows { rows, .. } = others;
+    pub fn append(&mut self, others: Rows) {
+        let Rows { rows, is_short, .. } = others;
+        self.note(is_short);
         for row in rows {
-            self.rows.push(row)?;
+            self.push_row(row);
         }
-        Ok(())
     }
 
-    /// Whether the other rows say the same.
+    /// Whether the other rows say the same, and nothing is left out of both.
     pub fn same(&self, others: &Rows) -> bool {
-        if self.rows.len() != others.rows.len() {
+        if self.is_short || others.is_short || self.rows.len() != others.rows.len() {
             return false;
         }
         for at in 0..self.rows.len() {
-            let (one, other) = (&self.rows[at], &others.rows[at]);
-            if one.left != other.left || one.right != other.right {
+            if !self.rows[at].same(&others.rows[at]) {
                 return false;
             }
         }
@@ -126,21 +140,18 @@ impl Rows {
     fn column(&self) -> usize {
         let mut widest = 0;
         for row in &self.rows {
-            let width = row.left.len().saturating_add(row.right.len());
-            if !row.right.is_empty() && width <= WIDEST_ROW - 2 {
-                widest = row.left.len().max(widest);
-            }
+            widest = widest.max(row.reach());
         }
         widest.saturating_add(2)
     }
 
     /// Writes the rows as lines. What does not fit behind its row stands below it.
-    pub fn write(&self, text: &mut Prose) -> Result<(), NoMemory> {
+    pub fn write(&self, text: &mut Prose) {
         let column = self.column();
+        text.note(self.is_short);
         for row in &self.rows {
-            write_row(text, column, row)?;
+            row.write(text, column);
         }
-        Ok(())
     }
 }
 
@@ -149,17 +160,37 @@ fn has_room(column: usize, width: usize) -> bool {
     width <= WIDEST_ROW.saturating_sub(column)
 }
 
-fn write_row(text: &mut Prose, column: usize, row: &Row) -> Result<(), NoMemory> {
-    text.put(&row.left)?;
-    if row.right.is_empty() {
-        return text.put(b"\n");
+impl Row {
+    /// Whether the other row says the same, and nothing is left out of both.
+    fn same(&self, other: &Row) -> bool {
+        self.left.same(&other.left) && self.right.same(&other.right)
     }
-    match column.checked_sub(row.left.len()) {
-        Some(gap) if gap >= 2 && has_room(column, row.right.len()) => text.put_blanks(gap)?,
-        _ => {
-            text.put(b"\n")?;
-            text.put_blanks(indent_of(&row.left).saturating_add(4))?;
+
+    /// How far its left side reaches, if there is room behind it for the right side.
+    fn reach(&self) -> usize {
+        let (left, right) = (self.left.as_slice(), self.right.as_slice());
+        let is_wide = left.len().saturating_add(right.len()) > WIDEST_ROW - 2;
+        if right.is_empty() || is_wide {
+            0
+        } else {
+            left.len()
         }
     }
-    text.put_all(&[&row.right, b"\n"])
+
+    fn write(&self, text: &mut Prose, column: usize) {
+        let (left, right) = (self.left.as_slice(), self.right.as_slice());
+        text.append(&self.left);
+        if right.is_empty() {
+            return text.put(b"\n");
+        }
+        match column.checked_sub(left.len()) {
+            Some(gap) if gap >= 2 && has_room(column, right.len()) => text.put_blanks(gap),
+            _ => {
+                text.put(b"\n");
+                text.put_blanks(indent_of(left).saturating_add(4));
+            }
+        }
+        text.append(&self.right);
+        text.put(b"\n");
+    }
 }

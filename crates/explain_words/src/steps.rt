@@ -34,57 +34,50 @@ struct Asked<'a> {
 
 impl<'a> Asked<'a> {
     /// The first fields of each record.
-    fn put_front(&self, records: &mut Records, answer: &[u8]) -> Result<(), NoMemory> {
-        records.put_holding(&self.user.0, &self.atom)?;
-        records.put(answer)
+    fn put_front(&self, records: &mut Records, answer: &[u8]) {
+        records.put_holding(&self.user.0, &self.atom);
+        records.put(answer);
     }
 
     /// That he owns the table.
-    fn put_owner(&self, records: &mut Records, owned: &Owned) -> Result<(), NoMemory> {
-        self.put_front(records, b"owns")?;
-        records.put_nothing(1)?;
-        records.put_number(1)?;
-        records.put_moment(Some(owned.since))?;
-        records.put_nothing(1)?;
-        records.put_name(&owned.owner.0)?;
-        records.put_flag(true)?;
-        records.put_nothing(2)?;
-        records.put_any(self.past.line_of(owned.since))?;
-        records.put_nothing(1)?;
-        records.end()
+    fn put_owner(&self, records: &mut Records, owned: &Owned) {
+        self.put_front(records, b"owns");
+        records.put_nothing(1);
+        records.put_number(1);
+        records.put_moment(Some(owned.since));
+        records.put_nothing(1);
+        records.put_name(&owned.owner.0);
+        records.put_flag(true);
+        records.put_nothing(2);
+        records.put_any(self.past.line_of(owned.since));
+        records.put_nothing(1);
+        records.end();
     }
 
     /// The fields of a grant: which of the steps it is, when and by whom it was made, and to whom.
-    fn put_grant(
-        &self,
-        records: &mut Records,
-        given: Moment,
-        step: usize,
-        grant: &Grant,
-    ) -> Result<(), NoMemory> {
-        records.put_moment(Some(given))?;
-        records.put_number(step as u64)?;
-        records.put_moment(Some(grant.moment))?;
-        records.put_name(&grant.grantor.0)?;
-        records.put_name(&grant.grantee.0)?;
-        records.put_flag(grant.option)
+    fn put_grant(&self, records: &mut Records, given: Moment, step: usize, grant: &Grant) {
+        records.put_moment(Some(given));
+        records.put_number(step as u64);
+        records.put_moment(Some(grant.moment));
+        records.put_name(&grant.grantor.0);
+        records.put_name(&grant.grantee.0);
+        records.put_flag(grant.option);
     }
 
     /// The grants of a chain by which he holds it.
-    fn put_chain(&self, records: &mut Records, chain: &[Grant]) -> Result<(), NoMemory> {
+    fn put_chain(&self, records: &mut Records, chain: &[Grant]) {
         let given = match chain.last() {
             Some(last) => last.moment,
             None => Moment(0),
         };
         for at in 0..chain.len() {
-            self.put_front(records, b"holds")?;
-            self.put_grant(records, given, at + 1, &chain[at])?;
-            records.put_nothing(2)?;
-            records.put_any(self.past.line_of(chain[at].moment))?;
-            records.put_nothing(1)?;
-            records.end()?;
+            self.put_front(records, b"holds");
+            self.put_grant(records, given, at + 1, &chain[at]);
+            records.put_nothing(2);
+            records.put_any(self.past.line_of(chain[at].moment));
+            records.put_nothing(1);
+            records.end();
         }
-        Ok(())
     }
 
     /// A step of the way down from a REVOKE, of this moment, to a grant that fell by it. Of the
@@ -96,74 +89,66 @@ impl<'a> Asked<'a> {
         at: usize,
         given: Moment,
         fell: Moment,
-    ) -> Result<(), NoMemory> {
+    ) {
         let Some(life) = descent.get(at) else {
-            return Ok(());
+            return;
         };
-        self.put_front(records, b"lacks")?;
-        self.put_grant(records, given, at + 1, &life.grant)?;
-        records.put_moment(Some(fell))?;
+        self.put_front(records, b"lacks");
+        self.put_grant(records, given, at + 1, &life.grant);
+        records.put_moment(Some(fell));
         records.put(if at > 0 {
             b"fell".as_slice()
         } else if self.past.takes_options(fell) {
             b"option revoked".as_slice()
         } else {
             b"revoked".as_slice()
-        })?;
-        records.put_any(self.past.line_of(life.grant.moment))?;
-        records.put_any(self.past.line_of(fell))?;
-        records.end()
+        });
+        records.put_any(self.past.line_of(life.grant.moment));
+        records.put_any(self.past.line_of(fell));
+        records.end();
     }
 
     /// How a grant fell.
-    fn put_loss(&self, records: &mut Records, alloc: Global, life: &Life) -> Result<(), NoMemory> {
+    fn put_loss(&self, records: &mut Records, alloc: Global, life: &Life) {
         let Some(fell) = life.fell else {
-            return Ok(());
+            return;
         };
-        let descent = self.past.descent_to(alloc, life.grant.number)?;
+        let descent = records.found(self.past.descent_to(alloc, life.grant.number));
         for at in 0..descent.len() {
-            self.put_step(records, &descent, at, life.grant.moment, fell)?;
+            self.put_step(records, &descent, at, life.grant.moment, fell);
         }
-        Ok(())
     }
 
     /// How each grant fell that was made to him.
-    fn put_losses(
-        &self,
-        records: &mut Records,
-        alloc: Global,
-        given: &[Life],
-    ) -> Result<(), NoMemory> {
+    fn put_losses(&self, records: &mut Records, alloc: Global, given: &[Life]) {
         if given.is_empty() {
-            self.put_front(records, b"lacks")?;
-            records.put_nothing(10)?;
+            self.put_front(records, b"lacks");
+            records.put_nothing(10);
             return records.end();
         }
         for life in given {
-            self.put_loss(records, alloc, life)?;
+            self.put_loss(records, alloc, life);
         }
-        Ok(())
     }
 
     /// Why he holds it, or does not. Says whether he does.
-    fn put_why(
-        &self,
-        records: &mut Records,
-        alloc: Global,
-        owned: &Owned,
-    ) -> Result<bool, NoMemory> {
-        match self.past.history.why(alloc, &self.user, &self.atom)? {
-            Why::Owns { .. } => {
-                self.put_owner(records, owned)?;
-                Ok(true)
+    fn put_why(&self, records: &mut Records, alloc: Global, owned: &Owned) -> bool {
+        match self.past.history.why(alloc, &self.user, &self.atom) {
+            Ok(Why::Owns { .. }) => {
+                self.put_owner(records, owned);
+                true
             }
-            Why::Holds { chain } => {
-                self.put_chain(records, &chain)?;
-                Ok(true)
+            Ok(Why::Holds { chain }) => {
+                self.put_chain(records, &chain);
+                true
             }
-            Why::Lacks { given } => {
-                self.put_losses(records, alloc, &given)?;
-                Ok(false)
+            Ok(Why::Lacks { given }) => {
+                self.put_losses(records, alloc, &given);
+                false
+            }
+            Err(NoMemory) => {
+                records.note(true);
+                false
             }
         }
     }
@@ -179,7 +164,7 @@ pub fn steps_of(
     table: &Name,
     atoms: &[Atom],
 ) -> Result<(Vec<u8>, bool), NoMemory> {
-    let mut records = Records::under(alloc, &FIELDS)?;
+    let mut records = Records::under(alloc, &FIELDS);
     let mut holds = true;
     if let Some(owned) = past.owned(table) {
         for atom in atoms {
@@ -188,7 +173,7 @@ pub fn steps_of(
                 user: *user,
                 atom: *atom,
             };
-            holds &= asked.put_why(&mut records, alloc, &owned)?;
+            holds &= asked.put_why(&mut records, alloc, &owned);
         }
     }
     Ok((records.finish()?, holds))

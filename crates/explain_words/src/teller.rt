@@ -30,16 +30,16 @@ impl<'a> Teller<'a> {
     }
 
     /// A text that begins with so many blanks.
-    pub fn indented(&self, blanks: usize) -> Result<Prose, NoMemory> {
+    pub fn indented(&self, blanks: usize) -> Prose {
         let mut text = Prose::new(self.alloc);
-        text.put_blanks(blanks)?;
-        Ok(text)
+        text.put_blanks(blanks);
+        text
     }
 
     /// A row with the line of this moment behind it.
-    pub fn push_quoted(&mut self, left: Prose, at: Moment) -> Result<(), NoMemory> {
-        let right = self.quotes.of(&self.past, at)?;
-        self.rows.push(left, right)
+    pub fn push_quoted(&mut self, left: Prose, at: Moment) {
+        let right = self.quotes.of(&self.past, at);
+        self.rows.push(left, right);
     }
 
     /// The rows so far, which are taken away.

@@ -56,8 +56,6 @@ mod printing;
 mod proof;
 mod reading;
 mod server_messages;
-#[cfg(test)]
-mod tests;
 mod user;
 mod user_file;
 mod users;

@@ -76,16 +76,3 @@ impl Page {
         self.as_slice()
     }
 }
-
-#[cfg(test)]
-mod tests {
-    use super::*;
-    use base_core::Name;
-
-    #[test]
-    fn line_of_a_journal(rt: HostRuntime) {
-        let mut page = Page::new(rt.alloc()).expect(&rt, "memory");
-        let ann = User(Name::read(b"ann").expect(&rt, "a name"));
-        assert!(rt; page.line(ann, &Statement::Checkpoint) == b"ann: CHECKPOINT\n".as_slice());
-    }
-}

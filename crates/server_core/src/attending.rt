@@ -10,6 +10,7 @@ use crate::hearing::{Heard, hear};
 use crate::instance::Instance;
 use crate::leaving::{dismiss, end_behind, hear_out, leave, refuse, rest, stop, wait};
 use crate::outbox::Outbox;
+use crate::owing::Owing;
 use crate::parked_session::{ParkedSession, Progress};
 use crate::permit::Permit;
 use crate::room::{PIECE_BYTES, Room, Speech};
@@ -19,7 +20,6 @@ use desk_core::{Desk, Pass};
 use door_core::Log;
 use journal_core::Keeper;
 use login_core::Beginning;
-use reply_core::Pending;
 use session_core::{SessionEnd, SessionFault, Summary};
 use std::alloc::Global;
 use std::sync::Wait;
@@ -36,13 +36,40 @@ enum Outcome<K: Keeper + Drop, I: Instance<K>> {
     /// It goes on, behind these bytes, once he sends or takes more, or others have had their turn.
     Waits(ParkedSession<K, I>, Vec<u8>),
     /// It has ended, once this is written, if anything is still to be.
-    Ended(Summary, Option<Pending>),
+    Ended(Summary, Option<Owing<K, I>>),
     /// It has ended as the server was stopped.
     Stopped(Summary),
     /// His login was refused, that of this user, if he has said who he is.
     Refused(Option<Name>),
     /// It was not whole in time.
     Late(Option<Name>),
+}
+
+/// What comes of a session that has come so far by this piece. What is left of that is kept.
+fn behind_piece<K: Keeper + Drop, I: Instance<K>>(
+    alloc: Global,
+    spoken: Spoken<K, I>,
+    piece: &[u8],
+) -> Outcome<K, I> {
+    match spoken {
+        Spoken::Waits(session, taken) => {
+            let mut left = Vec::new(alloc);
+            match left.extend_from_slice(&piece[taken.min(piece.len())..]) {
+                Ok(()) => Outcome::GoesOn(session, left),
+                Err(_) => Outcome::Ended(session.fails(SessionFault::NoMemory), None),
+            }
+        }
+        Spoken::Ended(summary, owed) => Outcome::Ended(summary, owed),
+        Spoken::Refused(claimed) => Outcome::Refused(claimed),
+    }
+}
+
+/// What comes of a session whose client sends nothing more, and that has answered all.
+fn behind_all<K: Keeper + Drop, I: Instance<K>>(progress: Progress<K, I>) -> Outcome<K, I> {
+    match progress {
+        Progress::Ended { summary, owed, .. } => Outcome::Ended(summary, owed),
+        Progress::Parked(session, _) => Outcome::Ended(session.fails(SessionFault::Read), None),
+    }
 }
 
 /// Goes on with a session by bytes that its client has sent. Those that are left are kept.
@@ -76,17 +103,7 @@ fn answer<K: Keeper + Drop, I: Instance<K>, R: Wait + Clock, G: Log>(
         rt, alloc, desk, pass, connection, session, speech, piece, service, &gate,
     );
     permit.rest();
-    match spoken {
-        Spoken::Waits(session, taken) => {
-            let mut left = Vec::new(alloc);
-            match left.extend_from_slice(&piece[taken.min(piece.len())..]) {
-                Ok(()) => Outcome::GoesOn(session, left),
-                Err(_) => Outcome::Ended(session.fails(SessionFault::NoMemory), None),
-            }
-        }
-        Spoken::Ended(summary, owed) => Outcome::Ended(summary, owed),
-        Spoken::Refused(claimed) => Outcome::Refused(claimed),
-    }
+    behind_piece(alloc, spoken, piece)
 }
 
 /// The same, but that others have their turn behind as much as is read at once.
@@ -169,10 +186,7 @@ fn finish<K: Keeper + Drop, I: Instance<K>, R: Wait + Clock, G: Log>(
     permit.run();
     let progress = session.finish(rt, alloc, desk, pass, scratch, &mut writer, &gate);
     permit.rest();
-    match progress {
-        Progress::Ended { summary, owed, .. } => Outcome::Ended(summary, owed),
-        Progress::Parked(session, _) => Outcome::Ended(session.fails(SessionFault::Read), None),
-    }
+    behind_all(progress)
 }
 
 /// The same, but that a session waits which may have gone on at once.
@@ -185,11 +199,31 @@ fn in_turn<K: Keeper + Drop, I: Instance<K>>(outcome: Outcome<K, I>) -> Outcome<
 
 /// What comes of a session whose client sent nothing for too long.
 fn late<K: Keeper + Drop, I: Instance<K>>(session: ParkedSession<K, I>) -> Outcome<K, I> {
-    if session.is_logging_in() {
-        let claimed = session.begun().map(Beginning::user);
-        return Outcome::Late(claimed);
+    let is_logging_in = session.is_logging_in();
+    let claimed = session.begun().map(Beginning::user);
+    let summary = session.fails(SessionFault::Read);
+    if is_logging_in {
+        Outcome::Late(claimed)
+    } else {
+        Outcome::Ended(summary, None)
     }
-    Outcome::Ended(session.fails(SessionFault::Read), None)
+}
+
+/// What comes of a session whose client has said nothing by now, or nothing more as the server was stopped.
+fn unspoken<K: Keeper + Drop, I: Instance<K>>(
+    alloc: Global,
+    connection: &Connection,
+    session: ParkedSession<K, I>,
+    heard: Heard,
+) -> Outcome<K, I> {
+    match heard {
+        Heard::Nothing if connection.is_late.get() => late(session),
+        Heard::Nothing => Outcome::Waits(session, Vec::new(alloc)),
+        Heard::End => Outcome::Stopped(session.fails(SessionFault::Read)),
+        Heard::Piece(_) | Heard::Failed => {
+            Outcome::Ended(session.fails(SessionFault::Read), None)
+        }
+    }
 }
 
 /// Goes on with a session by what its client has sent, if he has.
@@ -216,15 +250,10 @@ fn speak<K: Keeper + Drop, I: Instance<K>, R: Wait + Clock, G: Log>(
                 rt, alloc, desk, pass, connection, session, speech, piece, service, log,
             )
         }
-        Heard::End if service.sign.is_stopped() => {
-            Outcome::Stopped(session.fails(SessionFault::Read))
-        }
-        Heard::End => finish(
+        Heard::End if !service.sign.is_stopped() => finish(
             rt, alloc, desk, pass, connection, session, speech, service, log,
         ),
-        Heard::Failed => Outcome::Ended(session.fails(SessionFault::Read), None),
-        Heard::Nothing if connection.is_late.get() => late(session),
-        Heard::Nothing => Outcome::Waits(session, Vec::new(alloc)),
+        heard => unspoken(alloc, connection, session, heard),
     }
 }
 
@@ -346,8 +375,8 @@ fn attend_once<K: Keeper + Drop, I: Instance<K>, R: Wait + Clock, G: Log>(
     } = guest;
     let (session, left) = match stage {
         Stage::Speaking(session, left) => (session, left),
-        Stage::Hearing(pending, summary) => {
-            let owed = Some(pending);
+        Stage::Hearing(owing, summary) => {
+            let owed = Some(owing);
             let speech = &mut room.speech;
             end_behind(rt, connection, owed, summary, speech, service, log);
             return None;

@@ -6,13 +6,13 @@ use crate::connection::Connection;
 use crate::instance::Instance;
 use crate::leaving::REFUSED;
 use crate::outbox::{Outbox, send};
+use crate::owing::Owing;
 use crate::parked_session::{ParkedSession, Progress};
 use crate::room::{OUTPUT_BYTES, Speech};
 use crate::service::Service;
 use base_core::{Name, NoGate, Unbuffered};
 use desk_core::{Desk, Pass};
 use journal_core::Keeper;
-use reply_core::Pending;
 use session_core::{SessionFault, Summary, Witness};
 use std::alloc::Global;
 use std::sync::Wait;
@@ -23,7 +23,7 @@ pub(crate) enum Spoken<K: Keeper + Drop, I: Instance<K>> {
     /// It waits for its client, and has taken so many bytes.
     Waits(ParkedSession<K, I>, usize),
     /// It has ended, once this is written, if anything is still to be.
-    Ended(Summary, Option<Pending>),
+    Ended(Summary, Option<Owing<K, I>>),
     /// Its login was refused, that of this user, if he has said who he is.
     Refused(Option<Name>),
 }
@@ -46,7 +46,7 @@ fn ended<K: Keeper + Drop, I: Instance<K>>(
     was_logging_in: bool,
     summary: Summary,
     claimed: Option<Name>,
-    owed: Option<Pending>,
+    owed: Option<Owing<K, I>>,
 ) -> Spoken<K, I> {
     if was_logging_in && summary.user.is_none() && claimed.is_some() {
         return Spoken::Refused(claimed);

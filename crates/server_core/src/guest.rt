@@ -2,11 +2,11 @@
 
 use crate::connection::Connection;
 use crate::instance::Instance;
+use crate::owing::Owing;
 use crate::parked_session::ParkedSession;
 use door_core::{Interest, Readiness};
 use journal_core::Keeper;
 use libc::net::SHUT_RDWR;
-use reply_core::Pending;
 use session_core::Summary;
 use std::time::Instant;
 
@@ -16,7 +16,7 @@ pub(crate) enum Stage<K: Keeper + Drop, I: Instance<K>> {
     /// His session goes on, behind these bytes that he has sent and nobody has answered yet.
     Speaking(ParkedSession<K, I>, Vec<u8>),
     /// His session has ended so, and this is still to be written.
-    Hearing(Pending, Summary),
+    Hearing(Owing<K, I>, Summary),
     /// His login was refused, and he is told so once his time is over.
     Refused,
     /// He was told all, and may read it until his time is over.

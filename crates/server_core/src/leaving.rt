@@ -7,13 +7,13 @@ use crate::guest::{Guest, Stage};
 use crate::hearing::{Heard, hear};
 use crate::instance::Instance;
 use crate::outbox::Outbox;
+use crate::owing::Owing;
 use crate::parked_session::ParkedSession;
 use crate::room::Speech;
 use crate::service::Service;
 use base_core::{Broken, Name, Unbuffered};
 use door_core::Log;
 use journal_core::Keeper;
-use reply_core::Pending;
 use session_core::{SessionEnd, SessionFault, Summary};
 use std::alloc::Global;
 use std::sync::Wait;
@@ -222,24 +222,24 @@ pub(crate) fn end<K: Keeper + Drop, I: Instance<K>, R: Wait + Clock, G: Log>(
 
 /// Writes what is still to come of a reply, as far as the client takes it, and sends it. What is to come
 /// behind that, if anything is.
-fn tell_more<R: Wait>(
+fn tell_more<K: Keeper + Drop, I: Instance<K>, R: Wait>(
     rt: &R,
     connection: &mut Connection,
-    owed: Option<Pending>,
+    owed: Option<Owing<K, I>>,
     speech: &mut Speech,
-) -> Result<Option<Pending>, Broken> {
+) -> Result<Option<Owing<K, I>>, Broken> {
     let mut owed = owed;
     for _ in rt.forever() {
-        let Some(pending) = owed else {
+        let Some(owing) = owed else {
             owed = None;
             break;
         };
         if !has_room(connection, &mut speech.output).ok_or(Broken)? {
-            owed = Some(pending);
+            owed = Some(owing);
             break;
         }
         let mut writer = Unbuffered::new(Outbox::new(&mut speech.output));
-        owed = speech.scratch.go_on(pending, &mut writer)?;
+        owed = owing.go_on(&mut speech.scratch, &mut writer)?;
     }
     if !connection.hand_on(&mut speech.output) {
         return Err(Broken);
@@ -249,12 +249,12 @@ fn tell_more<R: Wait>(
 
 /// Sends what waits, and writes and sends what is still to come of a reply, as far as the client takes it.
 /// What is to come behind that, if anything is.
-fn tell_rest<R: Wait>(
+fn tell_rest<K: Keeper + Drop, I: Instance<K>, R: Wait>(
     rt: &R,
     connection: &mut Connection,
-    owed: Option<Pending>,
+    owed: Option<Owing<K, I>>,
     speech: &mut Speech,
-) -> Result<Option<Pending>, Broken>
+) -> Result<Option<Owing<K, I>>, Broken>
     requires { speech.old.output.items ≡ [] }
     ensures { speech.new.output.items ≡ [] }
 {
@@ -274,7 +274,7 @@ fn tell_rest<R: Wait>(
 fn wait_behind<K: Keeper + Drop, I: Instance<K>, R: Wait + Clock, G: Log>(
     rt: &R,
     connection: Connection,
-    pending: Pending,
+    owing: Owing<K, I>,
     summary: Summary,
     service: &Service<'_, K, I>,
     log: &G,
@@ -284,7 +284,7 @@ fn wait_behind<K: Keeper + Drop, I: Instance<K>, R: Wait + Clock, G: Log>(
     connection.until = service.idle_until(rt);
     let ended = Err(SessionEnd::Session(SessionFault::NoMemory));
     let lost = Summary { ended, ..summary };
-    let stage = Stage::Hearing(pending, summary);
+    let stage = Stage::Hearing(owing, summary);
     park_session(rt, Guest { connection, stage }, lost, service, log);
 }
 
@@ -292,7 +292,7 @@ fn wait_behind<K: Keeper + Drop, I: Instance<K>, R: Wait + Clock, G: Log>(
 pub(crate) fn end_behind<K: Keeper + Drop, I: Instance<K>, R: Wait + Clock, G: Log>(
     rt: &R,
     connection: Connection,
-    owed: Option<Pending>,
+    owed: Option<Owing<K, I>>,
     summary: Summary,
     speech: &mut Speech,
     service: &Service<'_, K, I>,
@@ -307,7 +307,7 @@ pub(crate) fn end_behind<K: Keeper + Drop, I: Instance<K>, R: Wait + Clock, G: L
     let mut connection = connection;
     let told = tell_rest(rt, &mut connection, owed, speech);
     match told {
-        Ok(Some(pending)) => wait_behind(rt, connection, pending, summary, service, log),
+        Ok(Some(owing)) => wait_behind(rt, connection, owing, summary, service, log),
         Ok(None) => end(rt, connection, summary, service, log),
         Err(Broken) => {
             let ended = Err(SessionEnd::Session(SessionFault::Write));

@@ -94,6 +94,7 @@ mod leaving;
 mod letting_in;
 mod lookout;
 mod outbox;
+mod owing;
 mod parked_session;
 mod permit;
 mod permits;

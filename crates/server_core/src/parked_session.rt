@@ -6,12 +6,12 @@ ghost use Rattle.door_core.specs.Entrance.{IsAdmitted};
 ghost use Rattle.server_core.specs.Sessions.{IsOf, ServesPiece, nothing_known, lock_told};
 
 use crate::instance::Instance;
+use crate::owing::Owing;
 use base_core::{Gate, Name, Sink};
 use desk_core::{Desk, Pass};
 use door_core::Login;
 use journal_core::Keeper;
 use login_core::Beginning;
-use reply_core::Pending;
 use session_core::{Admission, Scratch, SessionFault, SessionMachine, Summary, Witness};
 use std::alloc::{AllocError, Global};
 use std::marker::PhantomData;
@@ -39,7 +39,7 @@ pub(crate) enum Progress<K: Keeper + Drop, I: Instance<K>> {
     Ended {
         summary: Summary,
         claimed: Option<Name>,
-        owed: Option<Pending>,
+        owed: Option<Owing<K, I>>,
     },
 }
 
@@ -49,7 +49,7 @@ impl<K: Keeper + Drop, I: Instance<K>> Progress<K, I> {
         Progress::Ended {
             summary: parked.summary(served),
             claimed: parked.begun().map(Beginning::user),
-            owed: parked.into_owed(),
+            owed: Owing::of(parked),
         }
     }
 }

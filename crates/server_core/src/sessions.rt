@@ -54,6 +54,33 @@ fn watch_each<K: Keeper + Drop, I: Instance<K>>(
     is_timed
 }
 
+/// Has the session wait for its client among these, of this shard. Whether there was memory for it, and
+/// the system can.
+fn insert_among<K: Keeper + Drop, I: Instance<K>>(
+    guests: &mut Slab<Guest<K, I>>,
+    readiness: &Readiness,
+    shard: usize,
+    guest: Guest<K, I>,
+) -> bool {
+    let descriptor = guest.connection.descriptor();
+    let (interest, is_known) = (guest.interest(), guest.connection.is_known);
+    let mut guest = guest;
+    guest.connection.is_known = true;
+    let Ok(key) = guests.insert(guest) else {
+        return false;
+    };
+    let number = number_of(shard, key);
+    let is_waited_for = if is_known {
+        readiness.again(descriptor, interest, number)
+    } else {
+        readiness.add(descriptor, interest, number)
+    };
+    if !is_waited_for {
+        let _ = guests.try_remove(key);
+    }
+    is_waited_for
+}
+
 impl<K: Keeper + Drop, I: Instance<K>> Sessions<K, I> {
     /// None waits. `NoMemory` where a request for memory was refused.
     pub(crate) fn new(alloc: Global) -> Result<Sessions<K, I>, NoMemory> {
@@ -98,26 +125,12 @@ impl<K: Keeper + Drop, I: Instance<K>> Sessions<K, I> {
         guest: Guest<K, I>,
     ) -> bool {
         let descriptor = guest.connection.descriptor();
-        let (interest, is_known) = (guest.interest(), guest.connection.is_known);
         let shard = usize::try_from(descriptor).unwrap_or(0) % SHARDS;
         let Some(slab) = self.shards.get(shard) else {
             return false;
         };
         let mut guests = slab.lock(rt);
-        let mut guest = guest;
-        guest.connection.is_known = true;
-        let Ok(key) = guests.insert(guest) else {
-            return false;
-        };
-        let number = number_of(shard, key);
-        let is_waited_for = if is_known {
-            readiness.again(descriptor, interest, number)
-        } else {
-            readiness.add(descriptor, interest, number)
-        };
-        if !is_waited_for {
-            let _ = guests.try_remove(key);
-        }
+        let is_waited_for = insert_among(&mut guests, readiness, shard, guest);
         // Whoever stops the server later comes by here.
         if is_waited_for && let Some(how) = sign.shut() {
             let _ = libc::net::shutdown(descriptor, how);

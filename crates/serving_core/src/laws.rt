@@ -40,5 +40,5 @@ pub fn gone_on_server_is_kept<W: Sink>()
 pub fn entries_are_by_right<K: Keeper + Drop, M: SessionMachine<K>>()
     ensures { (by : Admittance) (workers sessions : ℕ) (keeper : K) (start world : World)
         → Leaves M.protocol by workers sessions keeper start world
-        → All (λ entry. ∥ IsByRight by entry.user ∥₁) (gained start.journal world.journal) }
+        → All (λ entry. ∥ IsByRight M.right by entry.user ∥₁) (gained start.journal world.journal) }
 {}

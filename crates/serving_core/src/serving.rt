@@ -22,7 +22,7 @@ use std::marker::Brand;
 use std::mem::forget;
 use std::snapshot::Snapshot;
 use std::sync::atomic::AtomicBool;
-use std::sync::ledger::{Blank, Ledger};
+use std::sync::ledger::{Blank, Ledger, Share};
 use std::sync::{Mutex, Wait};
 use std::thread;
 use std::thread::Threads;
@@ -35,6 +35,53 @@ fn processors<R: Threads>(rt: &R) -> usize {
         Ok(count) => count.get(),
         Err(_) => 1,
     }
+}
+
+/// Serves sessions through these passes, and gives them back with the checkpointer's behind them, and all
+/// of the token.
+fn serve_dealt<K, L, S, M, R, G, C>(
+    rt: &R,
+    alloc: Global,
+    desk: &Desk<K>,
+    begun: &Snapshot<System>,
+    passes: Vec<Pass<K>>,
+    own: Pass<K>,
+    rest: Share<L>,
+    service: &Service<'_, K, AtSite<S, M>>,
+    door: &Mutex<Door<L>>,
+    log: &G,
+    control: &C,
+) -> Result<(Vec<Pass<K>>, Share<L>), ServeFault>
+where
+    K: Keeper + Drop + Send,
+    L: Ledger + Send + Sync,
+    S: Site<K> + Send + Sync,
+    M: SessionMachine<K> + Send,
+    R: Threads + Wait + Clock + Sync,
+    G: Log + Sync,
+    C: Control,
+    requires instance { IsOfInstance S.desk S.by desk.now service.now.entrance.now }
+    requires new { All (IsNew begun.now.value.journal desk.now) passes.items }
+    requires own { IsNew begun.now.value.journal desk.now own }
+    requires parts { (rest.parts ≡ L.parts) × (L.parts ≡ length passes.items + 1) }
+    requires nothing { rest.amount ≡ 0 }
+    ensures servers { IfOk result
+        (λ b. AreServers M.protocol service.now.entrance.now begun.now.value.journal desk.now
+        b.1.amount b.0.items) }
+    ensures parts { IfOk result (λ b. b.1.parts ≡ L.parts) }
+{
+    let workers = passes.len();
+    let stop = AtomicBool::new(false);
+    let mut rest = rest;
+    let dealt = workers_of(alloc, desk, begun, passes, &mut rest)?;
+    let (back, own) = serve_all(
+        rt, alloc, desk, begun, dealt, own, service, door, log, control, &stop,
+    )?;
+    if back.len() != workers {
+        return Err(ServeFault::NoMemory);
+    }
+    let entrance = service.entrance;
+    Ok(gathered::<K, L, M>(alloc, desk, entrance, begun, back, own, rest)?)
 }
 
 /// Serves so many sessions of the entrance through these passes, of which the last is the
@@ -76,26 +123,26 @@ where
     let Some(own) = passes.pop() else {
         return Err(ServeFault::NoMemory);
     };
-    let (book, mut rest) = blank.open::<L>();
+    let machines = processors(rt);
+    let service = Service::<K, AtSite<S, M>>::new(alloc, entrance, machines, manners, moment)?;
+    let (book, rest) = blank.open::<L>();
     let door = Mutex::new(Door::new(sessions, book));
-    let service = Service::<K, AtSite<S, M>>::new(
-        alloc,
-        entrance,
-        processors(rt),
-        manners,
-        moment,
-    )?;
-    let stop = AtomicBool::new(false);
-    let dealt = workers_of(alloc, desk, begun, passes, &mut rest)?;
-    let (back, own) = serve_all(
-        rt, alloc, desk, begun, dealt, own, &service, &door, log, control, &stop,
-    )?;
-    if back.len() != workers {
-        return Err(ServeFault::NoMemory);
+    let served = serve_dealt(
+        rt, alloc, desk, begun, passes, own, rest, &service, &door, log, control,
+    );
+    // (each destructor is called once, where it would be unrolled at each exit)
+    drop(service);
+    let door = door.into_inner();
+    match served {
+        Ok((passes, all)) => match door.served(sessions, all) {
+            Ok(taken) => Ok((taken, passes)),
+            Err(fault) => Err(fault),
+        },
+        Err(fault) => {
+            drop(door);
+            Err(fault)
+        }
     }
-    let (passes, all) = gathered::<K, L, M>(alloc, desk, entrance, begun, back, own, rest)?;
-    let taken = door.into_inner().served(sessions, all)?;
-    Ok((taken, passes))
 }
 
 /// What a server leaves: how many sessions it served, and whether it was stopped; the core, and the

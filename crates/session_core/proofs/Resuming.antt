@@ -1,7 +1,9 @@
 -- A session that goes on through one pass after another.
 use Rattle.std.proofs.Common.{◌≡◌, false, ℕ, ◌<◌, ◌+◌, ◌-◌, ◌^◌, List, [], ◌++◌, length, Option, Some, None, Ok, Err, sym, ap, ◌∙◌, subst, refl, inl, inr, append-nil, arith}
-use Rattle.std.specs.Prelude.{Result, IfOk, OnErr}
+use Rattle.std.specs.Prelude.{Result, IfOk, OnErr, option_map}
+use Rattle.std.specs.Option.{is_some}
 use Rattle.std.specs.Io.KnownBytes.{Appends, Consumes, Keeps, IsAtEnd}
+use Rattle.std.proofs.lemmas.Bool.{false≢true}
 use Rattle.std.proofs.KnownBytes.{Appends-nil, Appends-trans, Appends-kept, Consumes-nil}
 use Rattle.base_core.specs.Streams.{Writes, WritesFrontOf}
 use Rattle.base_core.proofs.Fronts.{front-first}
@@ -14,12 +16,18 @@ use Rattle.lines_core.proofs.ServeLemmas.{Serving-next, BrokenRun-next, BrokenRu
 use Rattle.desk_core.specs.Guarded.{DeskLock, DeskPass, DeskNote}
 use Rattle.session_core.specs.declared.admission.Admission.{Admission}
 use Rattle.session_core.specs.Gains.{Watches}
-use Rattle.reply_core.specs.Pending.{TellsPending}
+use Rattle.reply_core.specs.Pending.{TellsPending, count_left}
+use Rattle.reply_core.specs.declared.pending.Pending.{Pending}
 use Rattle.reply_core.proofs.PendingLemmas.{some_pending}
 use Rattle.session_core.specs.Session.{SessionState, opened, is_over, AnswersSession, BeginsSession, GainsOf}
 use Rattle.session_core.specs.TooLong.{AnswersThrough-too_long}
 use Rattle.session_core.specs.Parking.{ParkedState, parked_first, resumed, unseeing, SeesNoLess, NotesNoLess, Meets, pass_note, AnswersThrough, HasCome, HasEnded, GainsFor}
 use Rattle.session_core.proofs.Growing.{starts_through, Gains-trans, Watches-gains}
+
+-- of what nothing is counted, nothing is pending
+pub nothing_left : (pending : Option Pending) → option_map count_left pending ≡ None → pending ≡ None
+nothing_left None none = refl
+nothing_left (Some pending) none = absurd (false≢true (sym (ap is_some none)))
 
 -- what follows from both outcomes
 pub either : {T E P : Type 0} {A : T → Type 0} {B : Type 0} (r : Result T E) → IfOk r A → OnErr r B → ((x : T) → A x → P) → (B → P) → P

@@ -6,8 +6,6 @@ use Rattle.lines_core.specs.Serving.{Traffic}
 use Rattle.lines_core.specs.declared.serving.SessionFault.{SessionFault}
 use Rattle.lines_core.specs.declared.serving.SessionFault.TheVariants as faults
 use Rattle.login_core.specs.Login.{Beginning}
-use Rattle.reply_core.specs.Pending.{count_left}
-use Rattle.reply_core.specs.declared.pending.Pending.{Pending}
 use Rattle.desk_core.specs.Guarded.{DeskLock, DeskNote}
 use Rattle.session_core.specs.declared.admission.Admission.{Admission}
 use Rattle.session_core.specs.declared.summary.Summary.{Summary}
@@ -18,9 +16,14 @@ use Rattle.session_core.specs.Session.{end_of}
 abbrev pub Protocol : Type 0 → Type 1
 Protocol K = DeskLock K → Admission → Option User → Option (DeskNote K) → Traffic → Type 0
 
+-- By what right sessions are their users': what has to be so of one that was admitted so, over this
+-- traffic, where it is this user's.
+abbrev pub Right : Type 1
+Right = Admission → Traffic → User → Type 0
+
 -- What is known of a session in any protocol: how many bytes may still come, the login that is under way,
--- its user, what is told of it, what is owed of the last reply, and the note of the pass that it went
--- through last.
+-- its user, what is told of it, how many parts of the last reply are owed, if any are, and the note of the
+-- pass that it went through last.
 pub record MachineState (K : Type 0) : Type 0 where
   pub unread : ℕ
   pub begun : Option Beginning
@@ -29,7 +32,7 @@ pub record MachineState (K : Type 0) : Type 0 where
   pub unkept : Bool
   pub answered : ℕ
   pub moment : Option Moment
-  pub owed : Option Pending
+  pub owed : Option ℕ
   pub note : Option (DeskNote K)
 
 -- before the first piece
@@ -56,8 +59,8 @@ summary_of state served = record {
 }
 
 -- less is owed than before, and nothing where nothing was
-abbrev pub OwesLess : Option Pending → Option Pending → Type 0
-OwesLess (Some before) (Some rest) = count_left rest < count_left before
+abbrev pub OwesLess : Option ℕ → Option ℕ → Type 0
+OwesLess (Some before) (Some rest) = rest < before
 OwesLess None (Some rest) = ⊥
 OwesLess before None = Unit {0}
 

@@ -1,5 +1,5 @@
 -- A session that is parked between two pieces of what its client sends, and goes on through any pass.
-use Rattle.std.specs.Prelude.{◌≡◌, ◌≤◌, ◌⊎◌, ℕ, List, [], length, Bool, false, Option, Some, None, Result}
+use Rattle.std.specs.Prelude.{◌≡◌, ◌≤◌, ◌⊎◌, ℕ, List, [], length, Bool, false, Option, Some, None, option_map, Result}
 use Rattle.std.specs.Io.KnownBytes.{Appends}
 use Rattle.std.specs.Str.Lines.{lines}
 use Rattle.base_core.specs.declared.name.User.{User}
@@ -9,7 +9,7 @@ use Rattle.lines_core.specs.Feeding.{FeedingState, unfed}
 use Rattle.lines_core.specs.Serving.{AnswersAll, HasServed, Ends, Traffic}
 use Rattle.lines_core.specs.declared.serving.SessionFault.{SessionFault}
 use Rattle.login_core.specs.Login.{Beginning}
-use Rattle.reply_core.specs.Pending.{TellsPending}
+use Rattle.reply_core.specs.Pending.{TellsPending, count_left}
 use Rattle.reply_core.specs.declared.pending.Pending.{Pending}
 use Rattle.turnstile.specs.Logs.{StartsWith}
 use Rattle.desk_core.specs.Guarded.{DeskLock, DeskPass, DeskNote}
@@ -55,9 +55,13 @@ machine_state parked = record {
   unkept = parked.unkept;
   answered = parked.answered;
   moment = parked.moment;
-  owed = parked.owed;
+  owed = option_map count_left parked.owed;
   note = parked.note;
 }
+
+-- this may still be written of the last reply
+abbrev pub OwesReply : {K : Type 0} → ParkedState K → List ℕ → Type 0
+OwesReply parked rest = TellsPending parked.owed rest
 
 -- how far a session has come that goes on through this pass
 abbrev pub resumed : {K : Type 0} → Admission → ParkedState K → DeskPass K → SessionState K

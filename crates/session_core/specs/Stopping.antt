@@ -17,7 +17,7 @@ use Rattle.desk_core.specs.Guarded.{DeskLock}
 use Rattle.session_core.specs.declared.admission.Admission.{Admission}
 use Rattle.session_core.specs.Session.{SessionState, opened, is_over}
 use Rattle.session_core.specs.Machines.{MayStop}
-use Rattle.session_core.specs.Parking.{ParkedState, machine_state, resumed, unseeing, AnswersThrough, HasCome, HasEnded, SpeaksLines}
+use Rattle.session_core.specs.Parking.{ParkedState, machine_state, resumed, unseeing, AnswersThrough, HasCome, HasEnded, SpeaksLines, OwesReply}
 use Rattle.session_core.specs.TooLong.{AnswersThrough-too_long}
 
 -- what a writer may have taken, once this was written
@@ -119,6 +119,9 @@ pub HasCome-stops : {K : Type 0} (desk : DeskLock K) (admission : Admission) (pa
     → HasEnded desk admission parked ending (traffic_of left left' taken later)
 HasCome-stops desk admission parked ending left left' taken taken' later rest come told wrote may =
     stopped desk admission parked left left' taken taken' later rest come told wrote ending may
+
+pub OwesReply-payable : {K : Type 0} (parked : ParkedState K) → (rest : List ℕ) × OwesReply parked rest
+OwesReply-payable parked = some_pending parked.owed
 
 pub HasCome-breaks : {K : Type 0} (desk : DeskLock K) (admission : Admission) (parked : ParkedState K)
     (left left' taken taken' : Option (List ℕ))

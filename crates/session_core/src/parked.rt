@@ -98,17 +98,22 @@ impl<'a, K: Keeper + Drop, R: Wait, G: Witness> Session<'a, K, R, G> {
 }
 
 impl<K: Keeper + Drop> SessionMachine<K> for Parked<K> {
-    ghost use Rattle.session_core.specs.Parking.{HasCome, HasEnded, SpeaksLines, machine_state};
-    ghost use Rattle.session_core.specs.Stopping.{HasCome-stops, HasCome-breaks, HasCome-unseen, HasEnded-unseen, HasEnded-spoken};
+    ghost use Rattle.session_core.specs.LoggedIn.{HasComeAs};
+    ghost use Rattle.session_core.specs.Parking.{HasCome, HasEnded, OwesReply, SpeaksLines, machine_state};
+    ghost use Rattle.session_core.specs.Stopping.{HasCome-stops, HasCome-breaks, HasCome-unseen, HasEnded-unseen, HasEnded-spoken, OwesReply-payable};
     ghost use Rattle.session_core.specs.Showing.{SpeaksLines-rightful};
 
     ghost protocol = { SpeaksLines };
+
+    ghost right = { HasComeAs };
 
     ghost state = { machine_state };
 
     ghost come = { HasCome };
 
     ghost ended = { HasEnded };
+
+    ghost owes = { OwesReply };
 
     fn new(alloc: Global) -> Result<Parked<K>, AllocError> {
         let feeding = Feeding::new(alloc)?;
@@ -143,10 +148,6 @@ impl<K: Keeper + Drop> SessionMachine<K> for Parked<K> {
 
     fn is_owing(&self) -> bool {
         self.owed.is_some()
-    }
-
-    fn into_owed(self) -> Option<Pending> {
-        self.owed
     }
 
     fn feed<'x, R: Wait, W: Sink, G: Witness>(
@@ -266,6 +267,8 @@ impl<K: Keeper + Drop> SessionMachine<K> for Parked<K> {
     }
 
     ghost stops = { HasCome-stops };
+
+    ghost payable = { OwesReply-payable };
 
     ghost breaks = { HasCome-breaks };
 

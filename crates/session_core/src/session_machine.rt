@@ -6,12 +6,10 @@ ghost use Rattle.base_core.specs.declared.name.User.{User};
 ghost use Rattle.lines_core.specs.declared.serving.SessionFault.{SessionFault};
 ghost use Rattle.lines_core.specs.declared.serving.SessionFault.TheVariants as faults;
 ghost use Rattle.lines_core.specs.Serving.{Traffic, traffic_of};
-ghost use Rattle.reply_core.specs.Pending.{TellsPending};
 ghost use Rattle.desk_core.specs.Guarded.{DeskLock, DeskNote};
 ghost use Rattle.session_core.specs.declared.admission.Admission.{Admission};
-ghost use Rattle.session_core.specs.LoggedIn.{HasComeAs};
 ghost use Rattle.session_core.specs.Parking.{GainsFor, pass_note};
-ghost use Rattle.session_core.specs.Machines.{Protocol, MachineState, first_state, summary_of, OwesLess, MayStop};
+ghost use Rattle.session_core.specs.Machines.{Protocol, Right, MachineState, first_state, summary_of, OwesLess, MayStop};
 
 use crate::admission::Admission;
 use crate::scratch::Scratch;
@@ -22,7 +20,6 @@ use desk_core::{Desk, Pass};
 use journal_core::Keeper;
 use lines_core::SessionFault;
 use login_core::Beginning;
-use reply_core::Pending;
 use std::alloc::{AllocError, Global};
 use std::sync::Wait;
 
@@ -31,6 +28,8 @@ use std::sync::Wait;
 pub trait SessionMachine<K: Keeper + Drop>: Drop {
     // What the protocol says of its sessions, wherever they end.
     ghost protocol: { Protocol K };
+    // By what right its sessions are their users'.
+    ghost right: { Right };
     // What is known of a session in any protocol.
     ghost state: { Self → MachineState K };
     // A session of this desk that came by its user so has come so far, over this traffic: once what it owes
@@ -39,6 +38,8 @@ pub trait SessionMachine<K: Keeper + Drop>: Drop {
     // It has ended so.
     ghost ended: { DeskLock K → Admission → Self → Result (Unit {0}) SessionFault → Traffic
         → Type 0 };
+    // This may still be written of its last reply.
+    ghost owes: { Self → List ℕ → Type 0 };
 
     /// A session of which nothing has come. The error is `AllocError`: there was no memory for it.
     fn new(alloc: Global) -> Result<Self, AllocError>
@@ -66,10 +67,6 @@ pub trait SessionMachine<K: Keeper + Drop>: Drop {
     /// Whether a reply is still to be written, before anything else is answered.
     fn is_owing(&self) -> bool
         ensures { result ≡ is_some (state self.now).owed };
-
-    /// What is still to be written of the last reply, at the end of a session.
-    fn into_owed(self) -> Option<Pending>
-        ensures { result ≡ (state self).owed };
 
     /// Answers what ends first in this piece, through this pass, which meets what the session has seen;
     /// where nothing ends there it keeps the front of it. How many bytes it took. A long reply is only
@@ -166,7 +163,7 @@ pub trait SessionMachine<K: Keeper + Drop>: Drop {
             (traffic_of left left' taken (W.taken writer.old))
             → Consumes left' left'' []
             → IsAtEnd left''
-            → TellsPending (state self.new).owed rest
+            → owes self.new rest
             → Appends (W.taken writer.new) later rest
             → ended desk.now admission.now self.new (Ok tt)
             (traffic_of left left'' taken later)) }
@@ -187,10 +184,12 @@ pub trait SessionMachine<K: Keeper + Drop>: Drop {
         (ending : Result (Unit {0}) SessionFault)
         (left left' taken taken' later : Option (List ℕ)) (rest : List ℕ)
         → come desk admission session (traffic_of left left' taken taken')
-        → TellsPending (state session).owed rest
+        → owes session rest
         → Appends taken' later rest
         → MayStop (state session) ending
         → ended desk admission session ending (traffic_of left left' taken later) };
+    // Something may be written of what it owes, and be it nothing.
+    ghost payable: { (session : Self) → (rest : List ℕ) × owes session rest };
     // Where its client takes no more, what was written is a front of the answers.
     ghost breaks: { (desk : DeskLock K) (admission : Admission) (session : Self)
         (left left' taken taken' : Option (List ℕ))
@@ -215,5 +214,5 @@ pub trait SessionMachine<K: Keeper + Drop>: Drop {
     ghost rightful: { (desk : DeskLock K) (admission : Admission) (user : User)
         (note : Option (DeskNote K)) (traffic : Traffic)
         → protocol desk admission (Some user) note traffic
-        → HasComeAs admission traffic user };
+        → right admission traffic user };
 }

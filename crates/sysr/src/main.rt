@@ -15,25 +15,72 @@
 //!
 //! Before anything is opened the places of standard streams that are closed are filled, so that
 //! neither a file nor a client is sent what is meant for them. A file that is written to is held
-//! against other programs, and no two words of a command line may name one file.
+//! against other programs, before it is read where it is gone on with, and no two words of a command
+//! line may name one file (`files.rt`, `naming.rt`). A last line that was cut off is taken off a
+//! journal that is gone on with (`mending.rt`). A file of users is not taken where it is open to
+//! others (`users.rt`), and a port that other machines can reach asks for one (`places.rt`). A socket
+//! file of a user's own belongs to the system's user of his name.
+//!
+//! The one contract: what the crates below promise of readers and writers is promised of these
+//! commands, each joined with its streams as the words say. Where `journal` and `dump` end without
+//! a fault, what they wrote is whole (`specs/Joints.antt`); what `run` and `serve` leave was kept
+//! in the journal that is named, from where it was opened (`specs/Kept.antt`). Where a file of
+//! users is named, whoever `serve` served has logged in, or came in at the socket of the user that
+//! he was. What `verifier` wrote is the line of a user of the password that it read
+//! (`specs/Passwords.antt`). A reader or writer that tells its bytes stands for a file or a stream,
+//! which tell none.
 //!
 //! What is written for what was read is the contract of [`answered`](run_core::answered); what a
 //! journal's file gets that of [`LineKeeper`](journal_core::LineKeeper); what a file makes
 //! that of [`load`](load_core::load), and standard input that of [`replay`](load_core::replay); what
 //! a dump says that of [`write_dump`](dump_core::write_dump); what is explained that of
 //! [`explain`](explain_text::explain); what the command line may say that of
-//! [`options`](command_core::options); what stands for a password that of
-//! [`verifier`](program_core::verifier); who speaks in a session of a server that of
-//! [`serve`](program_core::serve); and what the threads of a server do to its core that of
-//! [`serve_on`](serving_core::serve_on). [`program_core`] joins them with files and streams, and this
-//! crate joins its commands with the words of the process.
+//! [`options`](command_core::options); and what the threads of a server do to its core that of
+//! [`serve_on`](serving_core::serve_on).
+//!
+//! A command costs what the calls cost that it joins; a verifier 4,096 HMACs. At its end the memory
+//! of tables and rights goes back with the process, and is not taken apart.
 #![tactic(auto)]
 
 ghost use Rattle.command_core.specs.Ranges.{IsInRange};
 
+mod calls;
+mod controls;
+mod end_of_input;
+mod entrances;
+mod explaining;
+mod figures;
+mod files;
+mod keeping;
+mod lent;
+mod listening;
+mod loading;
+mod mending;
+mod naming;
+mod places;
+mod random;
+mod reading_time;
+mod recording;
+mod reloading;
+mod replaying;
+mod report;
+mod running;
+mod socket_files;
+mod system_users;
+mod users;
+mod verifying;
+mod whole;
+
+use crate::controls::stop;
+use crate::explaining::explained;
+use crate::figures::status;
+use crate::listening::serve;
+use crate::recording::{dump, journal};
+use crate::reloading::reload;
+use crate::running::run;
+use crate::verifying::verifier;
 use command_core::{CommandLine, Reading, options, refuse};
 use lines_core::{NO_MEMORY, give_up};
-use program_core::{dump, explained, journal, reload, run, serve, status, stop, verifier};
 use run_core::{fill_closed_streams, input, output};
 use std::mem::forget;
 use std::process::ExitCode;

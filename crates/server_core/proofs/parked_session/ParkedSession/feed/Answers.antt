@@ -1,7 +1,6 @@
 use Rattle.std.proofs.Common.{None, Ok, Err, sym, ap, ◌∙◌, subst}
 use Rattle.std.proofs.Math.Logic.{∥∥₁_map}
 use Rattle.lines_core.specs.declared.serving.SessionFault.TheVariants as faults
-use Rattle.reply_core.proofs.PendingLemmas.{some_pending}
 use Rattle.server_core.specs.Sessions.{nothing_known, lock_told}
 use Rattle.server_core.proofs.Pieces.{none_owed, same_value, serves}
 use Rattle.server_core.proofs.parked_session.ParkedSession.feed.Goals as goal
@@ -30,7 +29,7 @@ returns-then-is_over g c =
     let admission = c.args.self.admission in
     let session = c.feed.new.self in
     let state = g.I.Session.SessionMachine.state session in
-    let rest = some_pending state.owed in
+    let rest = law.payable session in
     let before = g.W.Sink.taken c.args.writer.now in
     let after = g.W.Sink.taken c.feed.new.writer in
     serves g.I.Session.SessionMachine.protocol g.I.Instance.by desk admission c.args.pass.now c.feed.new.pass state.user state.note c.args.self.admitted
@@ -46,7 +45,7 @@ returns-then-unread-eq0 g c =
     let admission = c.args.self.admission in
     let session = c.feed.new.self in
     let state = g.I.Session.SessionMachine.state session in
-    let rest = some_pending state.owed in
+    let rest = law.payable session in
     let before = g.W.Sink.taken c.args.writer.now in
     let after = g.W.Sink.taken c.feed.new.writer in
     serves g.I.Session.SessionMachine.protocol g.I.Instance.by desk admission c.args.pass.now c.feed.new.pass state.user state.note c.args.self.admitted

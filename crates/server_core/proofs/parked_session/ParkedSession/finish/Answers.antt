@@ -1,7 +1,6 @@
 use Rattle.std.proofs.Common.{None, Ok, Err}
 use Rattle.std.proofs.Math.Logic.{∥∥₁_map}
 use Rattle.lines_core.specs.declared.serving.SessionFault.TheVariants as faults
-use Rattle.reply_core.proofs.PendingLemmas.{some_pending}
 use Rattle.session_core.specs.Stopping.{written_on}
 use Rattle.server_core.specs.Sessions.{nothing_known}
 use Rattle.server_core.proofs.Pieces.{serves}
@@ -15,7 +14,7 @@ returns-in-Ok g c =
     let session = c.finish-finished.new.self in
     let before = g.W.Sink.taken c.args.writer.now in
     let state = g.I.Session.SessionMachine.state session in
-    let rest = some_pending state.owed in
+    let rest = law.payable session in
     let all = written_on (g.W.Sink.taken c.finish-finished.new.writer) rest.0 in
     serves g.I.Session.SessionMachine.protocol g.I.Instance.by desk admission c.args.pass.now c.finish-finished.new.pass state.user state.note c.args.self.admitted
     (∥∥₁_map c.args.self.come (λ come. law.spoken desk admission session (Ok tt) nothing_known (law.ended_unseen desk admission session (Ok tt) all.0 None

@@ -9,7 +9,7 @@ use Rattle.session_core.specs.declared.parked.Standing.{Standing}
 use Rattle.session_core.specs.Session.{SessionState, AnswersSession, BeginsSession, GainsOf}
 use Rattle.session_core.specs.Parking.{ParkedState, HasCome, Meets, GainsFor, pass_note}
 use Rattle.session_core.proofs.Sessions.{part_kept, part_begins, part_free, broken_kept, broken_answers, same_pass}
-use Rattle.session_core.proofs.Resuming.{either, if_ok, on_err, gains_for, here, come_more, come_broken}
+use Rattle.session_core.proofs.Resuming.{either, if_ok, on_err, gains_for, here, come_more, come_broken, nothing_left}
 use Rattle.session_core.proofs.parked.ParkedSessionMachine.feed.Goals as goal
 
 pub shape_of-scratch : goal.shape_of-scratch
@@ -94,7 +94,7 @@ returns-clause-fed g c =
     let told = sym c.standing-standing.ensures in
     let begun = c.begun-2-1.given.1 (sym kept.lent.begun) in
     let owed = c.owed-2-1.given.1 (sym kept.lent.owed) in
-    let free = ap (λ (p : ParkedState g.row.K.Denot). p.owed) c.self.view_is ∙ c.requires.free in
+    let free = ap (λ (p : ParkedState g.row.K.Denot). p.owed) c.self.view_is ∙ nothing_left _ c.requires.free in
     if_ok c.feed_line-fed.result c.feed_line-fed.ensures.fed c.feed_line-fed.ensures.unread c.feed_line-fed.ensures.took (λ n fed fits took left left' left'' taken come read.
     let come1 = subst (λ p. HasCome desk admission p (traffic_of left left' taken (g.W.Sink.taken c.args.writer.now))) (sym c.self.view_is) come in
     let so_far = here desk admission _ _ c.meet.new.pass c.pass-1.given.0 left left' left'' taken (g.W.Sink.taken c.args.writer.now) (g.W.Sink.taken c.feed_line-fed.new.writer) come1 free (subst (Meets c.meet.new.pass) c.take-seen.ensures.value c.meet.ensures.met) met noted in
@@ -129,7 +129,7 @@ returns-clause-broken g c =
     let admission = c.args.admission.now in
     let told = sym c.standing-standing.ensures in
     let begun = c.begun-2-1.given.1 (sym kept.lent.begun) in
-    let free = ap (λ (p : ParkedState g.row.K.Denot). p.owed) c.self.view_is ∙ c.requires.free in
+    let free = ap (λ (p : ParkedState g.row.K.Denot). p.owed) c.self.view_is ∙ nothing_left _ c.requires.free in
     on_err c.feed_line-fed.result c.feed_line-fed.ensures.broken (λ broken left left' left'' taken come read.
     let come1 = subst (λ p. HasCome desk admission p (traffic_of left left' taken (g.W.Sink.taken c.args.writer.now))) (sym c.self.view_is) come in
     let so_far = here desk admission _ _ c.meet.new.pass c.pass-1.given.0 left left' left'' taken (g.W.Sink.taken c.args.writer.now) (g.W.Sink.taken c.feed_line-fed.new.writer) come1 free (subst (Meets c.meet.new.pass) c.take-seen.ensures.value c.meet.ensures.met) met noted in

@@ -9,7 +9,7 @@ use Rattle.session_core.specs.declared.parked.Standing.{Standing}
 use Rattle.session_core.specs.Session.{SessionState, BeginsSession, GainsOf, progress_of}
 use Rattle.session_core.specs.Parking.{ParkedState, HasCome, Meets, GainsFor, pass_note}
 use Rattle.session_core.proofs.Sessions.{line_kept, kept_same, same_pass}
-use Rattle.session_core.proofs.Resuming.{on_any, gains_for, ended_last, ended_nothing, ended_broken}
+use Rattle.session_core.proofs.Resuming.{on_any, gains_for, ended_last, ended_nothing, ended_broken, nothing_left}
 use Rattle.session_core.proofs.parked.ParkedSessionMachine.finish.Goals as goal
 
 pub returns-in_err-finished-clause-gained : goal.returns-in_err-finished-clause-gained
@@ -39,7 +39,7 @@ returns-in_err-finished-clause-broken g c =
     let told = sym c.standing-standing.ensures in
     let begun = c.begun-2-1.given.1 (sym kept.lent.begun) in
     let owed = c.owed-2-1.given.1 (sym kept.lent.owed) in
-    let free = ap (λ (p : ParkedState g.row.K.Denot). p.owed) c.self.view_is ∙ c.requires.free in
+    let free = ap (λ (p : ParkedState g.row.K.Denot). p.owed) c.self.view_is ∙ nothing_left _ c.requires.free in
     let noted : Some c.note-note.result ≡ Some (pass_note desk c.pass-1.given.0)
     = ap (λ (n : DeskNote g.row.K.Denot). Some n) (c.note-note.ensures.told ∙ (λ i. record { lock = own i; seen = (sym now i).seen; mark = (sym now i).mark })) in
     on_any c.from_residual.result (λ left left' left'' taken come read end.
@@ -84,7 +84,7 @@ returns-clause-ended g c = λ left left' left'' taken later rest come read end t
     let told = sym c.standing-standing.ensures in
     let begun = c.begun-2-1.given.1 (sym kept.lent.begun) in
     let owed = c.owed-2-1.given.1 (sym kept.lent.owed) in
-    let free = ap (λ (p : ParkedState g.row.K.Denot). p.owed) c.self.view_is ∙ c.requires.free in
+    let free = ap (λ (p : ParkedState g.row.K.Denot). p.owed) c.self.view_is ∙ nothing_left _ c.requires.free in
     let noted : Some c.note-note.result ≡ Some (pass_note desk c.pass-1.given.0)
     = ap (λ (n : DeskNote g.row.K.Denot). Some n) (c.note-note.ensures.told ∙ (λ i. record { lock = own i; seen = (sym now i).seen; mark = (sym now i).mark })) in
     let come1 = subst (λ p. HasCome desk admission p (traffic_of left left' taken (g.W.Sink.taken c.args.writer.now))) (sym c.self.view_is) come in
