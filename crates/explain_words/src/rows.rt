@@ -180,6 +180,7 @@ impl Row {
     fn write(&self, text: &mut Prose, column: usize) {
         let (left, right) = (self.left.as_slice(), self.right.as_slice());
         text.append(&self.left);
+        text.note(self.right.is_short());
         if right.is_empty() {
             return text.put(b"\n");
         }
