@@ -1,2 +1,3 @@
 pub mod SamePass
+pub mod Owed
 pub mod Pieces

@@ -1,9 +1,11 @@
 -- How a session of lines ends wherever its client stops.
-use Rattle.std.specs.Prelude.{◌≡◌, ◌⊎◌, ℕ, List, [], ◌++◌, Option, Some, None, Result, Ok, Err}
+use Rattle.std.specs.Prelude.{◌≡◌, ◌⊎◌, ℕ, List, [], ◌++◌, Option, Some, None, Result, Ok, Err, option_map}
+use Rattle.std.specs.Option.{is_some}
 use Rattle.std.specs.Io.KnownBytes.{Appends}
 use Rattle.std.specs.Str.Lines.{lines}
 use Rattle.std.proofs.Common.{refl, sym, ap, ◌∙◌, inl, inr, append_assoc, arith}
 use Rattle.std.proofs.KnownBytes.{Appends-nil, Appends-trans, Keeps-refl}
+use Rattle.std.proofs.lemmas.Bool.{false≢true}
 use Rattle.std.proofs.lemmas.List.{append_cancel_left}
 use Rattle.base_core.specs.Streams.{WritesFront}
 use Rattle.lines_core.specs.declared.serving.SessionFault.{SessionFault}
@@ -11,7 +13,8 @@ use Rattle.lines_core.specs.declared.serving.SessionFault.TheVariants as faults
 use Rattle.lines_core.specs.Lines.{whole_lines}
 use Rattle.lines_core.specs.Serving.{AnswersInput, HasServed, Ends, Traffic, traffic_of}
 use Rattle.lines_core.proofs.ServeLemmas.{BrokenRun-front, Run-whole}
-use Rattle.reply_core.specs.Pending.{TellsPending}
+use Rattle.reply_core.specs.Pending.{TellsPending, count_left}
+use Rattle.reply_core.specs.declared.pending.Pending.{Pending}
 use Rattle.reply_core.proofs.PendingLemmas.{some_pending}
 use Rattle.desk_core.specs.Guarded.{DeskLock}
 use Rattle.session_core.specs.declared.admission.Admission.{Admission}
@@ -122,6 +125,14 @@ HasCome-stops desk admission parked ending left left' taken taken' later rest co
 
 pub OwesReply-payable : {K : Type 0} (parked : ParkedState K) → (rest : List ℕ) × OwesReply parked rest
 OwesReply-payable parked = some_pending parked.owed
+
+none_counted : (pending : Option Pending) (rest : List ℕ) → option_map count_left pending ≡ None → TellsPending pending rest → rest ≡ []
+none_counted None rest none told = told
+none_counted (Some pending) rest none told = absurd (false≢true (sym (ap is_some none)))
+
+pub OwesReply-settled : {K : Type 0} (parked : ParkedState K) (rest : List ℕ)
+    → (machine_state parked).owed ≡ None → OwesReply parked rest → rest ≡ []
+OwesReply-settled parked rest none told = none_counted parked.owed rest none told
 
 pub HasCome-breaks : {K : Type 0} (desk : DeskLock K) (admission : Admission) (parked : ParkedState K)
     (left left' taken taken' : Option (List ℕ))

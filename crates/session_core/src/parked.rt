@@ -100,7 +100,7 @@ impl<'a, K: Keeper + Drop, R: Wait, G: Witness> Session<'a, K, R, G> {
 impl<K: Keeper + Drop> SessionMachine<K> for Parked<K> {
     ghost use Rattle.session_core.specs.LoggedIn.{HasComeAs};
     ghost use Rattle.session_core.specs.Parking.{HasCome, HasEnded, OwesReply, SpeaksLines, machine_state};
-    ghost use Rattle.session_core.specs.Stopping.{HasCome-stops, HasCome-breaks, HasCome-unseen, HasEnded-unseen, HasEnded-spoken, OwesReply-payable};
+    ghost use Rattle.session_core.specs.Stopping.{HasCome-stops, HasCome-breaks, HasCome-unseen, HasEnded-unseen, HasEnded-spoken, OwesReply-payable, OwesReply-settled};
     ghost use Rattle.session_core.specs.Showing.{SpeaksLines-rightful};
 
     ghost protocol = { SpeaksLines };
@@ -269,6 +269,8 @@ impl<K: Keeper + Drop> SessionMachine<K> for Parked<K> {
     ghost stops = { HasCome-stops };
 
     ghost payable = { OwesReply-payable };
+
+    ghost settled = { OwesReply-settled };
 
     ghost breaks = { HasCome-breaks };
 

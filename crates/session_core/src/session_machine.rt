@@ -1,7 +1,8 @@
 //! A session of any protocol between two pieces of what its client sends.
-ghost use Rattle.std.specs.Prelude.{◌≡◌, ◌≤◌, ◌+◌, ◌<◌, Some, None, Ok, Err, false, true, [], length, take, Option, List, ℕ, Result, IfOk, IfSome, OnOk, OnErr, MatchResult, option_copied};
+ghost use Rattle.std.specs.Prelude.{◌≡◌, ◌≤◌, ◌+◌, ◌++◌, ◌<◌, Some, None, Ok, Err, false, true, [], length, take, Option, List, ℕ, Result, IfOk, IfSome, OnOk, OnErr, MatchResult, option_copied};
 ghost use Rattle.std.specs.Option.{is_some};
 ghost use Rattle.std.specs.Io.KnownBytes.{Appends, Consumes, IsAtEnd};
+ghost use Rattle.base_core.specs.Streams.{Writes, WritesFrontOf};
 ghost use Rattle.base_core.specs.declared.name.User.{User};
 ghost use Rattle.lines_core.specs.declared.serving.SessionFault.{SessionFault};
 ghost use Rattle.lines_core.specs.declared.serving.SessionFault.TheVariants as faults;
@@ -110,7 +111,8 @@ pub trait SessionMachine<K: Keeper + Drop>: Drop {
             → ended desk.now admission.now self.new (Err faults.Write)
             (traffic_of left left'' taken (W.taken writer.new))) };
 
-    /// Writes some more of what is owed. `Broken` where the writer failed.
+    /// Writes some more of what is owed: with what is owed then, that is what was owed before. `Broken`
+    /// where the writer failed, and then a front of that was written.
     fn go_on<W: Sink, G: Gate>(
         &mut self,
         scratch: &mut Scratch,
@@ -122,6 +124,11 @@ pub trait SessionMachine<K: Keeper + Drop>: Drop {
             (λ _. W.failed writer.new ≡ true) }
         ensures kept { state self.new ≡ record (state self.old) { owed = (state self.new).owed } }
         ensures progress { OnOk result (OwesLess (state self.old).owed (state self.new).owed) }
+        ensures wrote { OnOk result (Writes
+            (λ text. (rest : List ℕ) → owes self.new rest → owes self.old (text ++ rest))
+            (W.taken writer.old) (W.taken writer.new)) }
+        ensures front { OnErr result (WritesFrontOf (owes self.old)
+            (W.taken writer.old) (W.taken writer.new)) }
         ensures went_on { OnOk result ((desk : DeskLock K) (admission : Admission)
             (left left' taken : Option (List ℕ))
             → come desk admission self.old (traffic_of left left' taken (W.taken writer.old))
@@ -190,6 +197,11 @@ pub trait SessionMachine<K: Keeper + Drop>: Drop {
         → ended desk admission session ending (traffic_of left left' taken later) };
     // Something may be written of what it owes, and be it nothing.
     ghost payable: { (session : Self) → (rest : List ℕ) × owes session rest };
+    // Where nothing is counted as owed, that is nothing.
+    ghost settled: { (session : Self) (rest : List ℕ)
+        → (state session).owed ≡ None
+        → owes session rest
+        → rest ≡ [] };
     // Where its client takes no more, what was written is a front of the answers.
     ghost breaks: { (desk : DeskLock K) (admission : Admission) (session : Self)
         (left left' taken taken' : Option (List ℕ))
