@@ -7,16 +7,24 @@ use std::alloc::Global;
 use std::process::Abort;
 use system_core::{Event, Reply, System};
 
-/// An event in text: a step of the checkpointer, to give up, or what a user says.
+/// An event in text: a step of the checkpointer, to give up, what a user says, or behind `describe` what
+/// he has described.
 fn event(rt: &impl Abort, alloc: Global, line: &str) -> Event {
     match line {
         "step" => return Event::Step,
         "abandon" => return Event::Abandon,
         _ => {}
     }
+    let (line, described) = match line.strip_prefix("describe ") {
+        Some(line) => (line, true),
+        None => (line, false),
+    };
     let (user, statement) = line.split_once(": ").expect(rt, "a user");
     let user = User(Name::read(user.as_bytes()).expect(rt, "a name"));
     let statement = read(alloc, statement.as_bytes()).expect(rt, "a statement");
+    if described {
+        return Event::Describe { user, statement };
+    }
     Event::Say {
         pass: 0,
         user,
@@ -55,12 +63,28 @@ pub fn replies(rt: &impl Abort, alloc: Global, system: &mut System, session: &st
     replies
 }
 
+/// The text of a reply. A description has none that is written: it is told by the names of its columns.
+fn text_of(rt: &impl Abort, alloc: Global, reply: &Reply) -> Vec<u8> {
+    let Reply::Described { columns, .. } = reply else {
+        return reply_text(alloc, reply).expect(rt, "memory");
+    };
+    let mut text = Vec::new(alloc);
+    text.extend_from_slice(b"described").expect(rt, "memory");
+    for column in columns.as_slice() {
+        text.push(b' ').expect(rt, "memory");
+        text.extend_from_slice(column.name.as_bytes())
+            .expect(rt, "memory");
+    }
+    text.push(b'\n').expect(rt, "memory");
+    text
+}
+
 /// The core answers to a session what stands in it.
 fn answers(rt: &impl Abort, alloc: Global, system: &mut System, session: &str) {
     let replies = replies(rt, alloc, system, session);
     let mut said = Vec::new(alloc);
     for reply in &replies {
-        let text = reply_text(alloc, reply).expect(rt, "memory");
+        let text = text_of(rt, alloc, reply);
         said.extend_from_slice(&text).expect(rt, "memory");
     }
     drop(replies);
@@ -227,4 +251,58 @@ fn parting(rt: HostRuntime) {
     let nothing = parts(&rt, rt.alloc(), &mut system, "o: CHECKPOINTS");
     system.free();
     assert!(rt; given_up == (false, true) && nothing == (false, false));
+}
+
+/// All columns of a table are told, whichever a query lists and whatever values are said. Who would be
+/// denied the statement is denied its description. What is full or busy hinders none, and nothing is done.
+const DESCRIBED: &str = "\
+o: CREATE TABLE t (n TEXT, x INTEGER)
+    done @1
+o: GRANT SELECT (x) ON t TO a
+    done @2
+describe o: SELECT * FROM t
+    described n x
+describe a: SELECT x FROM t WHERE x = 'a'
+    described n x
+describe a: SELECT * FROM t
+    denied @2: a lacks SELECT(n) on t
+describe b: SELECT x FROM t
+    denied @2: b lacks SELECT(x) on t
+describe o: INSERT INTO t VALUES (1)
+    described n x
+describe o: UPDATE t SET x = 'a'
+    described n x
+describe o: DELETE FROM s
+    denied @2: no table s
+describe o: CREATE TABLE t (y INTEGER)
+    denied @2: table t exists
+describe o: CREATE TABLE s (y INTEGER)
+    described
+o: CHECKPOINT
+    checkpoint 1 begun @2
+describe o: CHECKPOINT
+    described
+describe o: EXPORT 1
+    denied @2: no checkpoint 1
+step
+describe a: EXPORT 1 ONLY t
+    described
+describe b: EXPORT 1 ONLY t
+    denied @2: b lacked SELECT on t
+o: CHECKPOINTS
+    checkpoints 1 @2
+    finished,1,2
+o: SELECT * FROM t
+    rows 0 @2
+";
+
+#[test]
+fn described(rt: HostRuntime) {
+    let limits = Limits {
+        changes: 2,
+        tables: 1,
+        grants: 1,
+        checkpoints: 1,
+    };
+    play(&rt, rt.alloc(), limits, DESCRIBED);
 }

@@ -40,6 +40,24 @@ fn say(rt: &impl Abort, alloc: Global, reply: &Reply, said: &mut Vec<u8>) {
     said.extend_from_slice(&text).expect(rt, "memory");
 }
 
+/// The desk describes what ann would say through this pass, and does not carry it out.
+fn describe<R: Wait + Abort>(
+    rt: &R,
+    alloc: Global,
+    desk: &Desk<NoKeeper>,
+    pass: &mut Pass<NoKeeper>,
+    statement: &str,
+)
+    requires { pass.old.lock ≡ Some desk.now }
+    ensures { pass.new.lock ≡ pass.old.lock }
+{
+    let ann = User(Name::read(b"ann").expect(rt, "a name"));
+    let statement = read(alloc, statement.as_bytes()).expect(rt, "a statement");
+    let reply = desk.describe(rt, pass, ann, statement);
+    assert!(rt; matches!(&reply, Reply::Described { .. }));
+    drop(reply);
+}
+
 /// The second pass meets what the first has seen, and then both go on.
 fn share<R: Wait + Abort>(
     rt: &R,
@@ -58,6 +76,7 @@ fn share<R: Wait + Abort>(
     ask(rt, alloc, desk, first, "INSERT INTO t VALUES (7)", said);
     let note = desk.note(first);
     desk.meet(second, note);
+    describe(rt, alloc, desk, second, "INSERT INTO t VALUES (8)");
     ask(rt, alloc, desk, second, "SELECT * FROM t", said);
     ask(rt, alloc, desk, first, "CHECKPOINT", said);
     let abandoned = desk.abandon_turn(rt, first);

@@ -5,9 +5,13 @@
 #![tactic(auto)]
 
 #[cfg(test)]
+mod answers;
+#[cfg(test)]
 mod calls;
 #[cfg(test)]
 mod command_lines;
+#[cfg(test)]
+mod commands;
 #[cfg(test)]
 mod desk;
 #[cfg(test)]
@@ -22,6 +26,10 @@ mod lines;
 mod locks;
 #[cfg(test)]
 mod logins;
+#[cfg(test)]
+mod messages;
+#[cfg(test)]
+mod parameters;
 #[cfg(test)]
 mod pieces;
 #[cfg(test)]

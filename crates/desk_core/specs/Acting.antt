@@ -19,6 +19,7 @@ use Rattle.desk_core.specs.Kept.{HasKept}
 -- what is asked through a pass, as an event
 abbrev pub event_of : ℕ → Ask → Event
 event_of pass (asks.Say said) = events.Say pass said.user said.statement
+event_of pass (asks.Describe said) = events.Describe said.user said.statement
 event_of pass asks.Step = events.Step
 event_of pass asks.Abandon = events.Abandon
 
@@ -53,6 +54,16 @@ module _ {K : Type 0} (rules : Ghosts K) where
         adds =
             one_at_most pass said.user said.statement answer.reply old.world.journal
             new.world.journal m.journal;
+        rises = m.begun;
+        stays = (λ i. snapshot (record (h.origin i) { chunk = m.chunk i; limits = m.limits i }));
+      }
+  acts_grow old pass (asks.Describe said) answer new h =
+      let m =
+      step_enters old.world new.world (events.Describe said.user said.statement) answer.reply
+      h.steps.step
+      in
+      record {
+        adds = inl (m.journal ∙ append-nil old.world.journal);
         rises = m.begun;
         stays = (λ i. snapshot (record (h.origin i) { chunk = m.chunk i; limits = m.limits i }));
       }

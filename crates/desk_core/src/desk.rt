@@ -139,6 +139,30 @@ impl<K: Keeper + Drop> Desk<K> {
         self.turn(rt, pass, Ask::Say(Said::new(user, statement)))
     }
 
+    /// Describes a statement, which some line spells, in a turn of the pass: the columns that its answer
+    /// would have, or its denial. The statement is not carried out. `Worn` as in `execute`.
+    pub fn describe<R: Wait>(
+        &self,
+        rt: &R,
+        pass: &mut Pass<K>,
+        user: User,
+        statement: Statement,
+    ) -> Reply
+        requires pass { pass.old.lock ≡ Some self.now }
+        requires spelled { (line : List ℕ) × Spells line statement }
+        ensures same { IsSamePass pass.old pass.new }
+        ensures answered { Answered self.now
+            (asks.Describe (record { user = user; statement = statement })) result
+            pass.old pass.new }
+        ensures kept { pass.old.turns < pass.new.turns
+            → IsKept K.Keeper (origin_of self.now) result pass.new.seen }
+    {
+        match self.turn(rt, pass, Ask::Describe(Said::new(user, statement))) {
+            Ok(reply) => reply,
+            Err(Unkept) => unreachable!(),
+        }
+    }
+
     /// One step of the checkpointer, in a turn of the pass. `Worn` as in `execute`.
     pub fn checkpoint_turn<R: Wait>(&self, rt: &R, pass: &mut Pass<K>) -> Reply
         requires { pass.old.lock ≡ Some self.now }

@@ -7,10 +7,10 @@
 //! journal that he has seen, and how many checkpoints he knows to be begun. At first that is the
 //! journal of the core. What he made are the entries there that bear his number.
 //!
-//! **The one contract.** [`Desk::execute`] is one step of the core, in a turn of its own, and so
-//! are [`Desk::checkpoint_turn`] and [`Desk::abandon_turn`]. There was a lawful world that has all
-//! that the pass had seen; the reply is that of a step from there; the pass has then seen the world
-//! after it, and has made the entry of a change that was done, and nothing else. A
+//! **The one contract.** [`Desk::execute`] is one step of the core, in a turn of its own, and so are
+//! [`Desk::describe`], [`Desk::checkpoint_turn`] and [`Desk::abandon_turn`]. There was a lawful world
+//! that has all that the pass had seen; the reply is that of a step from there; the pass has then seen
+//! the world after it, and has made the entry of a change that was done, and nothing else. A
 //! [`note`](Desk::note) carries what one pass has seen to another, which [`meet`](Desk::meet)s it.
 //! [`Desk::close`] gives the core, with all passes and only with them: it stands for a lawful world
 //! whose journal begins with what each pass has seen, and has just the entries that they made. So

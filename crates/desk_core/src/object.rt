@@ -48,6 +48,8 @@ impl Said {
 #[derive(Drop)]
 pub enum Ask {
     Say(Said),
+    /// To describe what is said, and not to do it.
+    Describe(Said),
     /// A step of the checkpointer.
     Step,
     /// To give up the active checkpoint.
@@ -68,6 +70,10 @@ impl Ask {
                     user,
                     statement,
                 }
+            }
+            Ask::Describe(said) => {
+                let Said { user, statement } = said;
+                Event::Describe { user, statement }
             }
             Ask::Step => Event::Step,
             Ask::Abandon => Event::Abandon,

@@ -1,5 +1,5 @@
 -- What a step enters, and what becomes of the keeper.
-use Rattle.std.proofs.Common.{◌≡◌, ℕ, Bool, true, false, List, [], ◌∷◌, ◌++◌, length, Ok, Err, Option, Some, None, refl, sym, ap, ◌∙◌, subst, append-nil, arith, if◌then◌else◌}
+use Rattle.std.proofs.Common.{◌≡◌, ℕ, Bool, true, false, List, [], ◌∷◌, ◌++◌, length, Ok, Err, Option, Some, None, inl, inr, refl, sym, ap, ◌∙◌, subst, append-nil, arith, if◌then◌else◌}
 use Rattle.std.specs.Prelude.{Result, OnOk, OnErr, MatchResult}
 use Rattle.std.specs.Result.{is_ok}
 use Rattle.std.proofs.lemmas.Bool.{false≢true}
@@ -20,6 +20,7 @@ use Rattle.system_core.specs.declared.machine.event.Reply.{Reply}
 use Rattle.system_core.specs.declared.machine.event.Reply.TheVariants as replies
 use Rattle.system_core.specs.Entering.{entered}
 use Rattle.system_core.specs.Replies.{is_done}
+use Rattle.system_core.specs.Describing.{denial_in, denial_reply, Describes}
 use Rattle.system_core.specs.Step.{Step, Responds, Advances, GivesUp, CarriesOut, TakesMemory, change_reply}
 use Rattle.system_core.specs.Journal.{verdict_at}
 use Rattle.system_core.specs.Judging.{checkpoint_checks, verdict_of, judged_at}
@@ -29,6 +30,11 @@ use Rattle.system_core.proofs.Entered.{step_enters}
 use Rattle.journal_core.specs.declared.keeper.Keeper.{Ghosts}
 use Rattle.journal_core.specs.Keeping.{KeepsAll, KeepsOrOwes, all, but_last}
 use Rattle.journal_core.specs.Recorder.{IsSpelledEvent, event_of_entry, says_change, Settles, OwesStill, KeepsNext, kept, owed, KeepsEntered, next, settled, unasked, unsettled, StepsKept, with_keeper}
+
+no_done_told : (w : World) (asked : Statement) (denial : Option Lack) (at : Moment) → Describes w asked denial (replies.Done at) → ⊥
+no_done_told w asked (Some lack) at h = let is : replies.Done at ≡ denial_reply w asked lack = h in cc
+no_done_told w asked None at (inl h) = cc
+no_done_told w asked None at (inr h) = cc
 
 no_done_step : (old new : World) (active : Option ActiveCheckpoint) (at : Moment) → Advances old active (replies.Done at) new → ⊥
 no_done_step old new None at h = let is = h.0 in cc
@@ -41,12 +47,14 @@ no_done_end old new (Some a) at h = let is = h.0 in cc
 -- a step that was done enters one entry
 pub done_enters : (old new : World) (event : Event) (reply : Reply) → is_done reply ≡ true → Step old event reply new → (e : Entry) × (entered event reply ≡ e ∷ []) × (new.journal ≡ old.journal ++ e ∷ [])
 done_enters old new (events.Say pass user asked) (replies.Done at) d step = (entry pass user asked, refl, (step_enters old new (events.Say pass user asked) (replies.Done at) step).journal)
+done_enters old new (events.Describe user asked) (replies.Done at) d step = absurd (no_done_told old asked (denial_in (verdict_of old user asked)) at step.0)
 done_enters old new events.Step (replies.Done at) d step = absurd (no_done_step old new old.active at step)
 done_enters old new events.Abandon (replies.Done at) d step = absurd (no_done_end old new old.active at step)
 done_enters old new event _ d step = absurd (false≢true d)
 
 -- and any other enters nothing
 pub not_done : (event : Event) (reply : Reply) → is_done reply ≡ false → entered event reply ≡ []
+not_done (events.Describe user asked) reply d = refl
 not_done events.Step reply d = refl
 not_done events.Abandon reply d = refl
 not_done (events.Say pass user asked) (replies.Done at) d = absurd (false≢true (sym d))
@@ -76,6 +84,7 @@ unchanged-entered old new e _ denied step = refl
 -- what was done is a change
 pub done_is_change : (old new : World) (event : Event) (reply : Reply) → is_done reply ≡ true → Step old event reply new → says_change event ≡ true
 done_is_change old new (events.Say pass user asked) (replies.Done at) d step = (done_responds old new (entry pass user asked) at (verdict_of old user asked) step).1
+done_is_change old new (events.Describe user asked) (replies.Done at) d step = absurd (no_done_told old asked (denial_in (verdict_of old user asked)) at step.0)
 done_is_change old new events.Step (replies.Done at) d step = absurd (no_done_step old new old.active at step)
 done_is_change old new events.Abandon (replies.Done at) d step = absurd (no_done_end old new old.active at step)
 done_is_change old new event _ d step = absurd (false≢true d)
@@ -98,6 +107,7 @@ first_or e (x ∷ xs) = x
 pub entered_spelled : (event : Event) (reply : Reply) (e : Entry) → is_done reply ≡ true → IsSpelledEvent event → entered event reply ≡ e ∷ [] → (line : List ℕ) × Spells line e.statement
 unfolding first_or
 entered_spelled (events.Say pass user asked) (replies.Done at) e d s is = (s.0, subst (λ (x : Entry). Spells s.0 x.statement) (ap (first_or e) is) s.1)
+entered_spelled (events.Describe user asked) reply e d s is = absurd (let long : length (entered (events.Describe user asked) reply) ≡ 1 = ap length is in omega arith)
 entered_spelled events.Step reply e d s is = absurd (let long : length (entered events.Step reply) ≡ 1 = ap length is in omega arith)
 entered_spelled events.Abandon reply e d s is = absurd (let long : length (entered events.Abandon reply) ≡ 1 = ap length is in omega arith)
 entered_spelled (events.Say pass user asked) _ e d s is = absurd (false≢true d)

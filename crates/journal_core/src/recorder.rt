@@ -130,6 +130,10 @@ fn act_owing<K: Keeper>(system: &mut System, keeper: &mut K, event: Event) -> Ac
             reply: system.step(Event::Abandon),
             told: true,
         },
+        Event::Describe { user, statement } => Acted {
+            reply: system.step(Event::Describe { user, statement }),
+            told: true,
+        },
     }
 }
 

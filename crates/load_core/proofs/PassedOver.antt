@@ -43,6 +43,7 @@ done_or_refused w new e (replies.Begun number at) change h undone = absurd (not_
 done_or_refused w new e (replies.Export ticket) change h undone = absurd (no_export w e.user e.statement ticket change h.0)
 done_or_refused w new e (replies.Refused at lack) change h undone = ap is_memory h.1
 done_or_refused w new e (replies.Denied at lack) change h undone = absurd h
+done_or_refused w new e (replies.Described at columns) change h undone = absurd h
 done_or_refused w new e replies.Idle change h undone = absurd h
 done_or_refused w new e (replies.Stepped number left) change h undone = absurd h
 done_or_refused w new e (replies.Finished number) change h undone = absurd h

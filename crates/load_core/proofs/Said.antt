@@ -78,6 +78,7 @@ module _ (line : List ℕ) (user : User) (asked : Statement) (a : Asks MAX_LINE 
   enters_said (replies.Export ticket) = tt
   enters_said (replies.Refused at lack) = tt
   enters_said (replies.Denied at lack) = tt
+  enters_said (replies.Described at columns) = tt
   enters_said replies.Idle = tt
   enters_said (replies.Stepped number left) = tt
   enters_said (replies.Finished number) = tt

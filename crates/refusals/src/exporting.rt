@@ -152,6 +152,7 @@ pub fn export(rt: &HostRuntime, alloc: Global) -> Option<()> {
 
 fn tell_columns(rt: &HostRuntime, alloc: Global, system: &mut System) -> Option<()> {
     fill_and_grant(rt, alloc, system, 2)?;
+    say(rt, alloc, system, "describe bob: SELECT w FROM t")?;
     checkpoint(rt, alloc, system)?;
     let mut ticket = ticket(rt, alloc, system, "bob: EXPORT 1")?;
     let told = tell_records(rt, &mut ticket, 5);

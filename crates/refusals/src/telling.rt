@@ -23,14 +23,22 @@ pub fn named(name: &str) -> Option<Name> {
     Name::read(name.as_bytes())
 }
 
-/// A step of the checkpointer, or what a user says: ann, where none is named.
+/// A step of the checkpointer, or what a user says: ann, where none is named. Behind `describe` it is only
+/// described.
 pub fn event(alloc: Global, line: &str) -> Option<Event> {
     if line == "step" {
         return Some(Event::Step);
     }
+    let (line, described) = match line.strip_prefix("describe ") {
+        Some(line) => (line, true),
+        None => (line, false),
+    };
     let (user, statement) = line.split_once(": ").unwrap_or(("ann", line));
     let user = User(named(user)?);
     let statement = read(alloc, statement.as_bytes()).ok()?;
+    if described {
+        return Some(Event::Describe { user, statement });
+    }
     Some(Event::Say {
         pass: 0,
         user,

@@ -102,7 +102,8 @@ list_line word count at =
 abbrev pub value_text : Value → List ℕ
 value_text value = comma ∷ field_text (value_field value)
 
--- what is written of a reply, and of an export before its records
+-- what is written of a reply, and of an export before its records; nothing of a description, for which
+-- no line asks
 abbrev pub reply_text : Reply → List ℕ
 reply_text (replies.Done at) = joined (codes "done @" ∷ decimal at.0 ∷ codes "\n" ∷ [])
 reply_text (replies.Rows at rows) =
@@ -115,6 +116,7 @@ reply_text (replies.Begun number at) =
     joined (codes "checkpoint " ∷ decimal number ∷ codes " begun @" ∷ decimal at.0 ∷ codes "\n"
     ∷ [])
 reply_text (replies.Export ticket) = header_line ticket
+reply_text (replies.Described at columns) = []
 reply_text (replies.Abandoned number) =
     joined (codes "checkpoint " ∷ decimal number ∷ codes " abandoned\n" ∷ [])
 reply_text replies.Idle = []

@@ -11,21 +11,22 @@ use std::marker::Model;
 /// that names two users, a column and a table of 30 bytes each, at a moment of 20 digits.
 pub const REPLY_BYTES: usize = 191;
 
-/// Room for a text. Contracts see its bytes.
+/// Room for a text of at most 191 bytes. Contracts see its bytes.
 #[derive(Drop)]
 pub struct ReplyBuffer {
     bytes: Vec<u8>,
 }
 
 impl Model for ReplyBuffer {
-    ghost use Rattle.std.specs.Prelude.{◌≤◌, List, ℕ, vec_capacity};
+    ghost use Rattle.std.specs.Prelude.{◌≤◌, List, ℕ, length, vec_capacity};
     ghost use Rattle.reply_core.specs.declared.buffer.TheConstants.{REPLY_BYTES};
 
     ghost Value = { List ℕ };
 
     ghost view = { λ b. b.bytes.items };
 
-    ghost invariant = { λ b. REPLY_BYTES ≤ vec_capacity b.bytes };
+    ghost invariant = { λ b. (REPLY_BYTES ≤ vec_capacity b.bytes)
+        × (length b.bytes.items ≤ REPLY_BYTES) };
 }
 
 impl ReplyBuffer {
@@ -39,20 +40,22 @@ impl ReplyBuffer {
     }
 
     /// Takes the text away, and keeps the memory.
-    pub(crate) fn clear(&mut self)
+    pub fn clear(&mut self)
         ensures { self.new ≡ [] }
     {
         self.bytes.clear();
     }
 
-    pub(crate) fn as_slice(&self) -> &[u8]
-        ensures { result.now ≡ self.now }
+    /// The text.
+    pub fn as_slice(&self) -> &[u8]
+        ensures text { result.now ≡ self.now }
+        ensures short { length result.now ≤ REPLY_BYTES }
     {
         self.bytes.as_slice()
     }
 
     /// Appends the bytes, for which there has to be room. It takes no memory.
-    pub(crate) fn push(&mut self, part: &[u8])
+    pub fn push(&mut self, part: &[u8])
         requires { length self.old + length part.now ≤ REPLY_BYTES }
         ensures text { self.new ≡ self.old ++ part.now }
         ensures length { length self.new ≡ length self.old + length part.now }
@@ -71,7 +74,7 @@ impl ReplyBuffer {
 
     /// Appends a number in plain decimal, of at most 20 digits.
     #[inline(always)]
-    pub(crate) fn push_number(&mut self, number: u64)
+    pub fn push_number(&mut self, number: u64)
         requires { length self.old + 20 ≤ REPLY_BYTES }
         ensures text { self.new ≡ self.old ++ decimal number }
         ensures short { length self.new ≤ length self.old + 20 }

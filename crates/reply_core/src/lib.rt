@@ -22,7 +22,8 @@
 //! Lines are made in a [`ReplyBuffer`], which is made once, with room for every line but those of
 //! rows and of an export's records; rows are written straight from the values that they share with
 //! the table. So every reply is told whatever memory there is, however many its rows, and only an
-//! export may be cut.
+//! export may be cut. Who tells a line in another protocol makes it there by [`push_head`] and
+//! [`push_fault`], which write nothing.
 //!
 //! A reply costs the bytes of its text, and those of an export's records. A text of a row that has
 //! a quote costs a write for each.
@@ -38,4 +39,5 @@ mod writing;
 pub use buffer::ReplyBuffer;
 pub use gathered::{Gathered, reply_text};
 pub use pending::{Pending, begin_reply, write_rest};
+pub use wording::{push_fault, push_head};
 pub use writing::{write_done, write_fault, write_reply, write_unread};

@@ -189,6 +189,11 @@ pub fn begin_reply<W: Sink>(
         Reply::Rows { rows, .. } => go_on_rows(rows, 0, writer),
         Reply::Listed { entries, .. } => go_on_listed(buffer, entries, 0, writer),
         Reply::Export(ticket) => Ok(Some(Pending::Export(ticket))),
+        // An arm of its own, since the last one may have nothing to drop.
+        Reply::Described { columns, .. } => {
+            drop(columns);
+            Ok(None)
+        }
         _ => Ok(None),
     }
 }

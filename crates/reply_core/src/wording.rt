@@ -268,7 +268,8 @@ fn push_list(text: &mut ReplyBuffer, word: &[u8], count: usize, at: Moment)
 /// Appends the first line of a reply, which is all of it but for the records of a list and of an
 /// export: `done @m`; `rows N @m` or `checkpoints N @m`, with how many records come;
 /// `checkpoint n begun @m` or `checkpoint n abandoned`; `export n point p @m`; `denied @m:` or
-/// `refused @m:` and what is missing; nothing for the other replies of the checkpointer.
+/// `refused @m:` and what is missing; nothing for the other replies of the checkpointer, nor for a
+/// description.
 pub fn push_head(text: &mut ReplyBuffer, reply: &Reply)
     requires { text.old ≡ [] }
     ensures { text.new ≡ head_text reply.now }
@@ -284,7 +285,7 @@ pub fn push_head(text: &mut ReplyBuffer, reply: &Reply)
         Reply::Abandoned { number } => {
             push_number_in(text, b"checkpoint ", *number, b" abandoned\n")
         }
-        Reply::Idle | Reply::Stepped { .. } | Reply::Finished { .. } => {}
+        Reply::Idle | Reply::Stepped { .. } | Reply::Finished { .. } | Reply::Described { .. } => {}
     }
 }
 

@@ -108,6 +108,7 @@ reply_whole (replies.Listed at entries) = both_whole _ (flat_map checkpoint_line
 reply_whole (replies.Begun number at) = inr (behind (codes "checkpoint ") _ (behind (decimal number) _ (behind (codes " begun @") _ (behind (decimal at.0) _ newline))))
 reply_whole (replies.Export ticket) = inr (header_ended ticket)
 reply_whole (replies.Abandoned number) = inr (behind (codes "checkpoint ") _ (behind (decimal number) _ (codes " abandoned", refl)))
+reply_whole (replies.Described at columns) = inl refl
 reply_whole replies.Idle = inl refl
 reply_whole (replies.Stepped number left) = inl refl
 reply_whole (replies.Finished number) = inl refl

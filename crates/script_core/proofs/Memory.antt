@@ -71,6 +71,7 @@ reply_told (replies.Rows at rows) text ended (records, none, e) = inl (refl, e �
 reply_told (replies.Listed at entries) text ended (records, none, e) = inl (refl, e ∙ ap (λ z. reply_text (replies.Listed at entries) ++ z) none)
 reply_told (replies.Begun number at) text ended (records, none, e) = inl (refl, e ∙ ap (λ z. reply_text (replies.Begun number at) ++ z) none)
 reply_told (replies.Denied at lack) text ended (records, none, e) = inl (refl, e ∙ ap (λ z. reply_text (replies.Denied at lack) ++ z) none)
+reply_told (replies.Described at columns) text ended (records, none, e) = inl (refl, e ∙ ap (λ z. reply_text (replies.Described at columns) ++ z) none)
 reply_told replies.Idle text ended (records, none, e) = inl (refl, e ∙ ap (λ z. reply_text replies.Idle ++ z) none)
 reply_told (replies.Stepped number left) text ended (records, none, e) = inl (refl, e ∙ ap (λ z. reply_text (replies.Stepped number left) ++ z) none)
 reply_told (replies.Finished number) text ended (records, none, e) = inl (refl, e ∙ ap (λ z. reply_text (replies.Finished number) ++ z) none)
@@ -109,6 +110,7 @@ refused_stays old mid (Some active) (replies.Listed at entries) a r = absurd a
 refused_stays old mid (Some active) (replies.Begun number at) a r = absurd a
 refused_stays old mid (Some active) (replies.Export ticket) a r = absurd a
 refused_stays old mid (Some active) (replies.Denied at lack) a r = absurd a
+refused_stays old mid (Some active) (replies.Described at columns) a r = absurd a
 refused_stays old mid (Some active) replies.Idle a r = absurd a
 refused_stays old mid (Some active) (replies.Abandoned number) a r = absurd a
 

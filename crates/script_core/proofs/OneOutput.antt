@@ -76,6 +76,7 @@ carried old new e (replies.Export ticket) h w = let d = export-outcome old e e.s
 carried old new e (replies.Refused at lack) h w =
     let told : tells_want (replies.Refused at lack) ≡ true = ap (λ l. tells_want (replies.Refused at l)) h.1 in cc
 carried old new e (replies.Denied at lack) h w = absurd h
+carried old new e (replies.Described at columns) h w = absurd h
 carried old new e replies.Idle h w = absurd h
 carried old new e (replies.Stepped number left) h w = absurd h
 carried old new e (replies.Finished number) h w = absurd h
@@ -100,6 +101,7 @@ advanced old new a (replies.Listed at entries) h w = absurd h
 advanced old new a (replies.Begun number at) h w = absurd h
 advanced old new a (replies.Export ticket) h w = absurd h
 advanced old new a (replies.Denied at lack) h w = absurd h
+advanced old new a (replies.Described at columns) h w = absurd h
 advanced old new a replies.Idle h w = absurd h
 advanced old new a (replies.Abandoned number) h w = absurd h
 
@@ -153,6 +155,7 @@ all_records (replies.Listed at entries) = refl
 all_records (replies.Begun number at) = refl
 all_records (replies.Denied at lack) = refl
 all_records (replies.Refused at lack) = refl
+all_records (replies.Described at columns) = refl
 all_records replies.Idle = refl
 all_records (replies.Stepped number left) = refl
 all_records (replies.Finished number) = refl

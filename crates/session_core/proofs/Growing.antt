@@ -47,6 +47,7 @@ entered_bears pass user asked (replies.Begun number at) = All-nil (λ (e : Entry
 entered_bears pass user asked (replies.Export ticket) = All-nil (λ (e : Entry). e.user ≡ user)
 entered_bears pass user asked (replies.Refused at lack) = All-nil (λ (e : Entry). e.user ≡ user)
 entered_bears pass user asked (replies.Denied at lack) = All-nil (λ (e : Entry). e.user ≡ user)
+entered_bears pass user asked (replies.Described at columns) = All-nil (λ (e : Entry). e.user ≡ user)
 entered_bears pass user asked replies.Idle = All-nil (λ (e : Entry). e.user ≡ user)
 entered_bears pass user asked (replies.Stepped number left) = All-nil (λ (e : Entry). e.user ≡ user)
 entered_bears pass user asked (replies.Finished number) = All-nil (λ (e : Entry). e.user ≡ user)

@@ -35,6 +35,7 @@ carried_enters old new pass user asked (replies.Listed at entries) h = still old
 carried_enters old new pass user asked (replies.Begun number at) h = checked old (with_begun old) new h.3 refl (omega arith) refl refl
 carried_enters old new pass user asked (replies.Export ticket) h = still old new h.1
 carried_enters old new pass user asked (replies.Refused at lack) h = still old new h.3
+carried_enters old new pass user asked (replies.Described at columns) h = absurd h
 carried_enters old new pass user asked (replies.Denied at lack) h = absurd h
 carried_enters old new pass user asked replies.Idle h = absurd h
 carried_enters old new pass user asked (replies.Stepped number left) h = absurd h
@@ -55,6 +56,7 @@ advanced_enters old new (Some a) (replies.Rows at rows) h = absurd h
 advanced_enters old new (Some a) (replies.Listed at entries) h = absurd h
 advanced_enters old new (Some a) (replies.Begun number at) h = absurd h
 advanced_enters old new (Some a) (replies.Export ticket) h = absurd h
+advanced_enters old new (Some a) (replies.Described at columns) h = absurd h
 advanced_enters old new (Some a) (replies.Denied at lack) h = absurd h
 advanced_enters old new (Some a) replies.Idle h = absurd h
 advanced_enters old new (Some a) (replies.Abandoned number) h = absurd h
@@ -66,6 +68,7 @@ given_up_enters old new (Some a) reply h = checked old (with_none_active old) ne
 -- a step enters a statement that was done, and else nothing
 pub step_enters : (old new : World) (event : Event) (reply : Reply) → Step old event reply new → Enters (entered event reply) old new
 step_enters old new (events.Say pass user asked) reply h = responded_enters old new pass user asked (verdict_of old user asked) reply h
+step_enters old new (events.Describe user asked) reply h = still old new h.1
 step_enters old new events.Step reply h = advanced_enters old new old.active reply h
 step_enters old new events.Abandon reply h = given_up_enters old new old.active reply h
 
@@ -78,6 +81,7 @@ one_at_most pass user asked (replies.Listed at entries) old new e = inl (e ∙ a
 one_at_most pass user asked (replies.Begun number at) old new e = inl (e ∙ append-nil old)
 one_at_most pass user asked (replies.Export ticket) old new e = inl (e ∙ append-nil old)
 one_at_most pass user asked (replies.Refused at lack) old new e = inl (e ∙ append-nil old)
+one_at_most pass user asked (replies.Described at columns) old new e = inl (e ∙ append-nil old)
 one_at_most pass user asked (replies.Denied at lack) old new e = inl (e ∙ append-nil old)
 one_at_most pass user asked replies.Idle old new e = inl (e ∙ append-nil old)
 one_at_most pass user asked (replies.Stepped number left) old new e = inl (e ∙ append-nil old)

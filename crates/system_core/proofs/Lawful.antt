@@ -137,6 +137,7 @@ carried-lawful old new e (replies.Rows at rows) allowed h c = same-lawful old ne
 carried-lawful old new e (replies.Listed at entries) allowed h c = same-lawful old new h c.3
 carried-lawful old new e (replies.Export ticket) allowed h c = same-lawful old new h c.1
 carried-lawful old new e (replies.Refused at lack) allowed h c = same-lawful old new h c.3
+carried-lawful old new e (replies.Described at columns) allowed h c = absurd c
 carried-lawful old new e (replies.Denied at lack) allowed h c = absurd c
 carried-lawful old new e replies.Idle allowed h c = absurd c
 carried-lawful old new e (replies.Stepped number left) allowed h c = absurd c
@@ -159,6 +160,7 @@ advanced-lawful old new (Some active) (replies.Rows at rows) is h a = absurd a
 advanced-lawful old new (Some active) (replies.Listed at entries) is h a = absurd a
 advanced-lawful old new (Some active) (replies.Begun number at) is h a = absurd a
 advanced-lawful old new (Some active) (replies.Export ticket) is h a = absurd a
+advanced-lawful old new (Some active) (replies.Described at columns) is h a = absurd a
 advanced-lawful old new (Some active) (replies.Denied at lack) is h a = absurd a
 advanced-lawful old new (Some active) replies.Idle is h a = absurd a
 advanced-lawful old new (Some active) (replies.Abandoned number) is h a = absurd a
@@ -171,5 +173,6 @@ given_up-lawful old new (Some active) reply is h g =
 -- **a step from a lawful world leads to a lawful world**
 pub step-lawful : (old new : World) (event : Event) (reply : Reply) → IsLawfulWorld old → Step old event reply new → IsLawfulWorld new
 step-lawful old new (events.Say pass user asked) reply h s = responded-lawful old new (entry pass user asked) (verdict_of old user asked) reply refl h s
+step-lawful old new (events.Describe user asked) reply h s = same-lawful old new h s.1
 step-lawful old new events.Step reply h s = advanced-lawful old new old.active reply refl h s
 step-lawful old new events.Abandon reply h s = given_up-lawful old new old.active reply refl h s

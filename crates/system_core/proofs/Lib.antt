@@ -14,6 +14,7 @@ pub mod Beginning
 pub mod Exported
 pub mod Exporting
 pub mod Replaying
+pub mod Describing
 mod Running
 pub mod Entered
 pub mod Unworn

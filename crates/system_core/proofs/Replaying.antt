@@ -28,7 +28,8 @@ alike at others user (statements.RevokeOption privileges table users) h ok =
     ap (λ (columns : List Column). change.RevokeOption user (atoms_of table columns privileges) users) (h table (require-Ok _ _ (passed (checks at user (statements.RevokeOption privileges table users)) ok).0))
 alike at others user _ h ok = refl
 
-columns-stay : (l : Limits) (before es : List Entry) (name : Name) → IsLawfulFrom l before es → is_table (tables_at before) name ≡ true → columns_of (tables_at (before ++ es)) name ≡ columns_of (tables_at before) name
+-- the columns of a table stay
+pub columns-stay : (l : Limits) (before es : List Entry) (name : Name) → IsLawfulFrom l before es → is_table (tables_at before) name ≡ true → columns_of (tables_at (before ++ es)) name ≡ columns_of (tables_at before) name
 columns-stay l before [] name h here = ap (λ k. columns_of (tables_at k) name) (append-nil before)
 columns-stay l before (e ∷ es) name h here =
     let next : List Entry = before ++ e ∷ [] in

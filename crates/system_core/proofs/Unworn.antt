@@ -1,5 +1,5 @@
 -- No step answers that turns are worn.
-use Rattle.std.proofs.Common.{◌≡◌, Bool, true, false, Option, Some, None, Ok, Err, refl, ap, ◌∙◌}
+use Rattle.std.proofs.Common.{◌≡◌, Bool, true, false, Option, Some, None, Ok, Err, inl, inr, refl, ap, ◌∙◌}
 use Rattle.std.proofs.lemmas.Bool.{both_ways}
 use Rattle.base_core.specs.declared.lack.Lack.{Lack}
 use Rattle.base_core.specs.declared.lack.Lack.TheVariants as lacks
@@ -11,8 +11,10 @@ use Rattle.system_core.specs.declared.machine.event.Event.{Event}
 use Rattle.system_core.specs.declared.machine.event.Event.TheVariants as events
 use Rattle.system_core.specs.declared.machine.event.Reply.{Reply}
 use Rattle.system_core.specs.declared.machine.event.Reply.TheVariants as replies
+use Rattle.reader_core.specs.declared.statement.Statement.{Statement}
 use Rattle.system_core.specs.World.{World, ActiveCheckpoint, entry}
 use Rattle.system_core.specs.Judging.{verdict_of}
+use Rattle.system_core.specs.Describing.{denial_in, Describes}
 use Rattle.system_core.specs.Step.{lack_reply, CarriesOut, Responds, Advances, GivesUp, Step}
 use Rattle.system_core.proofs.Judged.{verdict_of-sound}
 
@@ -50,6 +52,7 @@ carried-unworn old new e (replies.Rows at rows) h = refl
 carried-unworn old new e (replies.Listed at entries) h = refl
 carried-unworn old new e (replies.Begun number at) h = refl
 carried-unworn old new e (replies.Export ticket) h = refl
+carried-unworn old new e (replies.Described at columns) h = refl
 carried-unworn old new e (replies.Denied at lack) h = refl
 carried-unworn old new e replies.Idle h = refl
 carried-unworn old new e (replies.Stepped number left) h = refl
@@ -68,11 +71,17 @@ advanced-unworn old new (Some a) (replies.Rows at rows) h = refl
 advanced-unworn old new (Some a) (replies.Listed at entries) h = refl
 advanced-unworn old new (Some a) (replies.Begun number at) h = refl
 advanced-unworn old new (Some a) (replies.Export ticket) h = refl
+advanced-unworn old new (Some a) (replies.Described at columns) h = refl
 advanced-unworn old new (Some a) (replies.Denied at lack) h = refl
 advanced-unworn old new (Some a) replies.Idle h = refl
 advanced-unworn old new (Some a) (replies.Stepped number left) h = refl
 advanced-unworn old new (Some a) (replies.Finished number) h = refl
 advanced-unworn old new (Some a) (replies.Abandoned number) h = refl
+
+described-unworn : (w : World) (asked : Statement) (denial : Option Lack) (reply : Reply) → Describes w asked denial reply → is_worn reply ≡ false
+described-unworn w asked (Some lack) reply h = ap is_worn h
+described-unworn w asked None reply (inl h) = ap is_worn h
+described-unworn w asked None reply (inr h) = ap is_worn h
 
 given_up-unworn : (old new : World) (active : Option ActiveCheckpoint) (reply : Reply) → GivesUp old active reply new → is_worn reply ≡ false
 given_up-unworn old new None reply h = ap is_worn h.0
@@ -80,6 +89,7 @@ given_up-unworn old new (Some a) reply h = ap is_worn h.0
 
 step-unworn : (old new : World) (event : Event) (reply : Reply) → Step old event reply new → is_worn reply ≡ false
 step-unworn old new (events.Say pass user asked) reply h = answered-unworn old new (entry pass user asked) (verdict_of old user asked) reply (verdict_of-sound old user asked) h
+step-unworn old new (events.Describe user asked) reply h = described-unworn old asked (denial_in (verdict_of old user asked)) reply h.0
 step-unworn old new events.Step reply h = advanced-unworn old new old.active reply h
 step-unworn old new events.Abandon reply h = given_up-unworn old new old.active reply h
 

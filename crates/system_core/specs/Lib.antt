@@ -3,6 +3,7 @@ pub mod Exports
 pub mod World
 pub mod Judging
 pub mod Replies
+pub mod Describing
 pub mod Step
 pub mod Entering
 pub mod Carrying

@@ -33,6 +33,7 @@ told_moment (replies.Rows at rows) = Some at
 told_moment (replies.Listed at entries) = Some at
 told_moment (replies.Begun number at) = Some at
 told_moment (replies.Export ticket) = Some ticket.at
+told_moment (replies.Described at columns) = Some at
 told_moment (replies.Denied at lack) = Some at
 told_moment (replies.Refused at lack) = Some at
 told_moment replies.Idle = None

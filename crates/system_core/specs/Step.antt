@@ -25,6 +25,7 @@ use Rattle.system_core.specs.Journal.{tables_at}
 use Rattle.system_core.specs.Exports.{export_of}
 use Rattle.system_core.specs.World.{World, ActiveCheckpoint, entry, moment_of, next_moment, with_entry, records_at}
 use Rattle.system_core.specs.Judging.{point_of, verdict_of, judged_at}
+use Rattle.system_core.specs.Describing.{denial_in, Describes}
 
 -- the reply to a lack: a denial names what is missing, a refusal what does not fit, is full, or is busy
 abbrev pub lack_reply : Moment → Lack → Reply
@@ -111,6 +112,7 @@ CarriesOut old e (replies.Begun number at) new =
 CarriesOut old e (replies.Export ticket) new = IsExport old e.user e.statement ticket × (new ≡ old)
 CarriesOut old e (replies.Refused at lack) new =
     TakesMemory e.statement × (lack ≡ lacks.NoMemory) × (at ≡ moment_of old) × (new ≡ old)
+CarriesOut old e (replies.Described at columns) new = ⊥
 CarriesOut old e (replies.Denied at lack) new = ⊥
 CarriesOut old e replies.Idle new = ⊥
 CarriesOut old e (replies.Stepped number left) new = ⊥
@@ -146,6 +148,8 @@ GivesUp old (Some a) reply new = (reply ≡ replies.Abandoned a.number) × (new 
 abbrev pub Step : World → Event → Reply → World → Type 0
 Step old (events.Say pass user asked) reply new =
     Responds old (entry pass user asked) (verdict_of old user asked) reply new
+Step old (events.Describe user asked) reply new =
+    Describes old asked (denial_in (verdict_of old user asked)) reply × (new ≡ old)
 Step old events.Step reply new = Advances old old.active reply new
 Step old events.Abandon reply new = GivesUp old old.active reply new
 

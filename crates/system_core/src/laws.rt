@@ -1,16 +1,19 @@
 //! Laws of the core, each the contract of a function that does nothing.
-ghost use Rattle.std.specs.Prelude.{◌≡◌, ℕ, List, All, Err, option_map};
+ghost use Rattle.std.specs.Prelude.{◌≡◌, ◌++◌, ℕ, List, All, Err, true, option_map};
 ghost use Rattle.std.specs.List.{IsDistinct};
 ghost use Rattle.std.specs.Map.{keys_of, values_of};
 ghost use Rattle.base_core.specs.Words.{same_name};
+ghost use Rattle.base_core.specs.Lacks.{is_denial};
 ghost use Rattle.base_core.specs.declared.name.Name.{Name};
 ghost use Rattle.base_core.specs.declared.name.User.{User};
 ghost use Rattle.base_core.specs.declared.value.Moment.{Moment};
+ghost use Rattle.base_core.specs.declared.value.Column.{Column};
 ghost use Rattle.base_core.specs.declared.lack.Lack.{Lack};
 ghost use Rattle.base_core.specs.declared.limits.Limits.{Limits};
 ghost use Rattle.reader_core.specs.declared.statement.Statement.{Statement};
 ghost use Rattle.tables_core.specs.Contents.{table_of};
 ghost use Rattle.tables_core.specs.Fitting.{RowsFit};
+ghost use Rattle.monitor_core.specs.Verdict.{is_table, columns_of};
 ghost use Rattle.grants_core.specs.Owners.{owner_of};
 ghost use Rattle.system_core.specs.Journal.{tables_at, rights_at, IsLawful};
 ghost use Rattle.system_core.specs.World.{World, IsLawfulWorld};
@@ -33,6 +36,16 @@ pub fn lacks_are_answered()
         → verdict_of old user asked ≡ Err lack
         → lack ≡ Lack.NoMemory
         → ⊥ }
+{}
+
+/// Who is denied a statement is denied its description, by the reply that the statement would get.
+pub fn denials_are_alike()
+    ensures { (old new : World) (pass : ℕ) (user : User) (asked : Statement) (lack : Lack)
+        (reply : Reply)
+        → verdict_of old user asked ≡ Err lack
+        → is_denial lack ≡ true
+        → Step old (Event.Describe user asked) reply new
+        → Step old (Event.Say pass user asked) reply new }
 {}
 
 /// A step enters a statement that was done in the journal, by its pass and user, and else nothing.
@@ -73,4 +86,21 @@ pub fn tables_are_sound()
         → IsLawful limits journal
         → owner_of (rights_at journal).owners name
         ≡ option_map (λ t. t.owner) (table_of (tables_at journal) name) }
+{}
+
+/// A table has its columns for good: in a lawful journal that begins with another one, each table of
+/// that has the same columns. So of two descriptions of one statement, in the order of one history,
+/// the later one tells what the earlier told, whoever asked.
+pub fn columns_stay()
+    ensures tables { (limits : Limits) (journal more : List Entry) (name : Name)
+        → IsLawful limits (journal ++ more)
+        → is_table (tables_at journal) name ≡ true
+        → columns_of (tables_at (journal ++ more)) name ≡ columns_of (tables_at journal) name }
+    ensures descriptions { (old later : World) (more : List Entry) (user other : User)
+        (asked : Statement) (at at_later : Moment) (columns found : List Column) (new next : World)
+        → IsLawfulWorld later
+        → later.journal ≡ old.journal ++ more
+        → Step old (Event.Describe user asked) (Reply.Described at columns) new
+        → Step later (Event.Describe other asked) (Reply.Described at_later found) next
+        → found ≡ columns }
 {}

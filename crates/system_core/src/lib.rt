@@ -30,6 +30,10 @@
 //! refused any. The last eight that were finished are kept. EXPORT answers a ticket, which tells of
 //! each table of a kept checkpoint what the user may select, then and now.
 //!
+//! The event [`Describe`](Event::Describe) is about a statement that is not carried out. It tells the
+//! denial that the statement would get, or which columns its answer would have: those of the table of
+//! which it reads or changes rows. They stay right for good, since no statement alters a table.
+//!
 //! ```text
 //! let mut system = System::new(alloc, 16)?;
 //! system.step(Event::Say { pass: 0, user: ann, statement });  // Done { at: Moment(1) }
@@ -64,7 +68,8 @@
 //! by halves. A REVOKE costs what falls and what loses its option, and an audit replays the whole
 //! journal. A CHECKPOINT is constant; a step of the checkpointer copies a chunk of rows and grants,
 //! and the columns of the tables that become whole with them. An EXPORT asks two rights of each
-//! table and then costs what it writes. The journal keeps each change, the tables each row, the
+//! table and then costs what it writes. A description costs its judgement, and a copy of the columns
+//! of a table. The journal keeps each change, the tables each row, the
 //! rights each grant in force, and each checkpoint the grants and the places of the rows of its
 //! point; a row is shared until it is changed.
 #![tactic(auto)]

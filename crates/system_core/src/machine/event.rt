@@ -3,7 +3,7 @@ ghost use Rattle.std.specs.Prelude.{◌≡◌};
 ghost use Rattle.system_core.specs.Replies.{is_done, is_refused, is_refused_memory, told_moment};
 ghost use Rattle.system_core.specs.Step.{change_reply};
 
-use base_core::{Lack, Moment, NoMemory, Row, Sequence, User};
+use base_core::{Column, Lack, Moment, NoMemory, Row, Sequence, User};
 use export_core::Ticket;
 use reader_core::Statement;
 
@@ -21,6 +21,11 @@ pub struct Entry {
 pub enum Event {
     Say {
         pass: u64,
+        user: User,
+        statement: Statement,
+    },
+    /// Which columns the answer to a statement would have. It changes nothing, whatever is asked.
+    Describe {
         user: User,
         statement: Statement,
     },
@@ -70,6 +75,11 @@ pub enum Reply {
     },
     /// The export was allowed; its records are to be taken from the ticket.
     Export(Ticket),
+    /// The columns that the answer to a statement would have, at this moment.
+    Described {
+        at: Moment,
+        columns: Sequence<Column>,
+    },
     /// Something is missing: lacks 11 to 20, and 27. Nothing changed.
     Denied {
         at: Moment,
@@ -140,6 +150,7 @@ impl Reply {
             | Reply::Rows { at, .. }
             | Reply::Listed { at, .. }
             | Reply::Begun { at, .. }
+            | Reply::Described { at, .. }
             | Reply::Denied { at, .. }
             | Reply::Refused { at, .. } => Some(*at),
             Reply::Export(ticket) => Some(ticket.at()),

@@ -1,4 +1,5 @@
 //! The core: one event after another, each a step of the machine.
+//! `describing` has what is told of a statement that is only described.
 ghost use Rattle.std.specs.Prelude.{ℕ, ◌≡◌, ◌↔◌, ◌<◌, ◌≤◌, ◌++◌, ◌∷◌, [], true, false, not, length, Ok, Some, IsSome, IsTrue, is_some, IfOk, MatchResult};
 ghost use Rattle.base_core.specs.Full.{IsFull};
 ghost use Rattle.grants_core.specs.History.{in_force_after};
@@ -10,6 +11,8 @@ ghost use Rattle.system_core.specs.Journal.{verdict_at, tables_at, changes, righ
 ghost use Rattle.system_core.specs.World.{opening, entry, moment_of, size_of, IsLawfulWorld};
 ghost use Rattle.system_core.specs.Judging.{checkpoint_checks, verdict_of};
 ghost use Rattle.system_core.specs.Step.{change_reply, lack_reply, CarriesOut, Responds, Advances, GivesUp, Step, Run, IsRunOfSome};
+
+mod describing;
 
 use crate::machine::checkpoints::{judged_at, listed, may_export};
 use crate::machine::event::{Entry, Event, Reply};
@@ -407,6 +410,7 @@ impl System {
                 user,
                 statement,
             }),
+            Event::Describe { user, statement } => self.describe(user, statement),
             Event::Step => self.advance(),
             Event::Abandon => self.give_up(),
         }

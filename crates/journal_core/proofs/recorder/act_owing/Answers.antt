@@ -15,3 +15,9 @@ returns-in-Abandon g c =
     let k = c.args.keeper.now in
     subst (λ (event : Event). StepsKept g.K.Keeper (with_keeper c.args.system.now k) event c.step-in-Abandon.result true (with_keeper c.step-in-Abandon.new.self k)) (sym c.in-Abandon.is)
     (record { step = c.step-in-Abandon.ensures; keeping = unasked c.requires.owing refl; withheld = λ untold. never-both true refl untold })
+
+pub returns-in-Describe : goal.returns-in-Describe
+returns-in-Describe g c =
+    let k = c.args.keeper.now in
+    subst (λ (event : Event). StepsKept g.K.Keeper (with_keeper c.args.system.now k) event c.step-in-Describe.result true (with_keeper c.step-in-Describe.new.self k)) (sym c.in-Describe.is)
+    (record { step = c.step-in-Describe.ensures; keeping = unasked c.requires.owing refl; withheld = λ untold. never-both true refl untold })

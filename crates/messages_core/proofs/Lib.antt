@@ -1,0 +1,16 @@
+pub mod BodyFields
+pub mod Codecs
+pub mod Cuts
+pub mod Decoding
+pub mod KindLemmas
+pub mod MessageBodies
+pub mod Messages
+pub mod Pieces
+pub mod ServerDecoding
+pub mod Skips
+pub mod StartDecoding
+pub mod Starting
+pub mod Stops
+pub mod Streams
+pub mod TextFields
+pub mod Texts

@@ -1,0 +1,13 @@
+pub mod Bodies
+pub mod Client
+pub mod Cutting
+pub mod Fields
+pub mod Frames
+pub mod Kinds
+pub mod MessageReading
+pub mod Reading
+pub mod Rows
+pub mod Sasl
+pub mod Server
+pub mod Start
+pub mod StartReading

@@ -1,0 +1,4 @@
+pub mod Parts
+pub mod Selects
+pub mod Statements
+pub mod Tables

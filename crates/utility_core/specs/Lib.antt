@@ -1,0 +1,4 @@
+pub mod Words
+pub mod Forms
+pub mod Settings
+pub mod Commands
