@@ -7,6 +7,10 @@
 #[cfg(test)]
 mod answers;
 #[cfg(test)]
+mod asking;
+#[cfg(test)]
+mod binding;
+#[cfg(test)]
 mod calls;
 #[cfg(test)]
 mod command_lines;
@@ -14,6 +18,8 @@ mod command_lines;
 mod commands;
 #[cfg(test)]
 mod desk;
+#[cfg(test)]
+mod entry;
 #[cfg(test)]
 mod exports;
 #[cfg(test)]

@@ -1,0 +1,3 @@
+pub mod Columns
+pub mod Manners
+pub mod Asking

@@ -1,0 +1,4 @@
+pub mod Firsts
+pub mod Opened
+pub mod Sending
+pub mod Coming
