@@ -41,6 +41,8 @@ mod pieces;
 #[cfg(test)]
 mod printer;
 #[cfg(test)]
+mod sending;
+#[cfg(test)]
 mod slow;
 #[cfg(test)]
 mod stores;

@@ -1,13 +1,14 @@
 -- Replies of which an answer is begun.
-use Rattle.std.proofs.Common.{◌≡◌, ℕ, List, [], ◌++◌, Option, Some, None, refl, sym, subst, append_assoc}
+use Rattle.std.proofs.Common.{◌≡◌, ℕ, ◌+◌, List, [], ◌++◌, Option, Some, None, refl, sym, subst, append_assoc, arith}
 use Rattle.std.specs.Io.KnownBytes.{Appends}
 use Rattle.std.proofs.KnownBytes.{Appends-trans}
 use Rattle.base_core.specs.Streams.{Writes, WritesFront, WritesFrontOf}
 use Rattle.base_core.proofs.Fronts.{front-first, front-second}
 use Rattle.system_core.specs.declared.machine.event.Reply.{Reply}
-use Rattle.answer_core.specs.Answers.{AnswersUnsent, IsUnsentText, SendsMore}
+use Rattle.answer_core.specs.Answers.{AnswersUnsent, IsUnsentText, IsBelow, SendsMore}
 use Rattle.answer_core.specs.Messages.{reply_messages}
-use Rattle.answer_core.specs.Replies.{AnswersReply, AnswersRows, BeginsAnswer, IsReplyAnswer, reply_rows}
+use Rattle.answer_core.specs.Remaining.{rows_to_come}
+use Rattle.answer_core.specs.Replies.{AnswersReply, AnswersRows, BeginsAnswer, IsReplyAnswer, row_count, reply_rows}
 use Rattle.answer_core.specs.declared.answering.Request.{Request}
 use Rattle.answer_core.specs.declared.unsent.Portal.{Portal}
 use Rattle.answer_core.specs.declared.unsent.Progress.{Progress}
@@ -19,6 +20,25 @@ use Rattle.answer_core.proofs.Going.{some_answer}
 some_rows : (o : Option Unsent) → (text : List ℕ) × ((left : Option Portal) × AnswersRows o text left)
 some_rows None = ([], (None, (refl, refl)))
 some_rows (Some u) = some_answer u
+
+-- something may always be written of a reply
+pub some_reply_answer : (request : Request) (reply : Reply) → (text : List ℕ) × IsReplyAnswer request reply text
+some_reply_answer request reply =
+    let rows = some_rows (reply_rows request reply) in
+    (reply_messages request.tag reply ++ rows.0, (rows.1.0, (rows.0, rows.1.1, refl)))
+
+-- of the rows of a reply as many are left or fewer
+at_most : (n : ℕ) (progress : Progress) → IsBelow n progress → IsBelow (1 + n) progress
+at_most n progresses.Whole h = tt
+at_most n (progresses.Suspended portal) h = tt
+at_most n (progresses.Part unsent) h = omega (arith, h)
+
+module _ (request : Request) (reply : Reply) (u : Unsent) (rows : reply_rows request reply ≡ Some u) where
+  pub begun_below : (progress : Progress) → IsBelow (rows_to_come u) progress → IsBelow (1 + row_count (reply_rows request reply)) progress
+  begun_below progress h = subst (λ (o : Option Unsent). IsBelow (1 + row_count o) progress) (sym rows) (at_most (rows_to_come u) progress h)
+
+  pub unbegun_below : IsBelow (1 + row_count (reply_rows request reply)) (progresses.Part u)
+  unbegun_below = subst (λ (o : Option Unsent). IsBelow (1 + row_count o) (progresses.Part u)) (sym rows) (omega arith)
 
 module _ (request : Request) (reply : Reply) (before mid after : Option (List ℕ)) where
   -- the writer failed at the messages of the reply

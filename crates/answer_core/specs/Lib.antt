@@ -8,6 +8,7 @@ pub mod Answers
 pub mod Replies
 pub use Rattle.base_core.specs.Streams
 pub use Rattle.lexer_core.specs.Codes as FaultCodes
+pub use Rattle.messages_core.specs.Columns
 pub use Rattle.messages_core.specs.Rows
 pub use Rattle.messages_core.specs.Server
 pub use Rattle.messages_core.specs.Fields

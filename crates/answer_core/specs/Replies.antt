@@ -5,6 +5,7 @@ use Rattle.system_core.specs.declared.machine.event.Reply.{Reply}
 use Rattle.system_core.specs.declared.machine.event.Reply.TheVariants as replies
 use Rattle.answer_core.specs.Answers.{AnswersUnsent, Continues}
 use Rattle.answer_core.specs.Messages.{reply_messages}
+use Rattle.answer_core.specs.Remaining.{rows_to_come}
 use Rattle.answer_core.specs.declared.answering.Request.{Request}
 use Rattle.answer_core.specs.declared.items.Items.TheVariants as items
 use Rattle.answer_core.specs.declared.unsent.Frame.{Frame}
@@ -35,6 +36,11 @@ reply_rows request (replies.Export export) = Some
     (unsent_of (remainders.Export (record { ticket = export; ahead = None }) 0)
     (frame_of request export.at) request.most)
 reply_rows request reply = None
+
+-- how many rows these are
+abbrev pub row_count : Option Unsent → ℕ
+row_count None = 0
+row_count (Some unsent) = rows_to_come unsent
 
 -- what may be written of these rows, if there are any, with the portal that is then left
 abbrev pub AnswersRows : Option Unsent → List ℕ → Option Portal → Type 0

@@ -1,12 +1,12 @@
 -- The rows of an answer in messages, and the descriptions of their columns.
-use Rattle.std.specs.Prelude.{ℕ, ◌-◌, pos, List, [], ◌∷◌, Some, None, codes, length, take, slice_index_or}
+use Rattle.std.specs.Prelude.{ℕ, ◌-◌, pos, List, [], ◌∷◌, Some, None, codes, length, take}
 use Rattle.base_core.specs.declared.value.Row.{Row}
 use Rattle.base_core.specs.declared.value.ColType.{ColType}
 use Rattle.base_core.specs.declared.value.ColType.TheVariants as types
+use Rattle.messages_core.specs.Columns.{format_at}
 use Rattle.messages_core.specs.Rows.{data_row, number_value, row_description, row_values}
 use Rattle.messages_core.specs.declared.rows.ColumnDescription.{ColumnDescription}
 use Rattle.messages_core.specs.declared.rows.Format.{Format}
-use Rattle.messages_core.specs.declared.rows.Format.TheVariants as formats
 use Rattle.system_core.specs.declared.machine.event.Checkpoint.{Checkpoint}
 use Rattle.system_core.specs.declared.machine.event.Checkpoint.TheVariants as checkpoints
 use Rattle.system_core.specs.declared.machine.event.Reply.{Reply}
@@ -15,10 +15,6 @@ use Rattle.system_core.specs.declared.machine.event.Reply.TheVariants as replies
 -- a line without the line feed at its end
 abbrev pub unended : List ℕ → List ℕ
 unended line = take (length line - 1) line
-
--- the format of the column in this place, counted from 0: text, if there are not so many
-abbrev pub format_at : List Format → ℕ → Format
-format_at fs place = slice_index_or fs place formats.Text
 
 -- a number as an int8, in this format
 abbrev pub int8_value : Format → ℕ → List ℕ

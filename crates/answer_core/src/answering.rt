@@ -1,7 +1,8 @@
 //! Replies that are answered in messages.
-ghost use Rattle.std.specs.Prelude.{◌≡◌, false, true, IfOk, MatchResult, OnErr};
+ghost use Rattle.std.specs.Prelude.{◌≡◌, ◌+◌, false, true, IfOk, MatchResult, OnErr};
 ghost use Rattle.base_core.specs.Streams.{Writes, WritesFrontOf};
-ghost use Rattle.answer_core.specs.Replies.{BeginsAnswer, IsReplyAnswer};
+ghost use Rattle.answer_core.specs.Answers.{IsBelow};
+ghost use Rattle.answer_core.specs.Replies.{BeginsAnswer, IsReplyAnswer, reply_rows, row_count};
 
 use crate::formats::Formats;
 use crate::items::Items;
@@ -23,8 +24,8 @@ pub struct Request {
 }
 
 /// Writes the first of the answer to a reply: all of it, or the first 64 rows of a longer list; of an
-/// export nothing yet. Gives how far the answer has come. The buffer may have any text; what it has then
-/// means nothing.
+/// export nothing yet. Gives how far the answer has come: no more rows are then to come than the reply has.
+/// The buffer may have any text; what it has then means nothing.
 ///
 /// It takes no memory. `Broken` exactly where the writer has failed, and then a front was written.
 pub fn begin_answer<W: Sink>(
@@ -38,6 +39,7 @@ pub fn begin_answer<W: Sink>(
         (λ _. W.failed writer.new ≡ true) }
     ensures ok { IfOk result (λ progress. Writes (BeginsAnswer request reply progress)
         (W.taken writer.old) (W.taken writer.new)) }
+    ensures progress { IfOk result (IsBelow (1 + row_count (reply_rows request reply))) }
     ensures err { OnErr result (WritesFrontOf (IsReplyAnswer request reply)
         (W.taken writer.old) (W.taken writer.new)) }
 {

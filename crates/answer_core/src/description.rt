@@ -4,9 +4,9 @@ ghost use Rattle.base_core.specs.Streams.{MayWriteText};
 ghost use Rattle.messages_core.specs.Rows.{described, row_description};
 ghost use Rattle.answer_core.specs.RowTexts.{checkpoint_columns, column_named, description_text, export_columns};
 
-use crate::formats::{Formats, format_at};
+use crate::formats::Formats;
 use base_core::{Broken, ColType, Sink};
-use messages_core::{Bytes, ColumnDescription, Format, write_row_description};
+use messages_core::{Bytes, ColumnDescription, Format, format_at, write_row_description};
 use system_core::Reply;
 
 /// A column of this name, with the format that stands in its place.

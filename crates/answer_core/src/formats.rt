@@ -1,6 +1,5 @@
 //! The formats of a result's columns.
 ghost use Rattle.std.specs.Prelude.{◌≡◌, ◌≤◌, ◌<◌, ◌++◌, ◌∷◌, [], length, replicate};
-ghost use Rattle.answer_core.specs.RowTexts.{format_at};
 
 use messages_core::Format;
 use reader_core::MAX_ITEMS;
@@ -52,14 +51,4 @@ impl Formats {
     {
         &self.formats[..self.count]
     }
-}
-
-/// The format of the column in this place, counted from 0.
-pub(crate) fn format_at(formats: &[Format], place: usize) -> Format
-    ensures { result ≡ format_at formats.now place }
-{
-    if place < formats.len() {
-        return formats[place];
-    }
-    Format::Text
 }

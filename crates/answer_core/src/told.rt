@@ -5,11 +5,10 @@ ghost use Rattle.messages_core.specs.declared.rows.Format.{Format};
 ghost use Rattle.system_core.specs.declared.machine.event.Checkpoint.TheVariants as checkpoints;
 ghost use Rattle.answer_core.specs.RowTexts.{checkpoint_row, int8_value, record_row, table_row, unended};
 
-use crate::formats::format_at;
 use arrayvec::ArrayVec;
 use base_core::{Broken, Moment, Row, Sink};
 use itoa::Buffer;
-use messages_core::{Bytes, Cell, Format, write_data_row};
+use messages_core::{Bytes, Cell, Format, format_at, write_data_row};
 use reader_core::MAX_ITEMS;
 use system_core::Checkpoint;
 

@@ -2,6 +2,7 @@ pub mod BodyFields
 pub mod Codecs
 pub mod Cuts
 pub mod Decoding
+pub mod Described
 pub mod KindLemmas
 pub mod MessageBodies
 pub mod Messages

@@ -1,5 +1,6 @@
 pub mod Bodies
 pub mod Client
+pub mod Columns
 pub mod Cutting
 pub mod Fields
 pub mod Frames

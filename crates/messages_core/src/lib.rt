@@ -27,10 +27,11 @@
 //! spelled is read, and a stream is the messages that were sent and no others.
 //!
 //! What a server sends is written to a [`Sink`](base_core::Sink): by [`write_message`], by [`write_row`]
-//! of the values of a row, by [`write_data_row`] of other cells, by [`write_row_description`] and
-//! [`write_parameter_description`]; [`refuse_encryption`] answers a client that asks for it. They write
-//! what spells the message (`specs/Server.antt`, `specs/Rows.antt`), or, where the writer fails, a
-//! front of it. They take no memory either, and leave it to the caller to flush.
+//! of the values of a row, by [`write_data_row`] of other cells, by [`write_columns`] of the columns of a
+//! table, by [`write_row_description`] of others, and by [`write_parameter_description`];
+//! [`refuse_encryption`] answers a client that asks for it. They write what spells the message
+//! (`specs/Server.antt`, `specs/Rows.antt`, `specs/Columns.antt`), or, where the writer fails, a front of
+//! it. They take no memory either, and leave it to the caller to flush.
 //!
 //! Whether a message may come now, how many values a statement wants, and what a format code means is
 //! the session's to say. So is what texts mean: they are bytes, and a server's with a zero byte would
@@ -46,6 +47,7 @@
 mod bodies;
 mod bytes;
 mod client;
+mod columns;
 mod fields;
 mod frames;
 mod kinds;
@@ -62,6 +64,7 @@ mod writing;
 
 pub use bytes::Bytes;
 pub use client::{Bind, ClientMessage, MessageFault, Parse, Target};
+pub use columns::{format_at, write_columns};
 pub use lists::{Int16s, Int32s, Values};
 pub use message_reading::read_message;
 pub use parameters::Parameters;

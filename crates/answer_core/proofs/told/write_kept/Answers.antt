@@ -1,9 +1,10 @@
 use Rattle.std.proofs.Common.{◌≡◌, ℕ, List, [], ◌∷◌, Some, None, codes, ap, ◌∙◌}
 use Rattle.base_core.proofs.Fronts.{text-same}
+use Rattle.messages_core.specs.Columns.{format_at}
 use Rattle.messages_core.specs.Rows.{data_row}
 use Rattle.messages_core.specs.declared.rows.Format.{Format}
 use Rattle.system_core.specs.declared.machine.event.Checkpoint.TheVariants as checkpoints
-use Rattle.answer_core.specs.RowTexts.{checkpoint_row, format_at, int8_value}
+use Rattle.answer_core.specs.RowTexts.{checkpoint_row, int8_value}
 use Rattle.answer_core.proofs.told.write_kept.Goals as goal
 
 pub returns : goal.returns

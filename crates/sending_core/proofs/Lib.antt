@@ -1,0 +1,2 @@
+pub mod Owings
+pub mod SettingLemmas

@@ -1,0 +1,17 @@
+use Rattle.base_core.proofs.Fronts.{front-first, text-broken, text-then}
+use Rattle.messages_core.specs.Server.{server_spelling}
+use Rattle.messages_core.specs.declared.server.ServerMessage.TheVariants as servers
+use Rattle.messages_core.specs.declared.server.Status.TheVariants as statuses
+use Rattle.sending_core.specs.Welcome.{session_begin}
+use Rattle.sending_core.proofs.welcome.write_session_begin.Goals as goal
+
+pub returns-in_err-write_message : goal.returns-in_err-write_message
+returns-in_err-write_message g c =
+    let r = c.in_err-write_message.ensures in
+    text-broken g.W.Sink.failed g.W.Sink.taken _ _ session_begin c.from_residual.result c.from_residual.ensures.0
+    (r.0, front-first _ _ (server_spelling (servers.BackendKeyData 0 0)) (server_spelling (servers.ReadyForQuery statuses.Idle)) r.1)
+
+pub returns : goal.returns
+returns g c =
+    text-then g.W.Sink.failed g.W.Sink.taken _ _ _ (server_spelling (servers.BackendKeyData 0 0)) (server_spelling (servers.ReadyForQuery statuses.Idle)) c.write_message-2.result
+    c.in_ok-write_message.ensures.1 c.write_message-2.ensures

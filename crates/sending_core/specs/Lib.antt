@@ -1,0 +1,16 @@
+pub mod Problems
+pub mod CommandTexts
+pub mod Welcome
+pub mod Plain
+pub mod Owing
+pub mod Queue
+pub use Rattle.base_core.specs.Streams
+pub use Rattle.messages_core.specs.Columns
+pub use Rattle.messages_core.specs.Rows
+pub use Rattle.messages_core.specs.Server
+pub use Rattle.utility_core.specs.Settings
+pub use Rattle.answer_core.specs.Answers
+pub use Rattle.answer_core.specs.Messages
+pub use Rattle.answer_core.specs.Remaining
+pub use Rattle.answer_core.specs.Replies
+pub use Rattle.answer_core.specs.RowTexts
