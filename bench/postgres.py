@@ -9,7 +9,8 @@ import subprocess
 def running(work, settings=""):
     """The words that begin a command of PostgreSQL's as its user, and the folder of its commands; or None.
 
-    The server listens in the folder `work` alone, and waits for no disk where the settings say so.
+    The server listens in the folder `work` alone, unless the settings name an address, and waits for no disk where
+    they say so.
     """
     found = sorted(glob.glob("/usr/lib/postgresql/*/bin/pg_ctl"))
     if not found:

@@ -54,7 +54,8 @@ class Login:
         spelled = chance.choice((self.user, self.user, self.user.upper(), self.user.title()))
         self.line = f"LOGIN {spelled} {first}"
         if self.kind == "first line spoilt":
-            self.line = spoilt(chance, self.line)
+            # (a zero byte at the front begins the other protocol)
+            self.line = spoilt(chance, self.line).lstrip("\0")
         self.opened = scram.opened(self.line.removesuffix("\r"))
 
     def is_challenge(self, said):

@@ -40,6 +40,18 @@ def at_port(port):
     return socket.create_connection(("127.0.0.1", port), timeout=WAIT)
 
 
+def refuses(port):
+    """Whether nobody can connect there any more, by the time that it took too long."""
+    late = time.monotonic() + WAIT
+    while time.monotonic() < late:
+        try:
+            at_port(port).close()
+        except ConnectionRefusedError:
+            return True
+        time.sleep(0.02)
+    return False
+
+
 class Watching:
     """A folder with a journal, a control socket and a socket file, and servers there."""
 
@@ -137,10 +149,38 @@ def socket_file_of_a_killed_server(watching):
     watching.check("a file that is no socket", (refused, kept) == (told, "kept"), (refused, kept))
 
 
+def two_ports(watching):
+    """Sessions at both ports, and at that of PostgreSQL's clients alone; behind the last one that is wanted both refuse."""
+    port, pg_port = free_port(), free_port()
+    child, said = watching.serving("--port", str(port), "--pg-port", str(pg_port), "--sessions", "3")
+    said += child.stdout.readline().decode()
+    wanted = f"listening on {port}\nlistening on {pg_port} for PostgreSQL's clients\n"
+    watching.check("it says for whom it listens", said == wanted, said)
+    told = [answered(at_port(pg_port), SAID), answered(at_port(port), b"USER ann\nSELECT * FROM pay\n")]
+    wanted = ["welcome ann\ndone @1\ndone @2\n", "welcome ann\nrows 1 @2\nrow,Bo\n"]
+    watching.check("sessions at two ports", told == wanted, told)
+    with at_port(pg_port):
+        refused = [refuses(number) for number in (port, pg_port)]
+    watching.check("behind the last session", refused == [True, True], refused)
+    ended = child.communicate(timeout=WAIT), child.returncode
+    watching.check("two ports: the end", ended == ((b"served 3\n", b""), 0), ended)
+    pg_port = free_port()
+    child, said = watching.serving("--pg-port", str(pg_port))
+    watching.check("one port for PostgreSQL's clients", said == f"listening on {pg_port} for PostgreSQL's clients\n", said)
+    told = answered(at_port(pg_port), b"USER ann\nCHECKPOINTS\n")
+    watching.check("a session there", told == "welcome ann\ncheckpoints 0 @0\n", told)
+    taken = watching.ends("serve", "--pg-port", str(pg_port))
+    watching.check("a port that is taken", taken == (1, "", f"sysr: cannot listen on {pg_port}\n"), taken)
+    watching.stop()
+    child.communicate(timeout=WAIT)
+
+
 def refused_words(watching):
     for words, told in (
-        (["serve"], "error: serve needs --port, --socket, --user-socket, or a socket of a supervisor\n"),
+        (["serve"], "error: serve needs --port, --pg-port, --socket, --user-socket, or a socket of a supervisor\n"),
         (["serve", "--port", "1", "--listen", "0.0.0.0"],
+            "error: --listen takes another address than 127.0.0.1 only with --users\n"),
+        (["serve", "--pg-port", "1", "--listen", "0.0.0.0"],
             "error: --listen takes another address than 127.0.0.1 only with --users\n"),
     ):
         seen = watching.ends(*words)
@@ -289,6 +329,7 @@ def played(program, check):
         watching = Watching(program, check, folder)
         socket_files(watching)
         socket_file_of_a_killed_server(watching)
+        two_ports(watching)
         refused_words(watching)
         lent_sockets(watching)
         sockets_of_another_process(watching)

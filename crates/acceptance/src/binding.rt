@@ -194,12 +194,13 @@ fn types_told(rt: HostRuntime) {
     assert!(rt; is_untold(rt.alloc(), three, TypeFault::WrongCount));
 }
 
-/// The formats of two columns, by the codes of a Bind without values.
-fn formats(bytes: &[u8]) -> Option<Result<(Format, Format), BindFault>> {
+/// The formats of the first two columns, by the codes of a Bind without values, or the first code that
+/// is of no format.
+fn formats(bytes: &[u8]) -> Option<Result<(Format, Format), u16>> {
     let sent = bind_in(bytes)?;
-    match result_formats(&sent.result_formats, 2) {
+    match result_formats(&sent.result_formats) {
         Ok(found) => Some(Ok((found[0], found[1]))),
-        Err(fault) => Some(Err(fault)),
+        Err(code) => Some(Err(code)),
     }
 }
 
@@ -212,7 +213,7 @@ fn formats_of_columns(rt: HostRuntime) {
     let each = formats(b"B\0\0\0\x10\0\0\0\0\0\0\0\x02\0\0\0\x01");
     assert!(rt; each == Some(Ok((Format::Text, Format::Binary))));
     let unknown = formats(b"B\0\0\0\x10\0\0\0\0\0\0\0\x02\0\0\0\x02");
-    assert!(rt; unknown == Some(Err(BindFault::UnknownFormat(2))));
-    let three = formats(b"B\0\0\0\x12\0\0\0\0\0\0\0\x03\0\0\0\0\0\0");
-    assert!(rt; three == Some(Err(BindFault::WrongCount)));
+    assert!(rt; unknown == Some(Err(2)));
+    let three = formats(b"B\0\0\0\x12\0\0\0\0\0\0\0\x03\0\x01\0\0\0\x03");
+    assert!(rt; three == Some(Err(3)));
 }

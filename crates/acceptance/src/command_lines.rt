@@ -155,6 +155,30 @@ fn what_answers_statements_takes_no_flag_of_a_reading(rt: HostRuntime) -> Result
     all_refused(&rt, rt.alloc(), &other_words, ErrorKind::InvalidValue)
 }
 
+// The port, and that of PostgreSQL's clients, at which these words have a server listen, if they do.
+fn ports(alloc: Global, words: &[&str]) -> Result<(Option<u16>, Option<u16>), Error> {
+    Ok(match options(alloc, words)? {
+        CommandLine::Serve(asked, _) => (asked.port, asked.pg_port),
+        _ => (None, None),
+    })
+}
+
+#[test]
+fn a_server_has_two_ports(rt: HostRuntime) -> Result<(), Fail> {
+    let one = ["sysr", "serve", "--port", "7878"];
+    assert_eq!(&rt; ports(rt.alloc(), &one)?, (Some(7878), None));
+    let other = ["sysr", "serve", "--pg-port", "5432"];
+    assert_eq!(&rt; ports(rt.alloc(), &other)?, (None, Some(5432)));
+    let both = ["sysr", "serve", "--pg-port", "5432", "--port", "7878"];
+    assert_eq!(&rt; ports(rt.alloc(), &both)?, (Some(7878), Some(5432)));
+    let refused = [
+        "sysr serve --pg-port 0",
+        "sysr serve --pg-port 65536",
+        "sysr serve --port 7878 --pg-port 7878",
+    ];
+    all_refused(&rt, rt.alloc(), &refused, ErrorKind::ValueValidation)
+}
+
 // The user of this name, which is one.
 fn user(rt: &impl Abort, name: &str) -> User {
     User(Name::read(name.as_bytes()).expect(rt, "a name"))

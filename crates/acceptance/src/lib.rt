@@ -5,10 +5,6 @@
 #![tactic(auto)]
 
 #[cfg(test)]
-mod answers;
-#[cfg(test)]
-mod asking;
-#[cfg(test)]
 mod binding;
 #[cfg(test)]
 mod calls;
@@ -18,8 +14,6 @@ mod command_lines;
 mod commands;
 #[cfg(test)]
 mod desk;
-#[cfg(test)]
-mod entry;
 #[cfg(test)]
 mod exports;
 #[cfg(test)]
@@ -40,8 +34,6 @@ mod parameters;
 mod pieces;
 #[cfg(test)]
 mod printer;
-#[cfg(test)]
-mod sending;
 #[cfg(test)]
 mod slow;
 #[cfg(test)]

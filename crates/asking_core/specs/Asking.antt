@@ -10,7 +10,7 @@ use Rattle.reader_core.specs.Language.{Spells, IsReadFault}
 use Rattle.reader_core.specs.declared.statement.Statement.{Statement}
 use Rattle.monitor_core.specs.Verdict.{is_change}
 use Rattle.utility_core.specs.Words.{words_of}
-use Rattle.utility_core.specs.Commands.{command_in, is_version_question}
+use Rattle.utility_core.specs.Commands.{command_in, is_version_question, underscored_name}
 use Rattle.utility_core.specs.declared.command.Command.{Command}
 use Rattle.utility_core.specs.declared.command.Command.TheVariants as commands
 use Rattle.answer_core.specs.Tags.{tag_of}
@@ -30,11 +30,14 @@ use Rattle.asking_core.specs.declared.asking.Asked.TheVariants as askeds
 use Rattle.asking_core.specs.declared.describing.Described.{Described}
 use Rattle.asking_core.specs.declared.describing.Described.TheVariants as describeds
 
--- the line is this command: by its words, or the question for the version that has a dot
+-- the line is this command: by its words; or the question for the version, which has a dot; or it drops a
+-- statement whose name begins with "_"
 pub data IsCommand (line : List ℕ) : Command → Type 0 where
   worded : {tokens : List Token} {command : Command} → AreTokens line tokens
       → command_in (words_of line tokens) ≡ Some command → IsCommand line command
   asks_version : is_version_question line ≡ true → IsCommand line commands.Version
+  underscored : {name : List ℕ} → underscored_name line ≡ Some name
+      → IsCommand line commands.DeallocateUnderscored
 
 -- it is none
 abbrev pub IsNoCommand : List ℕ → Type 0

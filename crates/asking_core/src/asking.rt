@@ -10,16 +10,17 @@ ghost use Rattle.asking_core.specs.declared.manner.Manner.{Manner};
 use crate::describing::result_columns;
 use crate::manner::{Bar, Manner, bar_of, may_answer, wants_described};
 use answer_core::Tag;
-use base_core::{Column, NoMemory, Sequence, User};
+use base_core::{Column, NoMemory, User};
 use desk_core::{Desk, Pass, Unkept};
 use journal_core::Keeper;
 use lexer_core::{Code, ReadFault, Token, read_tokens};
 use reader_core::{Statement, read_with};
+use sending_core::Few;
 use session_core::Witness;
 use std::alloc::Global;
 use std::sync::Wait;
 use system_core::Reply;
-use utility_core::{Command, command_of, is_version_question};
+use utility_core::{Command, command_of, is_version_question, underscored_name};
 
 /// What comes of a line.
 #[derive(Drop)]
@@ -40,7 +41,7 @@ pub enum Asked {
     Told {
         tag: Tag,
         reply: Reply,
-        columns: Option<Sequence<Column>>,
+        columns: Option<Few<Column>>,
     },
     /// The desk withholds the reply, which is that to a change.
     Withheld,
@@ -57,6 +58,9 @@ pub(crate) fn command_told(
     if is_version_question(line) {
         return Ok(Some(Command::Version));
     }
+    if let Some(_) = underscored_name(line) {
+        return Ok(Some(Command::DeallocateUnderscored));
+    }
     match read_tokens(tokens, line) {
         Ok(()) => Ok(command_of(line, tokens.as_slice())),
         Err(ReadFault::At { .. }) => Ok(None),
@@ -71,7 +75,7 @@ fn say<K: Keeper + Drop, R: Wait, G: Witness>(
     pass: &mut Pass<K>,
     user: User,
     statement: Statement,
-    columns: Option<Sequence<Column>>,
+    columns: Option<Few<Column>>,
     gate: &G,
 ) -> Asked
     requires pass { pass.old.lock ≡ Some desk.now }
@@ -126,9 +130,12 @@ fn say_described<K: Keeper + Drop, R: Wait, G: Witness>(
     let Ok(statement) = read_with(alloc, tokens, line) else {
         return Asked::Unread;
     };
-    match result_columns(alloc, &statement, columns) {
-        Ok(columns) => say(rt, desk, pass, user, statement, Some(columns), gate),
-        Err(_) => Asked::Unread,
+    let Ok(columns) = result_columns(alloc, &statement, columns) else {
+        return Asked::Unread;
+    };
+    match Few::new(columns) {
+        Some(columns) => say(rt, desk, pass, user, statement, Some(columns), gate),
+        None => Asked::Unread,
     }
 }
 

@@ -6,7 +6,7 @@ use Rattle.std.proofs.lemmas.Option.{unwrap_or-slice_get}
 use Rattle.messages_core.specs.declared.rows.Format.{Format}
 use Rattle.messages_core.specs.declared.rows.Format.TheVariants as formats
 use Rattle.messages_core.specs.Rows.{format_code}
-use Rattle.binding_core.specs.Formats.{AreCodesFor, AreFormats, IsUnknown, IsUnknownFormat, code_for}
+use Rattle.binding_core.specs.Formats.{AreFormats, IsUnknown, IsUnknownFormat, code_for}
 use Rattle.binding_core.proofs.Pushes.{push_each}
 
 pub unknown : (code : ℕ) → (code ≡ 0 → ⊥) → (code ≡ 1 → ⊥) → IsUnknown code
@@ -42,9 +42,8 @@ module _ (codes : List ℕ) (fs : List Format) (k code : ℕ) (so_far : AreForma
   format_more f e = subst (AreFormats codes) (sym (take_more_set fs k f within))
       (push_each (λ (n : ℕ) (g : Format). code_for codes n ≡ format_code g) formats.Text (take k fs) f so_far (ap (code_for codes) size ∙ (sym here ∙ e)))
 
-  pub unknown_format : (count : ℕ) → AreCodesFor count codes → k < count → IsUnknown code → IsUnknownFormat codes count code
-  unknown_format count counted less h = record {
-    counted = counted;
+  pub unknown_format : k < 32 → IsUnknown code → IsUnknownFormat codes code
+  unknown_format less h = record {
     before = take k fs;
     each = so_far;
     within = omega (arith, size, less);

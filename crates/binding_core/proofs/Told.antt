@@ -4,7 +4,7 @@ use Rattle.std.specs.Prelude.{MatchOption, is_some, unwrap_or}
 use Rattle.std.proofs.lemmas.List.{drop_all, drop-drop, get_or-drop, get_or_past, length_push}
 use Rattle.base_core.specs.declared.value.ColType.{ColType}
 use Rattle.base_core.specs.declared.value.ColType.TheVariants as types
-use Rattle.binding_core.specs.Telling.{AreTold, AreWanted, AreTooMany, IsUnknownType, told_type, type_told}
+use Rattle.binding_core.specs.Telling.{AreNumbered, AreTold, AreWanted, AreTooMany, IsUnknownType, told_number, told_type, type_told}
 use Rattle.binding_core.proofs.Pushes.{push_each}
 
 -- these types are found, of the first places, and these numbers are left
@@ -64,3 +64,27 @@ module _ (told left next : List ℕ) (guessed : List ColType) (k : ℕ) (wanted 
 
     pub all_wanted : is_some r ≡ false → AreWanted told guessed wanted
     all_wanted e = record { all = s.many ∙ all; each = s.each; no_more = none_left r n e }
+
+-- these numbers are found, of the first places, and these that were told are left
+pub record NumberedSoFar (told left : List ℕ) (types : List ColType) (k : ℕ) (numbers : List ℕ) : Type 0 where
+  pub left_are : left ≡ drop k told
+  pub many : length numbers ≡ k
+  pub each : AreNumbered told types numbers
+
+pub none_numbered : (told : List ℕ) (types : List ColType) → NumberedSoFar told told types 0 []
+none_numbered told types = record { left_are = refl; many = refl; each = λ k h. absurd (omega (arith, h)) }
+
+pub one_more_number : (told left next : List ℕ) (ts : List ColType) (k : ℕ) (numbers : List ℕ) → NumberedSoFar told left ts k numbers
+    → (r : Option ℕ) → IsNext r left next → (ty : ColType) → ty ≡ get_or ts k types.Text
+    → NumberedSoFar told next ts (k + 1) (numbers ++ told_number (unwrap_or r 0) ty ∷ [])
+one_more_number told left next ts k numbers s r n ty here =
+    let step = next_told told left next k r s.left_are n in
+    let number = told_number (unwrap_or r 0) ty in
+    let is : number ≡ told_number (get_or told k 0) (get_or ts k types.Text) =
+    ap (λ (oid : ℕ). told_number oid ty) step.0 ∙ ap (told_number (get_or told k 0)) here in
+    record {
+      left_are = step.1;
+      many = length_push numbers number ∙ ap (λ (m : ℕ). m + 1) s.many;
+      each = push_each (λ (m : ℕ) (x : ℕ). x ≡ told_number (get_or told m 0) (get_or ts m types.Text)) 0 numbers number s.each
+          (is ∙ ap (λ (m : ℕ). told_number (get_or told m 0) (get_or ts m types.Text)) (sym s.many));
+    }

@@ -3,8 +3,7 @@ use Rattle.std.specs.Prelude.{◌≡◌, ◌≢◌, ◌<◌, ◌≤◌, ◌⊎�
 use Rattle.messages_core.specs.declared.rows.Format.{Format}
 use Rattle.messages_core.specs.declared.rows.Format.TheVariants.{Text, Binary}
 use Rattle.messages_core.specs.Rows.{format_code}
-use Rattle.binding_core.specs.declared.fault.BindFault.{BindFault}
-use Rattle.binding_core.specs.declared.fault.BindFault.TheVariants as faults
+use Rattle.reader_core.specs.declared.statement.TheConstants.{MAX_ITEMS}
 
 -- codes may be sent for so many values or columns: none, one for all, or one for each
 abbrev pub AreCodesFor : ℕ → List ℕ → Type 0
@@ -30,17 +29,11 @@ abbrev pub AreFormats : List ℕ → List Format → Type 0
 AreFormats codes formats =
     (k : ℕ) → k < length formats → code_for codes k ≡ format_code (slice_index_or formats k Text)
 
--- the first code that is of no format
-pub record IsUnknownFormat (codes : List ℕ) (count code : ℕ) : Type 0 where
-  pub counted : AreCodesFor count codes
+-- of the codes for the first columns of a result, as many as a table may have, the first that is of
+-- no format
+pub record IsUnknownFormat (codes : List ℕ) (code : ℕ) : Type 0 where
   pub before : List Format
   pub each : AreFormats codes before
-  pub within : length before < count
+  pub within : length before < MAX_ITEMS
   pub here : code ≡ code_for codes (length before)
   pub unknown : IsUnknown code
-
--- why so many columns have no formats
-abbrev pub IsFormatsFault : List ℕ → ℕ → BindFault → Type 0
-IsFormatsFault codes count faults.WrongCount = AreCodesFor count codes → ⊥
-IsFormatsFault codes count (faults.UnknownFormat code) = IsUnknownFormat codes count code
-IsFormatsFault codes count _ = ⊥

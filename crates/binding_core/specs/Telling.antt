@@ -2,6 +2,7 @@
 use Rattle.std.specs.Prelude.{◌≡◌, ◌<◌, ◌≤◌, ℕ, Bool, List, Option, Some, None, ◌==◌, ◌||◌, length, slice_index, slice_index_or, if◌then◌else◌}
 use Rattle.base_core.specs.declared.value.ColType.{ColType}
 use Rattle.base_core.specs.declared.value.ColType.TheVariants.{Integer, Text}
+use Rattle.messages_core.specs.Rows.{type_number}
 use Rattle.binding_core.specs.declared.fault.TypeFault.{TypeFault}
 use Rattle.binding_core.specs.declared.fault.TypeFault.TheVariants as faults
 
@@ -34,6 +35,20 @@ pub record AreWanted (told : List ℕ) (guessed wanted : List ColType) : Type 0 
   pub all : length wanted ≡ length guessed
   pub each : AreTold told guessed wanted
   pub no_more : length told ≤ length guessed
+
+-- the number of a place of this type in PostgreSQL's catalogue: as it was told, but for 0 and "unknown"
+abbrev pub told_number : ℕ → ColType → ℕ
+told_number oid ty = if (oid == 0) || (oid == 705) then type_number ty else oid
+
+-- these are the numbers of the first places
+abbrev pub AreNumbered : List ℕ → List ColType → List ℕ → Type 0
+AreNumbered told types numbers = (k : ℕ) → k < length numbers
+    → slice_index numbers k ≡ told_number (slice_index told k) (slice_index_or types k Text)
+
+-- these are the numbers of all places
+pub record AreNumbers (told : List ℕ) (types : List ColType) (numbers : List ℕ) : Type 0 where
+  pub all : length numbers ≡ length types
+  pub each : AreNumbered told types numbers
 
 -- the first number that is of no type
 pub record IsUnknownType (told : List ℕ) (guessed : List ColType) (oid : ℕ) : Type 0 where

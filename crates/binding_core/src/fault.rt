@@ -6,15 +6,14 @@ use parameters_core::ValueFault;
 use std::alloc::AllocFailed;
 use thiserror::Error;
 
-/// Why a statement with places is not made a line with values, or codes give no formats to the
-/// columns of a result.
+/// Why a statement with places is not made a line with values.
 #[derive(Clone, Copy, Debug, PartialEq, Eq, Error)]
 pub enum BindFault {
     /// A request for memory was refused.
     #[error("no memory")]
     NoMemory,
     /// There is not one value and one type for each place, or there are several codes of formats,
-    /// and not one for each value or column.
+    /// and not one for each value.
     #[error("wrong count")]
     WrongCount,
     /// The value for the place of this number is NULL, which no column holds.

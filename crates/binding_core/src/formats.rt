@@ -1,9 +1,8 @@
 //! Formats, by their codes.
-ghost use Rattle.std.specs.Prelude.{◌≡◌, ◌↔◌, ◌+◌, ◌<◌, ◌≤◌, ◌^◌, length, min, take, IfErr, IfOk, IsTrue, MatchOption};
+ghost use Rattle.std.specs.Prelude.{◌≡◌, ◌↔◌, ◌+◌, ◌<◌, ◌^◌, length, min, IfErr, IfOk, IsTrue, MatchOption};
 ghost use Rattle.messages_core.specs.Rows.{format_code};
-ghost use Rattle.binding_core.specs.Formats.{AreCodesFor, AreFormats, IsFormatsFault, IsUnknown, code_for, is_binary};
+ghost use Rattle.binding_core.specs.Formats.{AreCodesFor, AreFormats, IsUnknown, IsUnknownFormat, code_for, is_binary};
 
-use crate::fault::BindFault;
 use messages_core::{Format, Int16s};
 use reader_core::MAX_ITEMS;
 
@@ -61,26 +60,20 @@ pub fn is_binary(format: Format) -> bool
     matches!(format, Format::Binary)
 }
 
-/// The formats of the columns of a result, of which there are so many, by the codes that a client
-/// sends for them: none, all are text; one is for all; else each has its own. Behind these the
-/// array has Text. It takes no memory.
+/// The formats of the first columns of a result, as many as a table may have, by the codes that a
+/// client sends for them: none, all are text; one is for all; else each has its own, and those
+/// behind the last are text. It takes no memory.
 ///
-/// `WrongCount` where there are several codes, and not one for each column; else `UnknownFormat`
-/// has the first code but 0, text, and 1, binary.
-pub fn result_formats(codes: &Int16s<'_>, count: usize) -> Result<[Format; MAX_ITEMS], BindFault>
-    requires { count ≤ MAX_ITEMS }
-    ensures counted { IfOk result (λ _. AreCodesFor count codes.now) }
-    ensures formats { IfOk result (λ formats. AreFormats codes.now (take count formats)) }
-    ensures faulty { IfErr result (IsFormatsFault codes.now count) }
+/// Of a code but 0, text, and 1, binary, the error is the first such code.
+pub fn result_formats(codes: &Int16s<'_>) -> Result<[Format; MAX_ITEMS], u16>
+    ensures formats { IfOk result (AreFormats codes.now) }
+    ensures unknown { IfErr result (IsUnknownFormat codes.now) }
 {
-    if !are_codes_for(codes, count) {
-        return Err(BindFault::WrongCount);
-    }
     let mut formats = [Format::Text; MAX_ITEMS];
-    for column in 0..count {
+    for column in 0..MAX_ITEMS {
         let code = code_at(codes, column);
         let Some(format) = format_of(code) else {
-            return Err(BindFault::UnknownFormat(code));
+            return Err(code);
         };
         formats[column] = format;
     }

@@ -8,9 +8,11 @@
 //! - The type of a place is the one that the client told, or else that of the column for which the
 //!   place stands. [`place_types`] finds these: the text is filled with two numbers in each place
 //!   and read twice, and a place stands where the two statements differ. [`wanted_types`] puts the
-//!   types that were told before those.
+//!   types that were told before those, and [`told_numbers`] gives the number of each place in
+//!   PostgreSQL's catalogue, as its client told it.
 //! - [`bind`] reads each value by its type and format, and fills the text with all of them.
-//! - [`result_formats`] gives the formats of a result's columns, by codes as those of the values.
+//! - [`result_formats`] gives the formats of a result's columns, of which a table has at most 32, by
+//!   codes as those of the values.
 //!
 //! ```text
 //! // Parse, of a text that is filled with 1, 2 and so on, and again with 101, 102 and so on
@@ -53,4 +55,4 @@ pub use binding::bind;
 pub use fault::{BindFault, TypeFault};
 pub use formats::result_formats;
 pub use standing::{place_numbers, place_types};
-pub use telling::wanted_types;
+pub use telling::{told_numbers, wanted_types};

@@ -1,9 +1,10 @@
 //! The types of places, as a client tells them.
 ghost use Rattle.std.specs.Prelude.{◌≡◌, IfErr, IfOk};
-ghost use Rattle.binding_core.specs.Telling.{AreWanted, IsTypeFault, told_type};
+ghost use Rattle.messages_core.specs.Rows.{type_number};
+ghost use Rattle.binding_core.specs.Telling.{AreNumbers, AreWanted, IsTypeFault, told_number, told_type};
 
 use crate::fault::TypeFault;
-use base_core::ColType;
+use base_core::{ColType, NoMemory};
 use messages_core::Int32s;
 use std::alloc::Global;
 
@@ -47,4 +48,42 @@ pub fn wanted_types(
         return Err(TypeFault::WrongCount);
     }
     Ok(types)
+}
+
+/// The number of a type in PostgreSQL's catalogue.
+fn type_number(ty: ColType) -> u32
+    ensures { result ≡ type_number ty }
+{
+    match ty {
+        ColType::Integer => 20,
+        ColType::Text => 25,
+    }
+}
+
+/// The number of a place of this type, for which this one was told.
+fn told_number(oid: u32, ty: ColType) -> u32
+    ensures { result ≡ told_number oid ty }
+{
+    match oid {
+        0 | 705 => type_number(ty),
+        _ => oid,
+    }
+}
+
+/// The numbers of a statement's places in PostgreSQL's catalogue of types: each as it was told, and where it was
+/// told as 0 or as unknown, or not told, that of its type. `NoMemory` where a request for memory was refused.
+pub fn told_numbers(
+    alloc: Global,
+    told: &Int32s<'_>,
+    types: &[ColType],
+) -> Result<Vec<u32>, NoMemory>
+    ensures numbers { IfOk result (λ numbers. AreNumbers told.now types.now numbers.items) }
+{
+    let mut left = told.iter();
+    let mut numbers = Vec::new(alloc);
+    for ty in types {
+        let oid = left.next().unwrap_or(0);
+        numbers.push(told_number(oid, *ty))?;
+    }
+    Ok(numbers)
 }

@@ -1,5 +1,5 @@
 -- The numbers of a command line.
-use Rattle.std.specs.Prelude.{ℕ, ◌<◌, ◌≤◌, Option, IfSome}
+use Rattle.std.specs.Prelude.{◌≢◌, ℕ, ◌<◌, ◌≤◌, Option, IfSome}
 use Rattle.base_core.specs.Full.{IsFullBut}
 use Rattle.base_core.specs.declared.limits.Limits.{Limits}
 use Rattle.command_core.specs.declared.command_line.CommandLine.{CommandLine}
@@ -22,18 +22,24 @@ IsIdle idle = IfSome idle (λ seconds. (0 < seconds) × (seconds ≤ 86400))
 abbrev pub IsMostSessions : Option ℕ → Type 0
 IsMostSessions most = IfSome most (λ n. (0 < n) × (n ≤ 1000000))
 
--- the port at which sessions come in, if one is given
+-- a port at which sessions come in, if one is given
 abbrev pub IsPort : Option ℕ → Type 0
 IsPort port = IfSome port (λ p. (0 < p) × (p ≤ 65535))
+
+-- two ports, if both are given, are not the same
+abbrev pub AreApart : Option ℕ → Option ℕ → Type 0
+AreApart port other = IfSome port (λ p. IfSome other (λ q. p ≢ q))
 
 -- the moment that is asked for, if one is
 abbrev pub IsMoment : Option ℕ → Type 0
 IsMoment at = IfSome at (λ m. m ≤ 1000000000)
 
--- each number that is asked of a server is in its range
+-- each number that is asked of a server is in its range, and its two ports are apart
 abbrev pub ServesInRange : Serving → Type 0
 ServesInRange s =
     IsPort s.port
+    × IsPort s.pg_port
+    × AreApart s.port s.pg_port
     × ((0 < s.workers) × (s.workers ≤ 16))
     × (0 < s.sessions)
     × IsChunk s.chunk
@@ -42,7 +48,7 @@ ServesInRange s =
     × IsMostSessions s.max_sessions
     × (s.grace ≤ 86400)
 
--- each number that is asked for is in its range
+-- each number that is asked for is in its range, and two ports are apart
 abbrev pub IsInRange : CommandLine → Type 0
 IsInRange (asked.Run r) = IsChunk r.chunk × AreAsked r.limits
 IsInRange (asked.Journal reading) = AreAsked reading.limits

@@ -1,10 +1,11 @@
 //! What the command line says.
 ghost use Rattle.std.specs.Prelude.{◌<◌, ◌≤◌, IfOk, IfSome};
-ghost use Rattle.command_core.specs.Ranges.{AreAsked, IsChunk, IsIdle, IsMoment, IsMostSessions, IsPort, ServesInRange, IsInRange};
+ghost use Rattle.command_core.specs.Ranges.{AreApart, AreAsked, IsChunk, IsIdle, IsMoment, IsMostSessions, IsPort, ServesInRange, IsInRange};
 
 use crate::commands::program;
 use crate::reading::{Reading, limits_of, reading_of};
 use crate::users::{UserSocketWord, user_of, user_sockets_of};
+use crate::values::refused;
 use base_core::{Limits, User};
 use clap::error::ErrorKind;
 use clap::{ArgMatches, Error};
@@ -82,17 +83,19 @@ pub struct Running<'a> {
     pub audit: bool,
 }
 
-/// The sessions that are asked for: at which port, and of which address, if that is said; at which
-/// socket file, and of which mode that is; by which file of users they log in; how many, by how
-/// many threads, how many may be open at once, if that is bounded, how many records a step of the
-/// checkpointer takes, how much there may be, for how many seconds a session waits for its client,
-/// if not for ever, whether it is told where sessions begin and end, who is denied what, and when
-/// that was; from which file the first changes come, to which each change is written, to which the
-/// state is written at the end, and whether to audit then; at which control socket it may be told
-/// to stop, whether the end of standard input tells it so, and how many seconds sessions then have.
+/// The sessions that are asked for: at which port, at which one those of PostgreSQL's clients, and
+/// of which address both are, if that is said; at which socket file, and of which mode that is; by
+/// which file of users they log in; how many, by how many threads, how many may be open at once, if
+/// that is bounded, how many records a step of the checkpointer takes, how much there may be, for
+/// how many seconds a session waits for its client, if not for ever, whether it is told where
+/// sessions begin and end, who is denied what, and when that was; from which file the first changes
+/// come, to which each change is written, to which the state is written at the end, and whether to
+/// audit then; at which control socket it may be told to stop, whether the end of standard input
+/// tells it so, and how many seconds sessions then have.
 #[derive(Clone, Copy)]
 pub struct Serving<'a> {
     pub port: Option<u16>,
+    pub pg_port: Option<u16>,
     pub listen: Option<&'a str>,
     pub socket: Option<&'a str>,
     pub mode: u32,
@@ -171,11 +174,30 @@ fn grace_of(matches: &ArgMatches<'_>) -> u64
 }
 
 // clap has refused a number out of range.
-fn port_of(matches: &ArgMatches<'_>) -> Option<u16>
+fn port_of(matches: &ArgMatches<'_>, id: &str) -> Option<u16>
     ensures { IsPort result }
 {
-    let port = matches.get_one::<u16>("port")?;
+    let port = matches.get_one::<u16>(id)?;
     Some(port.max(1))
+}
+
+/// The port for PostgreSQL's clients, if one is asked for, beside this one. An error is clap's, where
+/// both are the same.
+fn pg_port_of(
+    alloc: Global,
+    matches: &ArgMatches<'_>,
+    port: Option<u16>,
+) -> Result<Option<u16>, Error>
+    ensures port { IfOk result IsPort }
+    ensures apart { IfOk result (λ pg_port. AreApart port pg_port) }
+{
+    let pg_port = port_of(matches, "pg-port");
+    match pg_port {
+        Some(both) if pg_port == port => {
+            Err(refused(alloc, both, "--pg-port <p>", "it is that of --port"))
+        }
+        _ => Ok(pg_port),
+    }
 }
 
 // clap has refused another word.
@@ -207,13 +229,16 @@ fn sessions_of(matches: &ArgMatches<'_>) -> u64
     }
 }
 
-// clap has refused a number out of range.
-fn serving_of<'a>(matches: &ArgMatches<'a>) -> Serving<'a>
-    ensures { ServesInRange result }
+// clap has refused a number out of range. An error is its own, where both ports are the same.
+fn serving_of<'a>(alloc: Global, matches: &ArgMatches<'a>) -> Result<Serving<'a>, Error>
+    ensures { IfOk result ServesInRange }
 {
     let workers = matches.get_one::<u8>("workers").unwrap_or(WORKERS);
-    Serving {
-        port: port_of(matches),
+    let port = port_of(matches, "port");
+    let pg_port = pg_port_of(alloc, matches, port)?;
+    Ok(Serving {
+        port,
+        pg_port,
         listen: matches.get_str("listen"),
         socket: matches.get_str("socket"),
         mode: mode_of(matches),
@@ -234,7 +259,7 @@ fn serving_of<'a>(matches: &ArgMatches<'a>) -> Serving<'a>
         control: matches.get_str("control"),
         until_eof: matches.get_flag("until-eof"),
         grace: grace_of(matches),
-    }
+    })
 }
 
 fn running_of<'a>(matches: &ArgMatches<'a>) -> Running<'a>
@@ -346,21 +371,22 @@ fn control_of<'a>(matches: &ArgMatches<'a>) -> Option<CommandLine<'a>>
 }
 
 /// Reads the words of a command line, of which the first is the name of the program. Each number is
-/// in its range: the chunk from 1 to 64, and 16 where none is given; the port, if one is given,
-/// from 1 to 65,535; the workers from 1 to 16, and 4 where none are given; the sessions from 1 to
-/// 1,000,000,000, and 2^64 - 1 where none are given, so that there is no end to them; the changes
-/// from 1 to 1,000,000,000, and 1,000,000 where none are given; the seconds of an idle session, if
-/// they are given, from 1 to 86,400; the sessions that may be open at once, if that is given, from 1
-/// to 1,000,000; the moment of an explanation, if it is given, from 0 to 1,000,000,000; the seconds of grace from 0 to 86,400, and 10 where none are given. An error is
+/// in its range: the chunk from 1 to 64, and 16 where none is given; the ports, if they are given,
+/// from 1 to 65,535, and never the same; the workers from 1 to 16, and 4 where none are given; the
+/// sessions from 1 to 1,000,000,000, and 2^64 - 1 where none are given, so that there is no end to
+/// them; the changes from 1 to 1,000,000,000, and 1,000,000 where none are given; the seconds of an
+/// idle session, if they are given, from 1 to 86,400; the sessions that may be open at once, if that
+/// is given, from 1 to 1,000,000; the moment of an explanation, if it is given, from 0 to
+/// 1,000,000,000; the seconds of grace from 0 to 86,400, and 10 where none are given. An error is
 /// clap's: the words were refused, help or the version was asked for, or there was no memory. Words
-/// are also refused where one that is to name a user names none.
+/// are also refused where one that is to name a user names none, and where both ports are the same.
 pub fn options<'a, S: AsStr>(alloc: Global, words: &'a [S]) -> Result<CommandLine<'a>, Error>
     ensures { IfOk result IsInRange }
 {
     let matches = program(alloc)?.try_get_matches_from(words)?;
     if let Some(serve) = matches.subcommand_matches("serve") {
         let sockets = user_sockets_of(alloc, serve)?;
-        return Ok(CommandLine::Serve(serving_of(serve), sockets));
+        return Ok(CommandLine::Serve(serving_of(alloc, serve)?, sockets));
     }
     if let Some(control) = control_of(&matches) {
         return Ok(control);

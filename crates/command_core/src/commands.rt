@@ -180,16 +180,26 @@ fn port_arg<'a>(alloc: Global) -> Arg<'a> {
     )
 }
 
+fn pg_port_arg<'a>(alloc: Global) -> Arg<'a> {
+    let help =
+        "The port at which it listens for PostgreSQL's clients: another one than that of --port, \
+        beside it or without it";
+    taking(
+        value_arg(alloc, "pg-port", "p", help),
+        clap::value_parser!(u16).range(1..=65535),
+    )
+}
+
 fn listen_arg<'a>(alloc: Global) -> Arg<'a> {
     let help =
-        "The address of the port: 127.0.0.1, where it is not given, and another one only with \
+        "The address of the ports: 127.0.0.1, where it is not given, and another one only with \
         --users";
     value_arg(alloc, "listen", "ADDRESS", help)
 }
 
 fn socket_arg<'a>(alloc: Global) -> Arg<'a> {
     let help =
-        "Makes a socket file at this place, and listens at it, beside the port or without one";
+        "Makes a socket file at this place, and listens at it, beside the ports or without one";
     value_arg(alloc, "socket", "FILE", help)
 }
 
@@ -320,6 +330,7 @@ fn serve_command<'a>(alloc: Global) -> Made<'a> {
     let about = "Serves sessions over TCP and at a socket file";
     let made = command(alloc, "serve", about, FORM_OF_A_SESSION);
     let made = with(made, port_arg(alloc));
+    let made = with(made, pg_port_arg(alloc));
     let made = with(made, listen_arg(alloc));
     let made = with(made, socket_arg(alloc));
     let made = with(made, mode_arg(alloc));

@@ -9,9 +9,9 @@
 //! was cut off, and whether the status tells of lines that were left out. [`refuse`] shows the help
 //! that was asked for, or tells why the words were refused.
 //!
-//! **The contract** of `options`: each number that is asked for is in its range
-//! (`specs/Ranges.antt`), so that no command has to look again. What the words and the errors look
-//! like is clap's. That each flag of a reading is read is tested.
+//! **The contract** of `options`: each number that is asked for is in its range, and two ports are
+//! apart (`specs/Ranges.antt`), so that no command has to look again. What the words and the errors
+//! look like is clap's. That each flag of a reading is read is tested.
 //!
 //! ```text
 //! options(alloc, &["sysr", "run", "--chunk", "4"])?   // Run(Running { chunk: 4, load: None, .. })
@@ -29,6 +29,7 @@ mod explain_commands;
 mod reading;
 mod reading_flags;
 mod users;
+mod values;
 
 pub use command_line::{CommandLine, Explaining, Running, Serving, StatusForm, options, refuse};
 pub use commands::VERSION;

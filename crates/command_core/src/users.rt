@@ -3,9 +3,8 @@ ghost use Rattle.std.specs.Prelude.{◌≡◌, Some, IfOk, IfSome};
 ghost use Rattle.base_core.specs.Words.{name_of};
 ghost use Rattle.command_core.specs.Words.{SaysUserSocket};
 
-use crate::commands::program;
+use crate::values::refused;
 use base_core::{Name, User};
-use clap::error::ErrorKind;
 use clap::{ArgMatches, Error};
 use std::alloc::{AllocError, Global};
 
@@ -14,19 +13,6 @@ use std::alloc::{AllocError, Global};
 pub struct UserSocketWord {
     pub user: User,
     pub path: String,
-}
-
-fn no_value(alloc: Global, value: &str, of: &str, why: &str) -> Result<Error, AllocError> {
-    let text = format!(in alloc; "invalid value '{value}' for '{of}': {why}")?;
-    program(alloc)?.error(ErrorKind::ValueValidation, text.as_str())
-}
-
-// Why a value is refused, as clap says it of others.
-fn refused(alloc: Global, value: &str, of: &str, why: &str) -> Error {
-    match no_value(alloc, value, of, why) {
-        Ok(error) => error,
-        Err(no_memory) => Error::from(no_memory),
-    }
 }
 
 /// The user whom a word names, in any case. An error is clap's, where it names none.

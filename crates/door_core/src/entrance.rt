@@ -30,7 +30,7 @@ const EOPNOTSUPP: i32 = 95;
 /// From where a client came.
 #[derive(Clone, Copy)]
 pub enum Peer {
-    /// From this address, to a port.
+    /// From this address, to one of the ports.
     Address(SocketAddr),
     /// From this machine, to a socket file.
     Local,
@@ -55,18 +55,19 @@ pub(crate) enum Missed {
     Failed,
 }
 
-/// Where clients come in: at a port, at a socket file, and at sockets of single users. Who comes at
-/// one of these is that user; others have to log in, if there is a login. Contracts see whether
-/// there is, and the users of the sockets.
+/// Where clients come in: at a port, at one for PostgreSQL's clients, at a socket file, and at sockets
+/// of single users. Who comes at one of these sockets is that user; others have to log in, if there is
+/// a login. Contracts see whether there is, and the users of the sockets.
 #[derive(Drop)]
 pub struct Entrance {
     port: Option<TcpListener>,
+    pg_port: Option<TcpListener>,
     file: Option<UnixListener>,
     sockets: Vec<UserSocket>,
     login: Option<Login>,
     // A supervisor has opened them, and lets clients wait there when no server takes them.
     is_lent: bool,
-    // How often it looked for a client. It looks at the listeners by turns.
+    // How often it looked for a client. It begins at each of the places in turn.
     looks: AtomicU64,
     // Once the bell is shut, everyone who waits here is woken.
     bell: UnixStream,
@@ -75,6 +76,9 @@ pub struct Entrance {
     listeners: Readiness,
     readiness: Readiness,
 }
+
+// The ports, the socket file, and the users' sockets together.
+const PLACES: u64 = 4;
 
 // The numbers of the listeners together and of the ear. Those of sessions are below.
 const DOOR: u64 = u64::MAX;
@@ -183,18 +187,26 @@ fn done(is_done: bool) -> io::Result<()> {
     }
 }
 
-/// Has no call at these listeners wait, and waits for all of them together.
-fn watch_all<N: Net>(
-    net: &N,
-    port: &Option<TcpListener>,
-    file: &Option<UnixListener>,
-    sockets: &[UserSocket],
-) -> io::Result<Readiness> {
-    let listeners = Readiness::new(net)?;
+/// Has no call at this port wait, and waits for it too, if there is one.
+fn watch_port(listeners: &Readiness, port: &Option<TcpListener>) -> io::Result<()> {
     if let Some(port) = port {
         port.set_nonblocking(true)?;
         done(listeners.add_for_all(port.as_raw_fd(), DOOR))?;
     }
+    Ok(())
+}
+
+/// Has no call at these listeners wait, and waits for all of them together.
+fn watch_all<N: Net>(
+    net: &N,
+    port: &Option<TcpListener>,
+    pg_port: &Option<TcpListener>,
+    file: &Option<UnixListener>,
+    sockets: &[UserSocket],
+) -> io::Result<Readiness> {
+    let listeners = Readiness::new(net)?;
+    watch_port(&listeners, port)?;
+    watch_port(&listeners, pg_port)?;
     if let Some(file) = file {
         file.set_nonblocking(true)?;
         done(listeners.add_for_all(file.as_raw_fd(), DOOR))?;
@@ -213,6 +225,7 @@ impl Entrance {
     pub fn new<N: Net>(
         net: &N,
         port: Option<TcpListener>,
+        pg_port: Option<TcpListener>,
         file: Option<UnixListener>,
         sockets: Vec<UserSocket>,
         login: Option<Login>,
@@ -223,7 +236,7 @@ impl Entrance {
           sockets = map (λ s. s.user) sockets.items;
         }) }
     {
-        let listeners = watch_all(net, &port, &file, sockets.as_slice())?;
+        let listeners = watch_all(net, &port, &pg_port, &file, sockets.as_slice())?;
         let (bell, ear) = UnixStream::pair(net)?;
         let alarm = Alarm::new(net)?;
         let readiness = Readiness::new(net)?;
@@ -231,6 +244,7 @@ impl Entrance {
         done(readiness.add_for_all(ear.as_raw_fd(), EAR))?;
         Ok(Entrance {
             port,
+            pg_port,
             file,
             sockets,
             login,
@@ -257,6 +271,7 @@ impl Entrance {
         // What is closed already takes no client either.
         if !self.is_lent {
             let _ = libc::net::shutdown(descriptor(&self.port), SHUT_RDWR);
+            let _ = libc::net::shutdown(descriptor(&self.pg_port), SHUT_RDWR);
             let _ = libc::net::shutdown(descriptor(&self.file), SHUT_RDWR);
         }
         for socket in self.sockets.iter() {
@@ -296,14 +311,15 @@ impl Entrance {
         let _ = self.readiness.again(descriptor, Interest::Input, DOOR);
     }
 
-    fn look_at(&self, turn: u64) -> Result<Came, Missed>
+    fn look_at(&self, place: u64) -> Result<Came, Missed>
         ensures { IfOk result
             (λ came. IfSome came.user (λ user. Contains self.now.sockets user)) }
     {
-        match (turn, &self.file) {
+        match (place, &self.file) {
             (0, _) => at_port(&self.port),
-            (1, Some(file)) => at_file(file, None),
-            (1, None) => Err(Missed::Nobody),
+            (1, _) => at_port(&self.pg_port),
+            (2, Some(file)) => at_file(file, None),
+            (2, None) => Err(Missed::Nobody),
             _ => at_sockets(self.sockets.as_slice()),
         }
     }
@@ -313,9 +329,9 @@ impl Entrance {
         ensures { IfOk result
             (λ came. IfSome came.user (λ user. Contains self.now.sockets user)) }
     {
-        let first = self.looks.fetch_add(1, Ordering::SeqCst) % 3;
-        for turn in 0..3 {
-            match self.look_at((first + turn) % 3) {
+        let first = self.looks.fetch_add(1, Ordering::SeqCst) % PLACES;
+        for turn in 0..PLACES {
+            match self.look_at((first + turn) % PLACES) {
                 Err(Missed::Nobody) => {}
                 tried => return tried,
             }

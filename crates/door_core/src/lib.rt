@@ -1,10 +1,10 @@
 //! How clients come in at a server, and what is told of them.
 //!
-//! An [`Entrance`] is where they come in: a port, a socket file, and socket files of single users.
-//! It stands for whether clients have to log in, and for the users who have sockets of their own. A
-//! [`Door`] stands for how many sessions were taken, how many are wanted, and why no more is taken.
-//! How a session comes by its user is a matter of the entrance: where it has a [`Login`], he logs
-//! in, unless he comes at a [`UserSocket`] of his own (`specs/Entrance.antt`).
+//! An [`Entrance`] is where they come in: a port, one for PostgreSQL's clients, a socket file, and
+//! socket files of single users. It stands for whether clients have to log in, and for the users who
+//! have sockets of their own. A [`Door`] stands for how many sessions were taken, how many are wanted,
+//! and why no more is taken. How a session comes by its user is a matter of the entrance: where it has
+//! a [`Login`], he logs in, unless he comes at a [`UserSocket`] of his own (`specs/Entrance.antt`).
 //!
 //! **The one contract** is that of [`Door::admit`] and [`Door::served`] together. A client is let in
 //! only while the door is open. His session comes by its user as those of the entrance do, it has
@@ -13,7 +13,7 @@
 //! it is the one that was asked for, or the server was stopped (`specs/Door.antt`).
 //!
 //! ```text
-//! let entrance = Entrance::new(&rt, Some(port), None, sockets, login, false)?;
+//! let entrance = Entrance::new(&rt, Some(port), None, None, sockets, login, false)?;
 //! let (book, mut token) = blank.open::<L>();
 //! let mut door = Door::new(100, book);
 //! door.admit(&rt, &entrance, &mut token)?.client.number          // 1
@@ -35,7 +35,7 @@
 //! asked for anew. The listeners are in a set of their own, which is one descriptor of the first.
 //! Once the entrance is rung, everyone who waits is woken for good.
 //!
-//! **No look for a client waits.** It goes over the port, the file and the users' sockets by turns.
+//! **No look for a client waits.** It goes over the ports, the file and the users' sockets by turns.
 //! Where a listener itself is gone, the door is shut; of any other accept that fails a later one may
 //! come to something. Behind the last session that is wanted the entrance is closed, so that who
 //! connects is refused. Listeners that a supervisor has lent stay open: who connects then waits for

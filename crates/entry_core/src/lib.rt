@@ -1,4 +1,4 @@
-//! How a session of PostgreSQL's messages begins, and by what right it is its user's. No program uses it yet.
+//! How a session of PostgreSQL's messages begins, and by what right it is its user's.
 //!
 //! What a client sends first names a user: [`user_named`] says which. What comes of it hangs on how sessions
 //! come by their users: by the [`Entry`] of [`entry_of`] he is welcome, has to log in, or may not come in. A

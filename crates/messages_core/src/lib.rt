@@ -1,4 +1,4 @@
-//! Messages of PostgreSQL's protocol 3.0: bytes to messages and back, exactly. No program uses it yet.
+//! Messages of PostgreSQL's protocol 3.0: bytes to messages and back, exactly.
 //!
 //! What came from a client is read by [`read_start`], as long as no session has begun, and then by
 //! [`read_message`]. Each is given all bytes that have come and are not yet read, and says what stands

@@ -46,6 +46,7 @@ command_tag commands.Set = Some (codes "SET")
 command_tag commands.UnknownSetting = None
 command_tag (commands.Show setting) = Some (codes "SHOW")
 command_tag (commands.Deallocate token) = Some (codes "DEALLOCATE")
+command_tag commands.DeallocateUnderscored = Some (codes "DEALLOCATE")
 command_tag commands.DeallocateAll = Some (codes "DEALLOCATE ALL")
 command_tag commands.DiscardAll = Some (codes "DISCARD ALL")
 command_tag commands.ResetAll = Some (codes "RESET")

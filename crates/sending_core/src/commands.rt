@@ -132,6 +132,7 @@ pub(crate) fn write_command_tag<W: Sink>(command: Command, writer: &mut W) -> Re
         Command::Set => write_tag(b"SET", writer),
         Command::Show(_) => write_tag(b"SHOW", writer),
         Command::Deallocate(_) => write_tag(b"DEALLOCATE", writer),
+        Command::DeallocateUnderscored => write_tag(b"DEALLOCATE", writer),
         Command::DeallocateAll => write_tag(b"DEALLOCATE ALL", writer),
         Command::DiscardAll => write_tag(b"DISCARD ALL", writer),
         Command::ResetAll => write_tag(b"RESET", writer),

@@ -1,4 +1,4 @@
-//! What a session in PostgreSQL's messages has still to send, written a part at a time. No program uses it yet.
+//! What a session in PostgreSQL's messages has still to send, written a part at a time.
 //!
 //! A session looks at a message of a client and says what is to be sent: it pushes items into a
 //! [`Sending`], and writes nothing itself. [`Sending::go_on`] writes the first of them, or some of it, and

@@ -2,6 +2,7 @@
 ghost use Rattle.std.specs.Prelude.{◌≡◌, ◌↔◌, ◌+◌, ◌<◌, ◌≤◌, ◌++◌, [], ◌∷◌, false, true, length, IfErr, IfNone, IsErr, IsTrue, MatchResult, OnErr, OnOk};
 ghost use Rattle.std.specs.Option.{option_to_list};
 ghost use Rattle.base_core.specs.Streams.{Writes, WritesFrontOf};
+ghost use Rattle.sending_core.specs.Queue.{capacity};
 ghost use Rattle.sending_core.specs.Owing.{count_owed, IsOwed, lefts_behind, put_left, queue_behind, SendsPart};
 
 use crate::item::{Item, write_item};
@@ -112,7 +113,7 @@ impl Sending {
         requires { 0 < self.old.room }
         ensures items { self.new.items ≡ queue_behind progress place self.old.items }
         ensures lefts { lefts.new ≡ lefts_behind progress place lefts.old }
-        ensures room { self.old.room ≤ self.new.room + 1 }
+        ensures capacity { capacity self.new ≡ capacity self.old }
     {
         match progress {
             Progress::Whole => put_left(lefts, place, None),
@@ -147,7 +148,7 @@ impl Sending {
             (W.taken writer.old) (W.taken writer.new)) }
         ensures progress { OnOk result (0 < length self.old.items
             → count_owed self.new.items < count_owed self.old.items) }
-        ensures room { self.old.room ≤ self.new.room }
+        ensures capacity { capacity self.new ≡ capacity self.old }
         ensures places { length lefts.new ≡ length lefts.old }
         ensures err { OnErr result (WritesFrontOf (IsOwed self.old.items lefts.old)
             (W.taken writer.old) (W.taken writer.new)) }

@@ -41,17 +41,23 @@ pub(crate) fn has_room(connection: &Connection, gathered: &mut Vec<u8>) -> Optio
 }
 
 /// What comes of a session that has ended so: where it was logging in, and its client has said who he is, his
-/// login was refused.
+/// login was refused. What it owes then is that one message, which is written.
 fn ended<K: Keeper + Drop, I: Instance<K>>(
     was_logging_in: bool,
     summary: Summary,
     claimed: Option<Name>,
     owed: Option<Owing<K, I>>,
+    speech: &mut Speech,
 ) -> Spoken<K, I> {
-    if was_logging_in && summary.user.is_none() && claimed.is_some() {
-        return Spoken::Refused(claimed);
+    if !was_logging_in || summary.user.is_some() || claimed.is_none() {
+        return Spoken::Ended(summary, owed);
     }
-    Spoken::Ended(summary, owed)
+    if let Some(owing) = owed {
+        let Speech { output, scratch } = speech;
+        let mut writer = Unbuffered::new(Outbox::new(output));
+        let _ = owing.go_on(scratch, &mut writer);
+    }
+    Spoken::Refused(claimed)
 }
 
 /// Goes on with the reply that a session owes.
@@ -132,7 +138,7 @@ pub(crate) fn converse<K: Keeper + Drop, I: Instance<K>, R: Wait, G: Witness>(
                 summary,
                 claimed,
                 owed,
-            } => return ended(was_logging_in, summary, claimed, owed),
+            } => return ended(was_logging_in, summary, claimed, owed, speech),
         }
     }
     unreachable!()

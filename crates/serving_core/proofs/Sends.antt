@@ -32,6 +32,8 @@ use Rattle.reply_core.proofs.pending.Pending.TheSendSync as pendings
 use Rattle.session_core.proofs.summary.Summary.TheSendSync as summaries
 use Rattle.session_core.proofs.admission.Admission.TheSendSync as admissions
 use Rattle.session_core.specs.contracts.parked.Parked as Parked
+use Rattle.wire_core.proofs.client.Client.TheSendSync as clients
+use Rattle.wire_core.specs.contracts.wire_session.WireSession as WireSession
 use Rattle.session_core.specs.declared.session_machine.SessionMachine as machine
 use Rattle.server_core.specs.declared.instance.Instance as instance
 use Rattle.server_core.specs.contracts.instance.AtSite as AtSite
@@ -61,6 +63,11 @@ pub parked_send : (K : RattleType) (k : keeper.Ghosts K.Denot) → IsSend K → 
 parked_send K k s =
     let core = core_send K k s in
     search (sendable, crosses, notes.the_send, feedings.the_send, beginnings.the_send, pendings.the_send, users.the_send, moments.the_send) depth 60 fits 20000
+
+pub wire_send : (K : RattleType) (k : keeper.Ghosts K.Denot) → IsSend K → IsSend (WireSession.the_row K k)
+wire_send K k s =
+    let core = core_send K k s in
+    search (sendable, crosses, notes.the_send, clients.the_send) depth 60 fits 20000
 
 pub at_site_send : (S M : RattleType) → IsSend S → IsSend M → IsSend (AtSite.the_row S M)
 at_site_send S M s m = search (sendable, crosses) depth 60 fits 20000

@@ -1,4 +1,5 @@
 pub mod Promises
+pub mod Protocols
 pub mod Rightful
 pub use Rattle.base_core.specs.Full
 pub use Rattle.system_core.specs.World

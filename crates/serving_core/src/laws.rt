@@ -7,9 +7,9 @@ ghost use Rattle.lines_core.specs.Lines.{IsWhole};
 ghost use Rattle.journal_core.specs.Keeping.{LineKeeperState, line_rules};
 ghost use Rattle.desk_core.specs.Guarded.{origin_at};
 ghost use Rattle.desk_core.specs.Kept.{HasKept};
-ghost use Rattle.session_core.specs.Parking.{SpeaksLines};
 ghost use Rattle.door_core.specs.Entrance.{Admittance};
 ghost use Rattle.server_core.specs.Sessions.{Leaves};
+ghost use Rattle.serving_core.specs.Protocols.{SpeaksServed};
 ghost use Rattle.serving_core.specs.Rightful.{IsByRight};
 ghost use Rattle.load_core.specs.Kept.{CanBeLoadedBehind};
 ghost use Rattle.load_core.specs.Loading.{Loads, lines_unmarked, without_pass};
@@ -24,7 +24,7 @@ use session_core::SessionMachine;
 pub fn gone_on_server_is_kept<W: Sink>()
     ensures { (by : Admittance) (workers sessions : ℕ) (start world : World) (old : List ℕ)
         (begun keeper : LineKeeperState W)
-        → Leaves SpeaksLines by workers sessions begun start world
+        → Leaves SpeaksServed by workers sessions begun start world
         → HasKept (line_rules W.taken W.handed_on) (origin_at start begun) world.journal keeper
         → keeper.owed ≡ None
         → IsWhole old

@@ -24,7 +24,8 @@
 //! which went through the passes.
 //!
 //! The threads go on with sessions of any [`SessionMachine`](session_core::SessionMachine). Only
-//! [`serve_on`] names one, [`Parked`](session_core::Parked): its sessions are of lines.
+//! [`serve_on`] names one: its sessions are of lines or of PostgreSQL's messages, each as its client's
+//! first byte says (`specs/Protocols.antt`).
 //!
 //! # Cost
 //!

@@ -4,15 +4,16 @@ ghost use Rattle.turnstile.specs.Closed.{AreAll};
 ghost use Rattle.desk_core.specs.Guarded.{origin_of, origin_at};
 ghost use Rattle.desk_core.specs.Kept.{HasKept};
 ghost use Rattle.desk_core.specs.Turns.{Ended};
-ghost use Rattle.session_core.specs.Parking.{SpeaksLines};
 ghost use Rattle.server_core.specs.Sessions.{IsOf, IsOfInstance, IsNew, AreServers, Leaves};
 ghost use Rattle.load_core.specs.Ready.{IsReady};
+ghost use Rattle.serving_core.specs.Protocols.{SpeaksServed};
 
 use crate::dealing::{gathered, workers_of};
 use crate::threads::serve_all;
 use base_core::Moment;
 use desk_core::{Desk, Pass};
 use door_core::{Door, Entrance, Log, Manners, ServeFault, SharedLog, Taken};
+use either_core::EitherSession;
 use journal_core::Keeper;
 use server_core::{AtSite, Control, Service, Site};
 use session_core::{Parked, SessionMachine};
@@ -28,6 +29,7 @@ use std::thread;
 use std::thread::Threads;
 use std::time::Clock;
 use system_core::System;
+use wire_core::WireSession;
 
 /// How many processors the threads may use: one, where that is not known.
 fn processors<R: Threads>(rt: &R) -> usize {
@@ -278,7 +280,7 @@ where
     ensures count { IfOk result
         (λ served. served.taken.stopped ≡ false → served.taken.sessions ≡ sessions) }
     ensures leaves { IfOk result
-        (λ served. Leaves SpeaksLines entrance.now workers served.taken.sessions keeper system
+        (λ served. Leaves SpeaksServed entrance.now workers served.taken.sessions keeper system
         served.system) }
     ensures kept { IfOk result (λ served. HasKept K.Keeper (origin_at system keeper)
         served.system.journal served.keeper) }
@@ -291,7 +293,7 @@ where
         times: manners.times,
     };
     let blank = Blank::new(workers as u64 + 1);
-    serve_sessions::<K, Brand, Parked<K>, R, SharedLog<'_, W>, C>(
+    serve_sessions::<K, Brand, EitherSession<K, Parked<K>, WireSession<K>>, R, SharedLog<'_, W>, C>(
         rt, alloc, blank, entrance, workers, sessions, system, keeper, manners, &log, control,
     )
 }

@@ -59,15 +59,15 @@ gains_for (Some user) old met new w g = Gains-trans user old met new (Watches-ga
 gains_for None old met new w same = subst (Watches old) (sym same) w
 
 module _ {K : Type 0} (desk : DeskLock K) where
-  sees_itself : (pass : DeskPass K) → pass.lock ≡ Some desk → SeesNoLess desk pass pass
+  pub sees_itself : (pass : DeskPass K) → pass.lock ≡ Some desk → SeesNoLess desk pass pass
   sees_itself pass is = (is, ([], sym (append-nil pass.seen)), omega arith)
 
   -- a pass that has met the note has seen no less than the session
-  noted_sees : (last met : DeskPass K) (note : Option (DeskNote K)) → NotesNoLess desk last note → Meets met note → met.lock ≡ Some desk → SeesNoLess desk last met
+  pub noted_sees : (last met : DeskPass K) (note : Option (DeskNote K)) → NotesNoLess desk last note → Meets met note → met.lock ≡ Some desk → SeesNoLess desk last met
   noted_sees last met (Some note) n m is = (is, starts_through last.seen note.seen met.seen n.1 m.0, omega (arith, n.2, m.1))
   noted_sees last met None n m is = (is, (met.seen, sym (ap (λ z. z ++ met.seen) n.0)), omega (arith, n.1))
 
-  seen_noted : (last after : DeskPass K) (note : Option (DeskNote K)) → note ≡ Some (pass_note desk after) → SeesNoLess desk last after → NotesNoLess desk last note
+  pub seen_noted : (last after : DeskPass K) (note : Option (DeskNote K)) → note ≡ Some (pass_note desk after) → SeesNoLess desk last after → NotesNoLess desk last note
   seen_noted last after note is sees = subst (NotesNoLess desk last) (sym is) (refl, sees.1, sees.2)
 
   module _ (admission : Admission) where

@@ -1,10 +1,9 @@
 //! A session of lines that is parked between two pieces of what its client sends.
-ghost use Rattle.std.specs.Prelude.{◌≡◌, Some, IfSome};
-ghost use Rattle.session_core.specs.Gains.{Watches};
-ghost use Rattle.session_core.specs.Parking.{Meets};
+ghost use Rattle.std.specs.Prelude.{◌≡◌};
 
 use crate::admission::Admission;
 use crate::answering::Session;
+use crate::meeting::meet;
 use crate::scratch::Scratch;
 use crate::session::end_of;
 use crate::session_machine::SessionMachine;
@@ -52,18 +51,6 @@ impl<K: Keeper + Drop> Model for Parked<K> {
       owed = p.owed;
       note = p.note;
     } };
-}
-
-/// From now on the pass has seen what the note tells too, if there is one.
-fn meet<K: Keeper + Drop>(desk: &Desk<K>, pass: &mut Pass<K>, note: Option<Note<K>>)
-    requires pass { pass.old.lock ≡ Some desk.now }
-    requires note { IfSome note (λ n. n.lock ≡ Some desk.now) }
-    ensures watches { Watches pass.old pass.new }
-    ensures met { Meets pass.new note }
-{
-    if let Some(note) = note {
-        desk.meet(pass, note);
-    }
 }
 
 /// What is told of a session by its lines.

@@ -9,8 +9,8 @@ use std::alloc::Global;
 /// behind a call means nothing: a worker lends it to one session after another.
 #[derive(Drop)]
 pub struct Scratch {
-    pub(crate) tokens: Vec<Token>,
-    pub(crate) buffer: ReplyBuffer,
+    pub tokens: Vec<Token>,
+    pub buffer: ReplyBuffer,
 }
 
 impl Scratch {

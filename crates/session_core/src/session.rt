@@ -180,7 +180,7 @@ impl<'a, K: Keeper + Drop, R: Wait, G: Witness> LineServer for Session<'a, K, R,
 }
 
 /// How a session ended of which a reply was withheld or not, and whose lines were answered so.
-pub(crate) fn end_of(unkept: bool, served: Result<(), SessionFault>) -> Result<(), SessionEnd>
+pub fn end_of(unkept: bool, served: Result<(), SessionFault>) -> Result<(), SessionEnd>
     ensures { result ≡ end_of unkept served }
 {
     if unkept {

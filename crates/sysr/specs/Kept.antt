@@ -8,9 +8,9 @@ use Rattle.journal_core.specs.declared.keeper.NoKeeper.{NoKeeper}
 use Rattle.script_core.specs.Keeping.{EndsKeptFrom}
 use Rattle.desk_core.specs.Guarded.{origin_at}
 use Rattle.desk_core.specs.Kept.{HasKept}
-use Rattle.session_core.specs.Parking.{SpeaksLines}
 use Rattle.door_core.specs.Entrance.{Admittance}
 use Rattle.server_core.specs.Sessions.{Leaves}
+use Rattle.serving_core.specs.Protocols.{SpeaksServed}
 use Rattle.command_core.specs.declared.users.UserSocketWord.{UserSocketWord}
 use Rattle.sysr.specs.declared.loading.Start.{Start}
 use Rattle.sysr.specs.declared.keeping.Kept.{Kept}
@@ -63,11 +63,11 @@ module _ {W : Type 0} (taken handed_on : W → Option (List ℕ)) where
   abbrev pub IsServed : Admittance → (workers sessions : ℕ) → Start W → Kept W → Type 0
   IsServed admittance workers sessions start (places.Nowhere ended) =
       (start.journal ≡ None)
-      × Leaves SpeaksLines admittance workers sessions nobody start.system ended.system
+      × Leaves SpeaksServed admittance workers sessions nobody start.system ended.system
   IsServed admittance workers sessions start (places.Lines ended) =
       (sink : W)
       × (start.journal ≡ Some sink)
-      × Leaves SpeaksLines admittance workers sessions (owing_nothing sink) start.system
+      × Leaves SpeaksServed admittance workers sessions (owing_nothing sink) start.system
       ended.system
       × HasKept (line_rules taken handed_on) (origin_at start.system (owing_nothing sink))
       ended.system.journal ended.keeper

@@ -4,7 +4,7 @@ ghost use Rattle.std.specs.Option.{is_some};
 ghost use Rattle.sysr.specs.Kept.{admittance_of};
 
 use crate::lent::{Listeners, lent_listeners};
-use crate::places::{Place, place_of, refuse};
+use crate::places::{Place, Places, places_of, refuse};
 use crate::socket_files;
 use command_core::{Serving, UserSocketWord};
 use door_core::{Entrance, Login, UserSocket};
@@ -21,10 +21,11 @@ fn check(
     sockets: &[UserSocketWord],
     is_lent: bool,
 ) -> Result<(), ExitCode> {
-    if is_lent || asked.port.is_some() || asked.socket.is_some() || !sockets.is_empty() {
+    let has_port = asked.port.is_some() || asked.pg_port.is_some();
+    if is_lent || has_port || asked.socket.is_some() || !sockets.is_empty() {
         return Ok(());
     }
-    let why = "serve needs --port, --socket, --user-socket, or a socket of a supervisor";
+    let why = "serve needs --port, --pg-port, --socket, --user-socket, or a socket of a supervisor";
     Err(refuse(host, why))
 }
 
@@ -35,14 +36,21 @@ fn told(host: &HostRuntime, written: std::io::Result<()>) -> Result<(), ExitCode
     }
 }
 
-/// Listens there, and says so.
-fn port_at(host: &HostRuntime, place: Place) -> Result<TcpListener, ExitCode> {
+/// Listens there, if that is asked for, and says so, and for whom.
+fn port_at(
+    host: &HostRuntime,
+    place: Option<Place>,
+    for_whom: &str,
+) -> Result<Option<TcpListener>, ExitCode> {
+    let Some(place) = place else {
+        return Ok(None);
+    };
     let Ok(listener) = TcpListener::bind(host, (place.address, place.port)) else {
         let _ = eprintln!(host; "sysr: cannot listen on {place}");
         return Err(ExitCode::FAILURE);
     };
-    told(host, println!(host; "listening on {place}"))?;
-    Ok(listener)
+    told(host, println!(host; "listening on {place}{for_whom}"))?;
+    Ok(Some(listener))
 }
 
 /// Listens at a socket file, and says so.
@@ -81,21 +89,23 @@ fn user_sockets_at(
     Ok(sockets)
 }
 
-/// The listeners that are asked for, of which the port's is to be there.
+/// The listeners that are asked for, of which the ports' are to be there.
 fn listeners_of(
     host: &HostRuntime,
     asked: Serving<'_>,
-    place: Option<Place>,
+    places: Places,
 ) -> Result<Listeners, ExitCode> {
-    let port = match place {
-        Some(place) => Some(port_at(host, place)?),
-        None => None,
-    };
+    let port = port_at(host, places.port, "")?;
+    let pg_port = port_at(host, places.pg_port, " for PostgreSQL's clients")?;
     let file = match asked.socket {
         Some(path) => Some(file_at(host, path, asked.mode)?),
         None => None,
     };
-    Ok(Listeners { port, file })
+    Ok(Listeners {
+        port,
+        pg_port,
+        file,
+    })
 }
 
 fn entrance_at(
@@ -110,8 +120,12 @@ fn entrance_at(
       sockets = map (λ s. s.user) sockets.items;
     }) }
 {
-    let Listeners { port, file } = listeners;
-    match Entrance::new(host, port, file, sockets, login, is_lent) {
+    let Listeners {
+        port,
+        pg_port,
+        file,
+    } = listeners;
+    match Entrance::new(host, port, pg_port, file, sockets, login, is_lent) {
         Ok(entrance) => Ok(entrance),
         Err(_) => {
             let _ = eprintln!(host; "sysr: cannot listen");
@@ -128,7 +142,7 @@ pub struct Opened<'a> {
 }
 
 /// Where clients come in: at the listeners of a supervisor, where it has opened some for this
-/// process, and else at the port and the socket file that are asked for; and at socket files of
+/// process, and else at the ports and the socket file that are asked for; and at socket files of
 /// users' own. It says where it listens. The error is the status, where it cannot, which is told.
 pub fn entrance_of<'a>(
     host: &HostRuntime,
@@ -142,13 +156,13 @@ pub fn entrance_of<'a>(
 {
     let lent = lent_listeners(host);
     check(host, asked, sockets, lent.is_some())?;
-    let place = place_of(host, asked)?;
+    let places = places_of(host, asked)?;
     let (listeners, made, is_lent) = match lent {
         Some(lent) => {
             told(host, println!(host; "listening where the supervisor does"))?;
             (lent, None, true)
         }
-        None => (listeners_of(host, asked, place)?, asked.socket, false),
+        None => (listeners_of(host, asked, places)?, asked.socket, false),
     };
     let sockets = user_sockets_at(host, sockets)?;
     let entrance = entrance_at(host, listeners, sockets, login, is_lent)?;

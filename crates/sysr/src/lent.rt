@@ -13,10 +13,12 @@ const FIRST: i32 = 3;
 // This process, as the system names it.
 const SELF: &str = "/proc/self";
 
-/// Listeners that a supervisor has opened: at a port, at a socket file, or one of each.
+/// Listeners: at a port, at one for PostgreSQL's clients, and at a socket file. A supervisor opens
+/// none at the second.
 #[derive(Drop)]
 pub struct Listeners {
     pub port: Option<TcpListener>,
+    pub pg_port: Option<TcpListener>,
     pub file: Option<UnixListener>,
 }
 
@@ -58,6 +60,7 @@ impl Listeners {
 pub fn lent_listeners(rt: &HostRuntime) -> Option<Listeners> {
     let mut lent = Listeners {
         port: None,
+        pg_port: None,
         file: None,
     };
     match count_of(rt) {

@@ -4,9 +4,9 @@ ghost use Rattle.std.specs.Option.{is_some};
 ghost use Rattle.command_core.specs.Ranges.{ServesInRange};
 ghost use Rattle.desk_core.specs.Guarded.{origin_at};
 ghost use Rattle.desk_core.specs.Kept.{HasKept};
-ghost use Rattle.session_core.specs.Parking.{SpeaksLines};
 ghost use Rattle.server_core.specs.Sessions.{Leaves};
 ghost use Rattle.load_core.specs.Ready.{IsReady};
+ghost use Rattle.serving_core.specs.Protocols.{SpeaksServed};
 ghost use Rattle.sysr.specs.Kept.{admittance_of, IsServed, ServesFrom};
 
 use crate::controls::{Controls, controls_of};
@@ -63,7 +63,7 @@ where
     ensures count { IfOk result
         (λ b. b.1.stopped ≡ false → b.1.sessions ≡ asked.entry.sessions) }
     ensures leaves { IfOk result
-        (λ b. Leaves SpeaksLines entrance.now asked.entry.workers b.1.sessions keeper system
+        (λ b. Leaves SpeaksServed entrance.now asked.entry.workers b.1.sessions keeper system
         b.0.system) }
     ensures kept { IfOk result (λ b. HasKept K.Keeper (origin_at system keeper)
         b.0.system.journal b.0.keeper) }

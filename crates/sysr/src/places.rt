@@ -1,5 +1,5 @@
-//! At which address a port listens.
-ghost use Rattle.std.specs.Prelude.{◌≡◌, None, IfOk, IfSome};
+//! At which address ports listen.
+ghost use Rattle.std.specs.Prelude.{◌≡◌, None, option_map, IfOk, IfSome};
 ghost use Rattle.sysr.specs.declared.places.TheConstants.{HERE};
 
 use command_core::Serving;
@@ -27,6 +27,13 @@ pub struct Place {
     pub port: u16,
 }
 
+/// The places of a server's ports: of one for any clients, and of one for PostgreSQL's.
+#[derive(Clone, Copy)]
+pub struct Places {
+    pub port: Option<Place>,
+    pub pg_port: Option<Place>,
+}
+
 impl Display for Place {
     fn fmt<W: fmt::Write>(&self, f: &mut Formatter<W>) -> fmt::Result {
         if self.address == HERE {
@@ -36,7 +43,7 @@ impl Display for Place {
     }
 }
 
-/// The address of the port that is asked for. The error is the status of a command line that is
+/// The address of the ports that are asked for. The error is the status of a command line that is
 /// refused: it says no address, or another one than 127.0.0.1 where nobody logs in.
 fn address_of(host: &HostRuntime, asked: Serving<'_>) -> Result<IpAddr, ExitCode>
     ensures { asked.entry.users ≡ None → IfOk result (λ address. address ≡ HERE) }
@@ -54,15 +61,29 @@ fn address_of(host: &HostRuntime, asked: Serving<'_>) -> Result<IpAddr, ExitCode
     }
 }
 
-/// Where a port is asked for, if one is: where nobody logs in, no other machine can reach it. The
-/// error is the status, as of [`address_of`].
-pub fn place_of(host: &HostRuntime, asked: Serving<'_>) -> Result<Option<Place>, ExitCode>
-    ensures { asked.entry.users ≡ None → IfOk result
-        (λ place. IfSome place (λ p. p.address ≡ HERE)) }
+/// This port at the address, if there is one.
+fn place_at(address: IpAddr, port: Option<u16>) -> Option<Place>
+    ensures address { IfSome result (λ place. place.address ≡ address) }
+    ensures port { option_map (λ place. place.port) result ≡ port }
+{
+    let port = port?;
+    Some(Place { address, port })
+}
+
+/// The ports that are asked for, each if it is, with their address: where nobody logs in, no other
+/// machine can reach them. The error is the status, as of [`address_of`].
+pub fn places_of(host: &HostRuntime, asked: Serving<'_>) -> Result<Places, ExitCode>
+    ensures here { asked.entry.users ≡ None → IfOk result
+        (λ places. IfSome places.port (λ p. p.address ≡ HERE)
+        × IfSome places.pg_port (λ p. p.address ≡ HERE)) }
+    ensures port { IfOk result
+        (λ places. option_map (λ p. p.port) places.port ≡ asked.entry.port) }
+    ensures pg_port { IfOk result
+        (λ places. option_map (λ p. p.port) places.pg_port ≡ asked.entry.pg_port) }
 {
     let address = address_of(host, asked)?;
-    let Some(port) = asked.port else {
-        return Ok(None);
-    };
-    Ok(Some(Place { address, port }))
+    Ok(Places {
+        port: place_at(address, asked.port),
+        pg_port: place_at(address, asked.pg_port),
+    })
 }

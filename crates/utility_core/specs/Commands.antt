@@ -1,5 +1,5 @@
 -- Commands by their words.
-use Rattle.std.specs.Prelude.{ℕ, ◌-◌, ◌==◌, Bool, true, not, ◌&&◌, List, [], ◌∷◌, length, take, drop, codes, Option, None, option_map, if◌then◌else◌}
+use Rattle.std.specs.Prelude.{ℕ, ◌-◌, ◌==◌, Bool, true, not, ◌&&◌, List, [], ◌∷◌, length, take, drop, codes, Option, Some, None, option_map, if◌then◌else◌}
 use Rattle.std.specs.Option.{option_or}
 use Rattle.std.specs.List.{find, list_all, list_any, prefix_len, starts_with}
 use Rattle.std.specs.Str.{bytes_eq}
@@ -71,3 +71,13 @@ is_version_question text =
     let said = drop (prefix_len is_padding text) text in
     let len = length version_question in
     bytes_eq version_question (folded (take len said)) && list_all is_padding (drop len said)
+
+-- how a text begins by which a driver drops a statement that it has named itself
+abbrev pub underscored_words : List ℕ
+underscored_words = codes "deallocate _"
+
+-- the name that stands there, which begins with "_"
+abbrev pub underscored_name : List ℕ → Option (List ℕ)
+underscored_name text =
+    let len = length underscored_words in
+    if bytes_eq underscored_words (folded (take len text)) then Some (drop (len - 1) text) else None

@@ -77,6 +77,8 @@ pub enum Command {
     Show(Setting),
     /// DEALLOCATE of the statement whose name is this token of the line, counted from 0.
     Deallocate(usize),
+    /// DEALLOCATE of a statement whose name begins with `_`, as no word of the language does.
+    DeallocateUnderscored,
     DeallocateAll,
     DiscardAll,
     ResetAll,

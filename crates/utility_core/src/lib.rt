@@ -27,8 +27,9 @@
 //! means nothing to numbers and texts, is [`Command::Set`], and any other is
 //! [`Command::UnknownSetting`].
 //!
-//! One question of clients is no list of tokens, since the language has no dot:
-//! `select pg_catalog.version()`. [`is_version_question`] tells it by its bytes.
+//! Two texts of clients are no list of tokens. The language has no dot, so [`is_version_question`]
+//! tells `select pg_catalog.version()` by its bytes. And no word begins with `_`, as the names do that
+//! drivers give to their own statements, so [`underscored_name`] finds that of `DEALLOCATE _pg3_0`.
 //!
 //! No statement of the language is a command. [`statement_or_command`] is that law: its first word
 //! says so, and of a SELECT the comma or FROM behind its first item.
@@ -46,4 +47,4 @@ mod words;
 
 pub use command::{Command, Setting};
 pub use laws::statement_or_command;
-pub use reading::{command_of, is_version_question};
+pub use reading::{command_of, is_version_question, underscored_name};

@@ -1,9 +1,9 @@
 //! Which command a line is.
 
-ghost use Rattle.std.specs.Prelude.{◌≡◌, map, drop, length};
+ghost use Rattle.std.specs.Prelude.{◌≡◌, map, drop, length, option_map};
 ghost use Rattle.std.specs.List.{list_all, prefix_len};
 ghost use Rattle.utility_core.specs.Words.{words_of};
-ghost use Rattle.utility_core.specs.Commands.{is_rest, is_of_form, found, without_end, behind_scope, set_command, command_in, is_padding, is_version_question};
+ghost use Rattle.utility_core.specs.Commands.{is_rest, is_of_form, found, without_end, behind_scope, set_command, command_in, is_padding, is_version_question, underscored_name};
 ghost use Rattle.utility_core.specs.Forms.{command_forms, setting_forms};
 
 use crate::command::Command;
@@ -12,6 +12,8 @@ use crate::words::{are_among, are_words, is_among, is_one_word, parts_at, spells
 use lexer_core::Token;
 
 const QUESTION: &[u8] = b"select pg_catalog.version()";
+
+const UNDERSCORED: &[u8] = b"deallocate _";
 
 fn is_rest(rest: Rest, line: &[u8], tokens: &[Token]) -> bool
     ensures { result ≡ is_rest rest (words_of line.now tokens.now) }
@@ -124,4 +126,18 @@ pub fn is_version_question(text: &[u8]) -> bool
 {
     let (front, behind) = parts_at(behind_padding(text), QUESTION.len());
     spells(QUESTION, front) && are_padding(behind)
+}
+
+/// The name behind `DEALLOCATE`, in any case, and one blank, where it begins with `_`: drivers name
+/// their own statements so. Such a name is no token, so that the line has none. None of any other text.
+pub fn underscored_name(text: &[u8]) -> Option<&[u8]>
+    ensures { option_map (λ name. name.now) result ≡ underscored_name text.now }
+{
+    let (front, _) = parts_at(text, UNDERSCORED.len());
+    if spells(UNDERSCORED, front) {
+        let (_, name) = parts_at(text, UNDERSCORED.len() - 1);
+        Some(name)
+    } else {
+        None
+    }
 }

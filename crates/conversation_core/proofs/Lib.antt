@@ -1,0 +1,10 @@
+pub mod AddedAnswers
+pub mod Additions
+pub mod Asides
+pub mod CommandLemmas
+pub mod Counting
+pub mod FaultPlaces
+pub mod Going
+pub mod Naming
+pub mod Queried
+pub mod SetPlaces

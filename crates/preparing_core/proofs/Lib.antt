@@ -1,0 +1,3 @@
+pub mod Unfilled
+pub mod Results
+pub mod Described

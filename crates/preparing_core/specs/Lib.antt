@@ -1,0 +1,4 @@
+pub mod FaultProblems
+pub mod Shapes
+pub mod Guessing
+pub mod Preparing
