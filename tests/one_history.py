@@ -312,11 +312,9 @@ def at_once(program, check, work):
     check("much is done and much is refused", whole and refused > 10, (len(history.said), refused))
     check("each has an answer", all(told), told.count(""))
     away = sum(client.turned_away for client in clients)
-    *ended, faults = server.end()
-    check("clients at once: the end", ended == [0, f"served {count}\n".encode()], ended)
-    # (a session that finds no memory at its first byte ends untold)
-    good = set(faults) <= {"session fault: no memory"} and len(faults) <= away
-    check("clients at once: the faults", good, (faults, away))
+    ended = server.end()
+    wanted = (0, f"served {count}\n".encode(), away * ["session fault: no memory"])
+    check("clients at once: the end", ended == wanted, (ended, away))
 
 
 def given_up(program, check, work):

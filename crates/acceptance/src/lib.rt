@@ -5,13 +5,9 @@
 #![tactic(auto)]
 
 #[cfg(test)]
-mod binding;
-#[cfg(test)]
 mod calls;
 #[cfg(test)]
 mod command_lines;
-#[cfg(test)]
-mod commands;
 #[cfg(test)]
 mod desk;
 #[cfg(test)]
@@ -26,10 +22,6 @@ mod lines;
 mod locks;
 #[cfg(test)]
 mod logins;
-#[cfg(test)]
-mod messages;
-#[cfg(test)]
-mod parameters;
 #[cfg(test)]
 mod pieces;
 #[cfg(test)]

@@ -91,7 +91,7 @@ module _ {K L M : Type 0} where
   either_state lines messages (sessions.Lines session) = lines session
   either_state lines messages (sessions.Messages session) = messages session
   either_state lines messages (sessions.Lost unread note) =
-      record first_state { unread = unread; over = true; note = note }
+      record first_state { unread = unread; over = true; lost = true; note = note }
 
   -- how far it has come
   abbrev pub HasComeEither : MachineCome K L → MachineCome K M → MachineCome K (EitherSession K L M)

@@ -1,4 +1,5 @@
 //! A session of one of two protocols, which its client chooses by his first byte.
+ghost use Rattle.std.specs.Prelude.{◌≡◌, None};
 ghost use Rattle.either_core.specs.Choosing.{IsChosenBy, Chooses};
 
 use base_core::{Broken, Gate, Sink, User};
@@ -6,7 +7,7 @@ use desk_core::{Desk, Note, Pass};
 use journal_core::Keeper;
 use lines_core::{MOST_BYTES, SessionFault};
 use login_core::Beginning;
-use session_core::{Admission, Scratch, SessionMachine, Summary, Witness, end_of};
+use session_core::{Admission, Scratch, SessionEnd, SessionMachine, Summary, Witness, end_of};
 use std::alloc::{AllocError, Global};
 use std::sync::Wait;
 
@@ -23,6 +24,18 @@ pub enum EitherSession<K: Keeper + Drop, L: SessionMachine<K>, M: SessionMachine
     /// There was no memory for the machine that the first byte chose. The session is over; what comes is
     /// dropped, and nothing is answered. So many bytes may still come.
     Lost { unread: u64, note: Option<Note<K>> },
+}
+
+/// What is told of a session that nobody has begun.
+fn told_of_nobody(ended: Result<(), SessionEnd>) -> Summary
+    ensures { result ≡ record { user = None; lines = 0; moment = None; ended = ended } }
+{
+    Summary {
+        user: None,
+        lines: 0,
+        moment: None,
+        ended,
+    }
 }
 
 impl<K: Keeper + Drop, L: SessionMachine<K>, M: SessionMachine<K>> EitherSession<K, L, M> {
@@ -196,12 +209,10 @@ impl<K: Keeper + Drop, L: SessionMachine<K>, M: SessionMachine<K>> SessionMachin
         match self {
             EitherSession::Lines(lines) => lines.summary(served),
             EitherSession::Messages(messages) => messages.summary(served),
-            EitherSession::Unspoken(_) | EitherSession::Lost { .. } => Summary {
-                user: None,
-                lines: 0,
-                moment: None,
-                ended: end_of(false, served),
-            },
+            EitherSession::Unspoken(_) => told_of_nobody(end_of(false, served)),
+            EitherSession::Lost { .. } => {
+                told_of_nobody(Err(SessionEnd::Session(SessionFault::NoMemory)))
+            }
         }
     }
 

@@ -11,7 +11,7 @@
 //! it is zero, the same holds of messages. Or nothing was answered: then the session has no user, and nothing was
 //! written, whatever was read. That is so where nothing came, and where there was no memory for the machine that
 //! was chosen. Such a session is lost: it is over at once, and what still comes is dropped. It is told of as one
-//! that ended well and had no user.
+//! that had no user, and ended for want of memory.
 //!
 //! ```text
 //! let mut session: EitherSession<K, Parked<K>, M> = EitherSession::new(alloc)?;

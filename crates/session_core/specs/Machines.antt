@@ -1,5 +1,5 @@
 -- Sessions between two pieces of what their clients send, whatever protocol they speak.
-use Rattle.std.specs.Prelude.{◌≡◌, ◌<◌, ◌^◌, ℕ, List, Bool, true, false, Option, Some, None, Result, Ok, Err}
+use Rattle.std.specs.Prelude.{◌≡◌, ◌<◌, ◌^◌, ℕ, List, Bool, true, false, if◌then◌else◌, Option, Some, None, Result, Ok, Err}
 use Rattle.base_core.specs.declared.name.User.{User}
 use Rattle.base_core.specs.declared.value.Moment.{Moment}
 use Rattle.lines_core.specs.Serving.{Traffic}
@@ -8,6 +8,8 @@ use Rattle.lines_core.specs.declared.serving.SessionFault.TheVariants as faults
 use Rattle.login_core.specs.Login.{Beginning}
 use Rattle.desk_core.specs.Guarded.{DeskLock, DeskNote}
 use Rattle.session_core.specs.declared.admission.Admission.{Admission}
+use Rattle.session_core.specs.declared.session_end.SessionEnd.{SessionEnd}
+use Rattle.session_core.specs.declared.session_end.SessionEnd.TheVariants as session_ends
 use Rattle.session_core.specs.declared.summary.Summary.{Summary}
 use Rattle.session_core.specs.Session.{end_of}
 
@@ -22,8 +24,8 @@ abbrev pub Right : Type 1
 Right = Admission → Traffic → User → Type 0
 
 -- What is known of a session in any protocol: how many bytes may still come, the login that is under way,
--- its user, what is told of it, how many parts of the last reply are owed, if any are, and the note of the
--- pass that it went through last.
+-- its user, what is told of it, whether there was no memory for it, how many parts of the last reply are
+-- owed, if any are, and the note of the pass that it went through last.
 pub record MachineState (K : Type 0) : Type 0 where
   pub unread : ℕ
   pub begun : Option Beginning
@@ -32,6 +34,7 @@ pub record MachineState (K : Type 0) : Type 0 where
   pub unkept : Bool
   pub answered : ℕ
   pub moment : Option Moment
+  pub lost : Bool
   pub owed : Option ℕ
   pub note : Option (DeskNote K)
 
@@ -45,17 +48,27 @@ first_state = record {
   unkept = false;
   answered = 0;
   moment = None;
+  lost = false;
   owed = None;
   note = None;
 }
 
--- what is told of a session that ended in this state, if what it was sent was answered so
+-- how a session ended in this state, if what it was sent was answered so: for want of memory, where there
+-- was none for it
+abbrev pub ending_of : {K : Type 0} → MachineState K → Result (Unit {0}) SessionFault
+    → Result (Unit {0}) SessionEnd
+ending_of state served =
+    if state.lost
+    then Err (session_ends.Session faults.NoMemory)
+    else end_of state.unkept served
+
+-- what is told of it then
 abbrev pub summary_of : {K : Type 0} → MachineState K → Result (Unit {0}) SessionFault → Summary
 summary_of state served = record {
   user = state.user;
   lines = state.answered;
   moment = state.moment;
-  ended = end_of state.unkept served;
+  ended = ending_of state served;
 }
 
 -- less is owed than before, and nothing where nothing was

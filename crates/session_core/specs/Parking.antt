@@ -55,6 +55,7 @@ machine_state parked = record {
   unkept = parked.unkept;
   answered = parked.answered;
   moment = parked.moment;
+  lost = false;
   owed = option_map count_left parked.owed;
   note = parked.note;
 }

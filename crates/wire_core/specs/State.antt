@@ -74,6 +74,7 @@ wire_machine wire = record {
   unkept = wire.client.talk.unkept;
   answered = wire.client.talk.answered;
   moment = wire.client.talk.moment;
+  lost = false;
   owed = calls_owed wire.sending.items;
   note = wire.note;
 }
