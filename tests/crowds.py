@@ -117,7 +117,8 @@ def crowded(program, check, folder, count):
     for speaker in speakers:
         speaker.join(WAIT)
     check("each sees what it wrote", not odd, odd[:3])
-    time.sleep(0.3)
+    # (within a second the last changes are put on the disk)
+    time.sleep(1.6)
     before = wakes(crowd.child.pid)
     time.sleep(1)
     check("an idle crowd wakes nobody", wakes(crowd.child.pid) == before, wakes(crowd.child.pid) - before)

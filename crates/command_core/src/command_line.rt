@@ -89,9 +89,9 @@ pub struct Running<'a> {
 /// that is bounded, how many records a step of the checkpointer takes, how much there may be, for
 /// how many seconds a session waits for its client, if not for ever, whether it is told where
 /// sessions begin and end, who is denied what, and when that was; from which file the first changes
-/// come, to which each change is written, to which the state is written at the end, and whether to
-/// audit then; at which control socket it may be told to stop, whether the end of standard input
-/// tells it so, and how many seconds sessions then have.
+/// come, to which each change is written, and when that is put on its disk, to which the state is
+/// written at the end, and whether to audit then; at which control socket it may be told to stop,
+/// whether the end of standard input tells it so, and how many seconds sessions then have.
 #[derive(Clone, Copy)]
 pub struct Serving<'a> {
     pub port: Option<u16>,
@@ -111,11 +111,21 @@ pub struct Serving<'a> {
     pub log_time: bool,
     pub load: Option<&'a str>,
     pub journal: Option<&'a str>,
+    pub sync: JournalSync,
     pub dump: Option<&'a str>,
     pub audit: bool,
     pub control: Option<&'a str>,
     pub until_eof: bool,
     pub grace: u64,
+}
+
+/// When a journal is put on its disk, where a loss of power leaves it.
+#[derive(Clone, Copy, Debug, PartialEq, Eq)]
+pub enum JournalSync {
+    /// When the system does.
+    Never,
+    /// Once a second, where something was written since.
+    Second,
 }
 
 /// The form in which a server tells how it fares.
@@ -229,6 +239,14 @@ fn sessions_of(matches: &ArgMatches<'_>) -> u64
     }
 }
 
+// clap has refused another word.
+fn journal_sync_of(matches: &ArgMatches<'_>) -> JournalSync {
+    match matches.get_str("journal-sync") {
+        Some("never") => JournalSync::Never,
+        _ => JournalSync::Second,
+    }
+}
+
 // clap has refused a number out of range. An error is its own, where both ports are the same.
 fn serving_of<'a>(alloc: Global, matches: &ArgMatches<'a>) -> Result<Serving<'a>, Error>
     ensures { IfOk result ServesInRange }
@@ -254,6 +272,7 @@ fn serving_of<'a>(alloc: Global, matches: &ArgMatches<'a>) -> Result<Serving<'a>
         log_time: matches.get_flag("log-time"),
         load: matches.get_str("load"),
         journal: matches.get_str("journal"),
+        sync: journal_sync_of(matches),
         dump: matches.get_str("dump"),
         audit: matches.get_flag("audit"),
         control: matches.get_str("control"),

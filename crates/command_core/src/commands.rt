@@ -12,6 +12,9 @@ pub const VERSION: &str = "0.1.0";
 // The modes of a socket file.
 const MODES: [&str; 3] = ["600", "660", "666"];
 
+// When a journal is put on its disk.
+const JOURNAL_SYNCS: [&str; 2] = ["never", "second"];
+
 // The forms in which a server tells how it fares.
 const STATUS_FORMS: [&str; 3] = ["text", "prometheus", "json"];
 
@@ -141,6 +144,13 @@ fn journal_arg<'a>(alloc: Global) -> Arg<'a> {
         "Writes each change to the end of this file before its reply; the file is new or empty, \
         or the one that is loaded";
     value_arg(alloc, "journal", "FILE", help)
+}
+
+fn journal_sync_arg<'a>(alloc: Global) -> Arg<'a> {
+    let help =
+        "When the journal is put on its disk, so that a loss of power leaves it: once a second (second, as \
+        where none is given), or when the system does (never)";
+    value_arg(alloc, "journal-sync", "s", help).value_parser(JOURNAL_SYNCS.as_slice())
 }
 
 fn dump_arg<'a>(alloc: Global) -> Arg<'a> {
@@ -347,6 +357,7 @@ fn serve_command<'a>(alloc: Global) -> Made<'a> {
     let made = with(made, log_time_arg(alloc));
     let made = with(made, load_arg(alloc));
     let made = with(made, journal_arg(alloc));
+    let made = with(made, journal_sync_arg(alloc));
     let made = with(made, dump_arg(alloc));
     let made = with(made, audit_arg(alloc));
     let help =

@@ -31,7 +31,9 @@ mod reading_flags;
 mod users;
 mod values;
 
-pub use command_line::{CommandLine, Explaining, Running, Serving, StatusForm, options, refuse};
+pub use command_line::{
+    CommandLine, Explaining, JournalSync, Running, Serving, StatusForm, options, refuse,
+};
 pub use commands::VERSION;
 pub use reading::Reading;
 pub use users::UserSocketWord;

@@ -2,12 +2,15 @@
 ghost use Rattle.std.specs.Prelude.{◌≡◌, false, IfOk, IfErr};
 ghost use Rattle.std.specs.Process.{exit_status};
 
-use base_core::{StdSink, StdSource, Unbuffered};
+use crate::syncing::JournalFile;
+use base_core::{NoMemory, StdSink, StdSource, Unbuffered};
+use command_core::JournalSync;
 use lines_core::{NO_MEMORY, Steady, give_up};
 use std::fs;
 use std::fs::{File, OpenOptions, TryLockError};
 use std::io::{BufWriter, Error, ErrorKind, Write};
 use std::process::ExitCode;
+use std::thread::Threads;
 
 /// A file that is read.
 pub type FileSource = StdSource<Steady<File>>;
@@ -16,16 +19,21 @@ pub type FileSource = StdSource<Steady<File>>;
 pub type DumpSink = StdSink<Steady<File>>;
 
 /// A file that a journal is written to. It has no buffer, as each line is handed on at once.
-pub type JournalSink = Unbuffered<Steady<File>>;
+pub type JournalSink = Unbuffered<Steady<JournalFile>>;
 
 /// Tells on standard error what is wrong with a file. A fault of standard error is forgotten.
-pub fn give_up_on(rt: &HostRuntime, path: &str, what: &[u8]) -> ExitCode
-    ensures { exit_status result ≡ 1 }
-{
+pub fn tell_of(rt: &HostRuntime, path: &str, what: &[u8]) {
     let mut err = rt.stderr();
     let _ = write!(err, "sysr: {path}: ");
     let _ = err.write_all(what);
     let _ = err.write_all(b"\n");
+}
+
+/// The same, where nothing goes on then.
+pub fn give_up_on(rt: &HostRuntime, path: &str, what: &[u8]) -> ExitCode
+    ensures { exit_status result ≡ 1 }
+{
+    tell_of(rt, path, what);
     ExitCode::FAILURE
 }
 
@@ -101,21 +109,74 @@ pub fn sync(rt: &HostRuntime, path: &str) -> Result<(), ExitCode>
     }
 }
 
-/// A writer to the file of a journal that goes on. The error is the status, as of [`opened`].
-pub fn journal_gone_on(rt: &HostRuntime, path: &str) -> Result<JournalSink, ExitCode>
+/// Has the system put the folder of a new file on its disk, so that its name is there. The error is
+/// the status, where it cannot, which is told. What is no folder of a disk stays as it is.
+fn sync_folder(rt: &HostRuntime, path: &str) -> Result<(), ExitCode> {
+    let folder = match path.rsplit_once('/') {
+        Some(("", _)) => "/",
+        Some((folder, _)) => folder,
+        None => ".",
+    };
+    let synced = match fs::open(rt, folder) {
+        Ok(file) => file.sync_all(),
+        Err(error) => Err(error),
+    };
+    match synced {
+        Ok(()) => Ok(()),
+        Err(error) if error.kind() == ErrorKind::InvalidInput => Ok(()),
+        Err(_) => Err(give_up_on(rt, folder, b"cannot be synced")),
+    }
+}
+
+/// A writer to this file of a journal, which is put on its disk as is asked. The error is the status,
+/// where there was no memory for it, or no thread, which is told.
+fn journal_sink<R: Threads>(
+    host: &HostRuntime,
+    rt: &R,
+    path: &str,
+    file: File,
+    sync: JournalSync,
+) -> Result<JournalSink, ExitCode>
     ensures { IfOk result (λ writer. writer.failed ≡ false) }
 {
-    let file = opened(rt, path, false)?;
-    Ok(Unbuffered::new(Steady::new(file)))
+    let made = match sync {
+        JournalSync::Never => JournalFile::new(host.alloc(), file),
+        JournalSync::Second => JournalFile::synced(host, rt, path, file),
+    };
+    match made {
+        Ok(file) => Ok(Unbuffered::new(Steady::new(file))),
+        Err(NoMemory) => Err(give_up(host, NO_MEMORY)),
+    }
+}
+
+/// A writer to the file of a journal that goes on. The error is the status, as of [`opened`].
+pub fn journal_gone_on<R: Threads>(
+    host: &HostRuntime,
+    rt: &R,
+    path: &str,
+    sync: JournalSync,
+) -> Result<JournalSink, ExitCode>
+    ensures { IfOk result (λ writer. writer.failed ≡ false) }
+{
+    let file = opened(host, path, false)?;
+    journal_sink(host, rt, path, file, sync)
 }
 
 /// A writer to the file of a journal, which has to be missing or empty. The error is the status, as
 /// of [`fresh`].
-pub fn journal_file(rt: &HostRuntime, path: &str) -> Result<JournalSink, ExitCode>
+pub fn journal_file<R: Threads>(
+    host: &HostRuntime,
+    rt: &R,
+    path: &str,
+    sync: JournalSync,
+) -> Result<JournalSink, ExitCode>
     ensures { IfOk result (λ writer. writer.failed ≡ false) }
 {
-    let file = fresh(rt, path)?;
-    Ok(Unbuffered::new(Steady::new(file)))
+    let file = fresh(host, path)?;
+    if sync != JournalSync::Never {
+        sync_folder(host, path)?;
+    }
+    journal_sink(host, rt, path, file, sync)
 }
 
 /// A writer to the file of a dump, which has to be missing or empty. The error is the status, as of

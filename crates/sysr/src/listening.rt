@@ -298,7 +298,7 @@ where
     apart_from_each_other(host, named)?;
     let login = login_of(host, asked.users)?;
     let since = Instant::now(rt).ok();
-    let begun = begun(host, named, asked.chunk, asked.limits)?;
+    let begun = begun(host, rt, named, asked.chunk, asked.limits, asked.sync)?;
     match dump_of(host, named) {
         Ok(dump) => listen_and_serve(host, rt, asked, sockets, login, since, begun, dump),
         Err(status) => {

@@ -10,10 +10,12 @@ use crate::files::{JournalSink, give_up_on, journal_file, journal_gone_on, reade
 use crate::mending::mend;
 use crate::naming::Named;
 use base_core::{Limits, NoMemory};
+use command_core::JournalSync;
 use lines_core::{NO_MEMORY, SessionFault, fault_text, give_up};
 use load_core::{Loaded, load_or_text, load_whole_or_text};
 use std::mem::forget;
 use std::process::ExitCode;
+use std::thread::Threads;
 use system_core::System;
 
 /// The core that the changes of the file make. The error is the status, where the file cannot be
@@ -139,13 +141,18 @@ pub struct Start<W> {
     pub journal: Option<W>,
 }
 
-/// A writer to the file of a journal, if one is named.
-fn journal_of(rt: &HostRuntime, path: Option<&str>) -> Result<Option<JournalSink>, ExitCode>
+/// A writer to the file of a journal, if one is named, which is put on its disk as is asked.
+fn journal_of<R: Threads>(
+    host: &HostRuntime,
+    rt: &R,
+    path: Option<&str>,
+    sync: JournalSync,
+) -> Result<Option<JournalSink>, ExitCode>
     ensures named { IfOk result (λ journal. is_some journal ≡ is_some path.entry) }
     ensures works { IfOk result (λ journal. IfSome journal (λ sink. sink.failed ≡ false)) }
 {
     match path {
-        Some(path) => Ok(Some(journal_file(rt, path)?)),
+        Some(path) => Ok(Some(journal_file(host, rt, path, sync)?)),
         None => Ok(None),
     }
 }
@@ -153,11 +160,13 @@ fn journal_of(rt: &HostRuntime, path: Option<&str>) -> Result<Option<JournalSink
 /// What a program begins with where the file that is loaded is gone on with: it is held before it is
 /// read, so that no other program writes to it behind what was read. A last line that was cut off is
 /// taken off it.
-fn going_on(
-    rt: &HostRuntime,
+fn going_on<R: Threads>(
+    host: &HostRuntime,
+    rt: &R,
     path: &str,
     chunk: usize,
     limits: Limits,
+    sync: JournalSync,
 ) -> Result<Start<JournalSink>, ExitCode>
     requires some { 0 < chunk }
     requires small { chunk ≤ 64 }
@@ -167,8 +176,8 @@ fn going_on(
     ensures named { IfOk result (λ begun. is_some begun.journal ≡ true) }
     ensures works { IfOk result (λ begun. IfSome begun.journal (λ sink. sink.failed ≡ false)) }
 {
-    let sink = journal_gone_on(rt, path)?;
-    let system = told(rt, loaded_and_mended(rt, path, chunk, limits)?)?;
+    let sink = journal_gone_on(host, rt, path, sync)?;
+    let system = told(host, loaded_and_mended(host, path, chunk, limits)?)?;
     Ok(Start {
         system,
         journal: Some(sink),
@@ -176,12 +185,15 @@ fn going_on(
 }
 
 /// What a program begins with. A file is loaded before another one is opened to write to, so that
-/// none is made where it cannot be loaded. The error is the status, and the reason is told.
-pub fn begun(
-    rt: &HostRuntime,
+/// none is made where it cannot be loaded. What is written to it is put on its disk as is asked. The
+/// error is the status, and the reason is told.
+pub fn begun<R: Threads>(
+    host: &HostRuntime,
+    rt: &R,
     named: Named<'_>,
     chunk: usize,
     limits: Limits,
+    sync: JournalSync,
 ) -> Result<Start<JournalSink>, ExitCode>
     requires some { 0 < chunk }
     requires small { chunk ≤ 64 }
@@ -193,10 +205,10 @@ pub fn begun(
     ensures works { IfOk result (λ begun. IfSome begun.journal (λ sink. sink.failed ≡ false)) }
 {
     if let Some(path) = named.gone_on() {
-        return going_on(rt, path, chunk, limits);
+        return going_on(host, rt, path, chunk, limits, sync);
     }
-    let system = loaded_and_told(rt, named.load, chunk, limits)?;
-    match journal_of(rt, named.journal) {
+    let system = loaded_and_told(host, named.load, chunk, limits)?;
+    match journal_of(host, rt, named.journal, sync) {
         Ok(journal) => Ok(Start { system, journal }),
         Err(status) => {
             // The process ends here, and its memory goes back as a whole.

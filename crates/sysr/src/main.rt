@@ -17,7 +17,8 @@
 //! neither a file nor a client is sent what is meant for them. A file that is written to is held
 //! against other programs, before it is read where it is gone on with, and no two words of a command
 //! line may name one file (`files.rt`, `naming.rt`). A last line that was cut off is taken off a
-//! journal that is gone on with (`mending.rt`). A file of users is not taken where it is open to
+//! journal that is gone on with (`mending.rt`), and one that a server writes is put on its disk once a
+//! second (`syncing.rt`). A file of users is not taken where it is open to
 //! others (`users.rt`), and a port that other machines can reach asks for one (`places.rt`). A socket
 //! file of a user's own belongs to the system's user of his name.
 //!
@@ -66,6 +67,7 @@ mod replaying;
 mod report;
 mod running;
 mod socket_files;
+mod syncing;
 mod system_users;
 mod users;
 mod verifying;
@@ -110,7 +112,7 @@ where
     requires { IsInRange asked }
 {
     match asked {
-        CommandLine::Run(asked) => Ok(run(host, asked)?.into_status()),
+        CommandLine::Run(asked) => Ok(run(host, rt, asked)?.into_status()),
         CommandLine::Journal(reading) => {
             journal(host, &mut input(host), &mut output(host)?, reading)
         }

@@ -9,11 +9,12 @@ use crate::keeping::{Ended, Kept, line_keeper};
 use crate::loading::{Start, begun};
 use crate::naming::{Named, apart_from_each_other};
 use base_core::{Resume, Sink, Source};
-use command_core::Running;
+use command_core::{JournalSync, Running};
 use journal_core::NoKeeper;
 use run_core::{answered, input, output, status_of};
 use std::mem::forget;
 use std::process::ExitCode;
+use std::thread::Threads;
 
 /// Answers the reader's lines, and keeps each change in the journal, if there is one. The error is
 /// the status, where it ended by a fault, which is told.
@@ -50,7 +51,11 @@ fn kept<S: Source, R: Sink, W: Sink + Resume + Drop>(
 
 /// Answers the lines of standard input, and writes each change to the journal's file, if one is
 /// named. Then it audits what they left, if that is asked for. What they left is given too.
-pub fn run(rt: &HostRuntime, asked: Running<'_>) -> Result<Ended<JournalSink>, ExitCode>
+pub fn run<R: Threads>(
+    host: &HostRuntime,
+    rt: &R,
+    asked: Running<'_>,
+) -> Result<Ended<JournalSink>, ExitCode>
     requires some { 0 < asked.chunk }
     requires small { asked.chunk ≤ 64 }
     ensures { IfOk result
@@ -62,10 +67,17 @@ pub fn run(rt: &HostRuntime, asked: Running<'_>) -> Result<Ended<JournalSink>, E
         dump: None,
         users: None,
     };
-    apart_from_each_other(rt, named)?;
-    let mut writer = output(rt)?;
-    let begun = begun(rt, named, asked.chunk, asked.limits)?;
-    let kept = kept(rt, &mut input(rt), &mut writer, begun)?;
-    let status = status_of(rt, kept.system(), asked.audit);
+    apart_from_each_other(host, named)?;
+    let mut writer = output(host)?;
+    let begun = begun(
+        host,
+        rt,
+        named,
+        asked.chunk,
+        asked.limits,
+        JournalSync::Never,
+    )?;
+    let kept = kept(host, &mut input(host), &mut writer, begun)?;
+    let status = status_of(host, kept.system(), asked.audit);
     Ok(Ended { kept, status })
 }

@@ -1,0 +1,186 @@
+//! A journal that is put on its disk once a second, by a thread of its own. While nothing is written it
+//! sleeps.
+
+use crate::files::tell_of;
+use base_core::NoMemory;
+use lines_core::Steady;
+use std::alloc::Global;
+use std::fs::File;
+use std::io::{Error, ErrorKind, Read, Result, Write};
+use std::os::unix::net::UnixStream;
+use std::sync::Arc;
+use std::sync::atomic::{AtomicBool, Ordering};
+use std::thread;
+use std::thread::Threads;
+use std::time::Duration;
+
+const PAUSE_SECONDS: u64 = 1;
+
+/// What wakes the thread that syncs a journal, which sleeps while nothing is written.
+#[derive(Drop)]
+struct Waker {
+    bell: UnixStream,
+    ear: UnixStream,
+    /// Whether it will sync what is written by now anyway.
+    is_awake: AtomicBool,
+}
+
+impl Waker {
+    /// Of a thread that sleeps. An error is the system's.
+    fn new(host: &HostRuntime) -> Result<Waker> {
+        let (bell, ear) = UnixStream::pair(host)?;
+        Ok(Waker {
+            bell,
+            ear,
+            is_awake: AtomicBool::new(false),
+        })
+    }
+
+    /// Something was written.
+    fn wake(&self) {
+        if !self.is_awake.load(Ordering::SeqCst) && !self.is_awake.swap(true, Ordering::SeqCst) {
+            let _ = Steady::new(&self.bell).write(&[0]);
+        }
+    }
+
+    /// Waits until something was written since it slept. Whether it could.
+    fn wait(&self) -> bool {
+        Steady::new(&self.ear).read(&mut [0; 1]).is_ok()
+    }
+
+    /// Of what is written from now on it wants to be told.
+    fn sleep(&self) {
+        self.is_awake.store(false, Ordering::SeqCst);
+    }
+}
+
+/// What a journal's writer and the thread that syncs it have in common.
+#[derive(Drop)]
+struct Shared {
+    file: File,
+    /// None where no thread syncs it.
+    waker: Option<Waker>,
+    /// Whether it could not be put on its disk.
+    is_lost: AtomicBool,
+}
+
+impl Shared {
+    /// Has the system put the file on its disk. Whether it could; what is no file of a disk is as it is.
+    fn sync(&self) -> bool {
+        match self.file.sync_data() {
+            Ok(()) => true,
+            Err(error) => error.kind() == ErrorKind::InvalidInput,
+        }
+    }
+}
+
+/// The file of a journal. Once it could not be put on its disk it takes nothing more, since nobody knows
+/// then how much of it is there, and a later call would not tell.
+#[derive(Drop)]
+pub struct JournalFile {
+    shared: Arc<Shared>,
+}
+
+impl JournalFile {
+    fn with(
+        alloc: Global,
+        file: File,
+        waker: Option<Waker>,
+    ) -> std::result::Result<JournalFile, NoMemory> {
+        let is_lost = AtomicBool::new(false);
+        let shared = Arc::new(
+            alloc,
+            Shared {
+                file,
+                waker,
+                is_lost,
+            },
+        )?;
+        Ok(JournalFile { shared })
+    }
+
+    /// This file, open to write at its end. `NoMemory` where a request for memory was refused.
+    pub fn new(alloc: Global, file: File) -> std::result::Result<JournalFile, NoMemory> {
+        JournalFile::with(alloc, file, None)
+    }
+
+    /// The same, where what is written is put on its disk within a second, until the process ends.
+    /// `NoMemory` also where no thread could be started for it.
+    pub fn synced<R: Threads>(
+        host: &HostRuntime,
+        rt: &R,
+        path: &str,
+        file: File,
+    ) -> std::result::Result<JournalFile, NoMemory> {
+        let Ok(waker) = Waker::new(host) else {
+            return Err(NoMemory);
+        };
+        let made = JournalFile::with(host.alloc(), file, Some(waker))?;
+        if made.keep_synced(host, rt, path) {
+            Ok(made)
+        } else {
+            Err(NoMemory)
+        }
+    }
+
+    /// Whether a thread could be started that puts what is written on its disk.
+    fn keep_synced<R: Threads>(&self, host: &HostRuntime, rt: &R, path: &str) -> bool {
+        let Ok(shared) = Arc::try_clone(&self.shared) else {
+            return false;
+        };
+        let Ok(path) = path.to_string(host.alloc()) else {
+            return false;
+        };
+        let host = *host;
+        let syncs = move || {
+            sync_repeatedly(&host, &shared, path.as_str());
+            drop(shared);
+            drop(path);
+        };
+        thread::spawn(rt, syncs).is_ok()
+    }
+}
+
+/// Puts what is written on its disk, a second behind the first of it, until it cannot be put there, which
+/// is told.
+fn sync_repeatedly(rt: &HostRuntime, shared: &Shared, path: &str) {
+    let Some(waker) = &shared.waker else {
+        return;
+    };
+    for _ in 0..u64::MAX {
+        if !waker.wait() {
+            return;
+        }
+        thread::sleep(rt, Duration::from_secs(PAUSE_SECONDS));
+        // Before the call: what comes meanwhile may not be on the disk behind it.
+        waker.sleep();
+        if !shared.sync() {
+            shared.is_lost.store(true, Ordering::SeqCst);
+            tell_of(rt, path, b"cannot be synced");
+            return;
+        }
+    }
+}
+
+impl Write for JournalFile {
+    ghost use Rattle.std.specs.Prelude.{None};
+
+    // Nothing is told of it.
+    ghost contents = { λ _. None };
+
+    fn write(&mut self, buf: &[u8]) -> Result<usize> {
+        if self.shared.is_lost.load(Ordering::SeqCst) {
+            return Err(Error::from(ErrorKind::Other));
+        }
+        let mut file = &self.shared.file;
+        let count = file.write(buf)?;
+        if let Some(waker) = &self.shared.waker {
+            waker.wake();
+        }
+        Ok(count)
+    }
+
+    fn flush(&mut self) -> Result<()> {
+        Ok(())
+    }
+}
