@@ -1,0 +1,9 @@
+pub mod Chains
+pub mod Births
+pub mod Steps
+pub mod Calls
+pub mod Begun
+pub mod Found
+pub mod Standing
+pub mod Dumps
+pub mod Outlives

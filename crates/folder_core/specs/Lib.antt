@@ -1,0 +1,4 @@
+pub mod FileNames
+pub mod Disk
+pub mod Restoring
+pub mod Serving

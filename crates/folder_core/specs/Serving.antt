@@ -1,0 +1,162 @@
+-- What a server does to its folder, from its first start on and through every crash: and that
+-- what was told is restored.
+use Rattle.std.specs.Prelude.{◌≡◌, ◌≤◌, ◌<◌, ℕ, ◌+◌, List, [], ◌∷◌, ◌++◌, length, take, Option, Some, None}
+use Rattle.folder_core.specs.FileNames.{FileName, dump, unfinished, piece}
+use Rattle.folder_core.specs.Disk.{File, Disk, empty_disk, Is, made, renamed, name_removed, folder_synced, WritesLine, SyncsFile, CrashLeaves}
+use Rattle.folder_core.specs.Restoring.{Restores}
+
+-- How far it is: a crash has ended it; it starts; or it serves, and writes to the piece that
+-- begins here, while a dump is made of what the first so many changes leave, if one is.
+pub data Phase : Type 0 where
+  crashed : Phase
+  starting : Phase
+  serving : (first : ℕ) (capture : Option ℕ) → Phase
+
+-- it runs
+abbrev pub IsUp : Phase → Type 0
+IsUp crashed = ⊥
+IsUp _ = Unit {0}
+
+-- A folder and how far its server is: the point of the newest dump, the lines of all changes
+-- since the first, and how many of them were told.
+pub record ServerState (L : Type 0) : Type 0 where
+  pub disk : Disk L
+  pub phase : Phase
+  pub base : ℕ
+  pub journal : List L
+  pub told : ℕ
+
+module _ {L : Type 0} where
+  abbrev pub nothing_served : ServerState L
+  nothing_served = record { disk = empty_disk; phase = crashed; base = 0; journal = []; told = 0 }
+
+  abbrev pub on : Disk L → ServerState L → ServerState L
+  on disk s = record s { disk = disk }
+
+  -- a file is on the disk whole, and is the only one that its name has named since the folder's
+  -- last sync
+  pub record IsOnDisk (disk : Disk L) (name : FileName) (number : ℕ) : Type 0 where
+    pub file : File L
+    pub named : disk.now name ≡ Some number
+    pub settled : disk.earlier name ≡ []
+    pub is : Is disk number file
+    pub synced : file.synced ≡ length file.lines
+
+  -- it names nothing, and has not since the folder's last sync
+  abbrev pub NamesNone : Disk L → FileName → Type 0
+  NamesNone disk name = (disk.now name ≡ None) × (disk.earlier name ≡ [])
+
+  -- One step: a call, or a crash. The dump of a journal has these lines.
+  pub data ServerStep (dumped : List L → List L) (s : ServerState L) : ServerState L → Type 0 where
+    -- ---- while it runs
+    crashes : (left : Disk L)
+        → IsUp s.phase
+        → CrashLeaves s.disk left
+        → ServerStep dumped s (record (on left s) { phase = crashed })
+    syncs : (number : ℕ) (after : Disk L)
+        → IsUp s.phase
+        → SyncsFile number s.disk after
+        → ServerStep dumped s (on after s)
+    syncs_folder : IsUp s.phase → ServerStep dumped s (on (folder_synced s.disk) s)
+    forgets : (point : ℕ)
+        → IsUp s.phase
+        → ServerStep dumped s (on (name_removed (unfinished point) s.disk) s)
+    -- ---- while it starts
+    finds : (point : ℕ) (base behind : List L)
+        → s.phase ≡ crashed
+        → Restores s.disk point base behind
+        → ServerStep dumped s (record s {
+          phase = starting;
+          base = point;
+          journal = take (point + length behind) s.journal;
+        })
+    clears : (point : ℕ)
+        → s.phase ≡ starting
+        → length s.journal ≤ point
+        → ServerStep dumped s (on (name_removed (piece point) s.disk) s)
+    is_ready : s.phase ≡ starting
+        → ((point : ℕ) → length s.journal ≤ point → NamesNone s.disk (piece point))
+        → ServerStep dumped s (record (on (made (piece (length s.journal)) s.disk) s) {
+          phase = serving (length s.journal) None;
+        })
+    -- ---- while it serves
+    enters : (first number : ℕ) (capture : Option ℕ) (line : L) (after : Disk L)
+        → s.phase ≡ serving first capture
+        → s.disk.now (piece first) ≡ Some number
+        → WritesLine number line s.disk after
+        → ServerStep dumped s (record (on after s) { journal = s.journal ++ line ∷ [] })
+    tells : (first : ℕ) (capture : Option ℕ)
+        → s.phase ≡ serving first capture
+        → ((point number : ℕ) → s.base ≤ point → s.disk.now (piece point) ≡ Some number
+        → IsOnDisk s.disk (piece point) number)
+        → ServerStep dumped s (record s { told = length s.journal })
+    begins : (first : ℕ)
+        → s.phase ≡ serving first None
+        → first < length s.journal
+        → ServerStep dumped s (record (on (made (piece (length s.journal)) s.disk) s) {
+          phase = serving (length s.journal) (Some (length s.journal));
+        })
+    makes : (first point : ℕ)
+        → s.phase ≡ serving first (Some point)
+        → NamesNone s.disk (dump point)
+        → ServerStep dumped s (on (made (unfinished point) s.disk) s)
+    writes : (first point number : ℕ) (line : L) (after : Disk L)
+        → s.phase ≡ serving first (Some point)
+        → NamesNone s.disk (dump point)
+        → s.disk.now (unfinished point) ≡ Some number
+        → WritesLine number line s.disk after
+        → ServerStep dumped s (on after s)
+    renames : (first point number : ℕ) (file : File L)
+        → s.phase ≡ serving first (Some point)
+        → s.disk.now (unfinished point) ≡ Some number
+        → Is s.disk number file
+        → file.lines ≡ dumped (take point s.journal)
+        → file.synced ≡ length file.lines
+        → ServerStep dumped s (on (renamed (unfinished point) (dump point) s.disk) s)
+    settles : (first point number : ℕ)
+        → s.phase ≡ serving first (Some point)
+        → s.disk.now (dump point) ≡ Some number
+        → s.disk.earlier (dump point) ≡ []
+        → ServerStep dumped s (record s { phase = serving first None; base = point })
+    gives_up : (first point : ℕ)
+        → s.phase ≡ serving first (Some point)
+        → NamesNone s.disk (dump point)
+        → ServerStep dumped s (record s { phase = serving first None })
+    removes_piece : (first point : ℕ) (capture : Option ℕ)
+        → s.phase ≡ serving first capture
+        → point < s.base
+        → ServerStep dumped s (on (name_removed (piece point) s.disk) s)
+    removes_dump : (first point : ℕ) (capture : Option ℕ)
+        → s.phase ≡ serving first capture
+        → point < s.base
+        → ServerStep dumped s (on (name_removed (dump point) s.disk) s)
+
+  -- steps, one after another, from a folder without files on
+  pub data Reaches (dumped : List L → List L) : ServerState L → Type 0 where
+    at_first : Reaches dumped nothing_served
+    next_step : (before after : ServerState L)
+        → Reaches dumped before
+        → ServerStep dumped before after
+        → Reaches dumped after
+
+  -- What a start restores is a front of the journal with all that was told: a dump of what its
+  -- first changes leave, or without a dump nothing, and behind it the lines of the others.
+  pub record IsRestored (dumped : List L → List L) (s : ServerState L) : Type 0 where
+    pub point : ℕ
+    pub base : List L
+    pub behind : List L
+    pub rest : List L
+    pub restores : Restores s.disk point base behind
+    pub base_is : base ≡ dumped (take point s.journal)
+    pub journal_is : s.journal ≡ take point s.journal ++ (behind ++ rest)
+    pub within : point ≤ length s.journal
+    pub all_told : s.told ≤ point + length behind
+
+  -- **what was told outlives every crash**
+  abbrev pub ToldOutlives : (List L → List L) → Type 0
+  ToldOutlives dumped =
+      dumped [] ≡ []
+      → (s : ServerState L)
+      → Reaches dumped s
+      → s.phase ≡ crashed
+      → IsRestored dumped s

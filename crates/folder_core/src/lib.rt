@@ -1,0 +1,29 @@
+//! The folder of a server: what a crash leaves of it, and what a start restores.
+//!
+//! A server writes each change to the last piece of its journal, and from time to time a dump of what its
+//! first changes leave. This crate says what the calls do to the disk, and what a crash may leave of it: of
+//! each file any front that has at least what was synced, and of each name what it named at the folder's last
+//! sync, or at some time since (`specs/Disk.antt`). Names are independent of each other, which is more than any
+//! order in which a disk may keep renames. It says what a start restores: the newest dump, and the pieces that
+//! join behind it (`specs/Restoring.antt`). And it says which calls a server may make, one after another,
+//! through any number of crashes, also during starts (`specs/Serving.antt`).
+//!
+//! **The one law** is [`told_outlives`]: wherever a crash comes, what a start restores is a front of the
+//! journal with all that was told.
+//!
+//! # Mechanism
+//!
+//! A piece is named by how many changes stand before its first line, and a dump by how many changes it is
+//! of. So a start sees where lines are missing: it takes a piece only where the one before it ends. No
+//! process goes on with a piece of another, since a part of a line may stand at its end: a start begins
+//! one of its own. Pieces that do not join are removed, and that is on the disk, before the first line is
+//! written: else they would join once the journal has grown to where they begin.
+//!
+//! What stands is a chain: from the newest dump on each piece says the changes up to the next, whatever of
+//! it a crash takes. One lemma says what a crash leaves of a chain, and one for each call that it is a chain
+//! behind it.
+#![tactic(auto)]
+
+mod laws;
+
+pub use laws::told_outlives;
