@@ -2,14 +2,14 @@
 use Rattle.std.proofs.Common.{◌≡◌, ◌≢◌, ℕ, ◌+◌, ◌≤◌, ◌<◌, Option, Some, None, List, [], ◌∷◌, length, All, refl, sym, ap, ◌∙◌, subst, inl, inr, ⊎_elim, arith, append-nil, length-append, eq-eqb, ne_eqb, if◌then◌else◌}
 use Rattle.std.proofs.lemmas.List.Elements.{All-cons, All-weaker}
 use Rattle.folder_core.specs.FileNames.{piece}
-use Rattle.folder_core.specs.Disk.{File, Disk, named, made}
+use Rattle.folder_core.specs.Disk.{File, Disk, named, new_file, made}
 use Rattle.folder_core.proofs.Chains.{Unnamed, MayName, IsPiece, IsLast, IsEnd, Chain, ends, goes_on}
-use Rattle.folder_core.proofs.Births.{new_file, longer_has, is_new}
+use Rattle.folder_core.proofs.Births.{longer_has, is_new}
 use Rattle.folder_core.proofs.Steps.{chain_first}
 
 module _ {L : Type 0} (disk : Disk L) (point : ℕ) where
   abbrev after : Disk L
-  after = made (piece point) disk
+  after = made (piece point) point disk
 
   -- another piece names what it named
   names_elsewhere : (p : ℕ) → p ≢ point → (P : Option ℕ → Type 0) → All P (named disk (piece p)) → All P (named after (piece p))
@@ -33,16 +33,15 @@ module _ {L : Type 0} (disk : Disk L) (point : ℕ) where
     pub new_last : Unnamed disk told (piece point) → ((p : ℕ) → point < p → Unnamed disk told (piece p)) → told ≤ point → IsLast after told point point []
     new_last none later untold = record {
       is_first = refl;
-      file = new_file (piece point);
+      file = new_file (piece point) point;
       is_piece = record {
         number = length disk.files;
         here = now_here;
         names = names_here none untold;
-        is = is_new (piece point) disk;
+        is = is_new (piece point) point disk;
       };
       lines_are = refl;
       told_is = (omega arith);
-      uncut = refl;
       no_later = λ p above. names_elsewhere p (λ e. omega arith) (λ (file : Option ℕ). file ≡ None) (later p above);
     }
 
@@ -51,7 +50,7 @@ module _ {L : Type 0} (disk : Disk L) (point : ℕ) where
       number = p.number;
       here = now_elsewhere n other ∙ p.here;
       names = names_elsewhere n other (MayName disk told n p.number) p.names;
-      is = longer_has (piece point) disk p.number file p.is;
+      is = longer_has (piece point) point disk p.number file p.is;
     }
 
     -- behind a last piece that has lines there is then an empty one

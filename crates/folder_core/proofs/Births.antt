@@ -6,7 +6,7 @@ use native.Mathlib.Decide.{ℕ_discrete}
 use lib.ListN.{get_elem?}
 use mathlib.Core.Option.{some-injective}
 use Rattle.folder_core.specs.FileNames.{FileName, dump, unfinished, piece, is_same_file_name}
-use Rattle.folder_core.specs.Disk.{File, Disk, empty_disk, Is, named, naming, made, renamed, name_removed, folder_synced, Changes, CrashLeaves}
+use Rattle.folder_core.specs.Disk.{File, Disk, empty_disk, Is, named, naming, new_file, made, renamed, name_removed, folder_synced, Changes, CrashLeaves}
 
 -- under which name a file was made that has this name
 abbrev pub birth : FileName → FileName
@@ -94,28 +94,25 @@ module _ {L : Type 0} where
       (λ other same number e. let b = now_born disk born (unfinished p) number e in record { file = b.file; is = b.is; born = b.born ∙ ap birth (sym (same_dump other p same)) }) born)
 
   -- a new file
-  abbrev pub new_file : FileName → File L
-  new_file name = record { born = name; lines = []; synced = 0; is_cut = false }
+  abbrev pub longer : FileName → ℕ → Disk L → Disk L
+  longer name resumes disk = record disk { files = disk.files ++ new_file name resumes ∷ [] }
 
-  abbrev pub longer : FileName → Disk L → Disk L
-  longer name disk = record disk { files = disk.files ++ new_file name ∷ [] }
+  pub longer_has : (name : FileName) (resumes : ℕ) (disk : Disk L) (number : ℕ) (file : File L) → Is disk number file → Is (longer name resumes disk) number file
+  longer_has name resumes disk number file is = at_longer disk.files (new_file name resumes ∷ []) number file is
 
-  pub longer_has : (name : FileName) (disk : Disk L) (number : ℕ) (file : File L) → Is disk number file → Is (longer name disk) number file
-  longer_has name disk number file is = at_longer disk.files (new_file name ∷ []) number file is
+  pub is_new : (name : FileName) (resumes : ℕ) (disk : Disk L) → Is (longer name resumes disk) (length disk.files) (new_file name resumes)
+  is_new name resumes disk = at_last disk.files (new_file name resumes) (length disk.files) refl
 
-  pub is_new : (name : FileName) (disk : Disk L) → Is (longer name disk) (length disk.files) (new_file name)
-  is_new name disk = at_last disk.files (new_file name) (length disk.files) refl
-
-  pub made_born : (disk : Disk L) (name : FileName) → ((other : FileName) → is_same_file_name other name ≡ true → birth other ≡ name) → AreBorn disk → AreBorn (made name disk)
-  made_born disk name own born =
-      naming_born (longer name disk) name (Some (length disk.files))
+  pub made_born : (disk : Disk L) (name : FileName) (resumes : ℕ) → ((other : FileName) → is_same_file_name other name ≡ true → birth other ≡ name) → AreBorn disk → AreBorn (made name resumes disk)
+  made_born disk name resumes own born =
+      naming_born (longer name resumes disk) name (Some (length disk.files))
       (λ other same number e. record {
-        file = new_file name;
-        is = subst (λ n. Is (longer name disk) n (new_file name)) (same_there (length disk.files) number e) (is_new name disk);
+        file = new_file name resumes;
+        is = subst (λ n. Is (longer name resumes disk) n (new_file name resumes)) (same_there (length disk.files) number e) (is_new name resumes disk);
         born = sym (own other same);
       })
-      (λ other. All-weaker (MayBe disk other) (MayBe (longer name disk) other)
-      (λ file. born_still disk (longer name disk) (λ number file is. (file, longer_has name disk number file is, refl)) other file)
+      (λ other. All-weaker (MayBe disk other) (MayBe (longer name resumes disk) other)
+      (λ file. born_still disk (longer name resumes disk) (λ number file is. (file, longer_has name resumes disk number file is, refl)) other file)
       (named disk other) (born other))
 
   pub folder_synced_born : (disk : Disk L) → AreBorn disk → AreBorn (folder_synced disk)

@@ -1,11 +1,11 @@
 -- Which calls leave the pieces of a journal as they stand.
-use Rattle.std.proofs.Common.{◌≡◌, ◌≢◌, ℕ, Option, List, [], ◌∷◌, length, Contains, refl, sym, ap, ◌∙◌, subst, arith, ne_eqb}
+use Rattle.std.proofs.Common.{◌≡◌, ◌≢◌, ℕ, Option, List, [], ◌∷◌, Contains, refl, sym, ap, ◌∙◌, subst, arith, ne_eqb}
 use lib.ListN.{get_elem?}
 use Rattle.std.proofs.lemmas.List.Elements.{Contains-append_left}
 use native.Mathlib.Decide.{ℕ_discrete}
 use mathlib.Core.Option.{some-injective}
 use Rattle.folder_core.specs.FileNames.{dump, unfinished, piece}
-use Rattle.folder_core.specs.Disk.{File, Disk, Is, made, renamed, name_removed, folder_synced, SyncsFile}
+use Rattle.folder_core.specs.Disk.{File, Disk, Is, made, renamed, name_removed, folder_synced, Changes, SyncsFile}
 use Rattle.folder_core.proofs.Births.{longer_has}
 use Rattle.folder_core.proofs.Steps.{Stays, IsNoLess, no_less_itself}
 
@@ -42,8 +42,8 @@ module _ {L : Type 0} where
   pub renamed_stays : (p : ℕ) (disk : Disk L) → Stays Anywhere disk (renamed (unfinished p) (dump p) disk)
   renamed_stays p disk = elsewhere Anywhere disk (renamed (unfinished p) (dump p) disk) (λ q _. refl) (λ q _. refl) (λ number f is. is)
 
-  pub made_unfinished_stays : (p : ℕ) (disk : Disk L) → Stays Anywhere disk (made (unfinished p) disk)
-  made_unfinished_stays p disk = elsewhere Anywhere disk (made (unfinished p) disk) (λ q _. refl) (λ q _. refl) (longer_has (unfinished p) disk)
+  pub made_unfinished_stays : (p resumes : ℕ) (disk : Disk L) → Stays Anywhere disk (made (unfinished p) resumes disk)
+  made_unfinished_stays p resumes disk = elsewhere Anywhere disk (made (unfinished p) resumes disk) (λ q _. refl) (λ q _. refl) (longer_has (unfinished p) resumes disk)
 
   pub folder_synced_stays : (disk : Disk L) → Stays Anywhere disk (folder_synced disk)
   folder_synced_stays disk = record {
@@ -52,26 +52,34 @@ module _ {L : Type 0} where
     files = λ p number file _ named is. (file, is, no_less_itself file);
   }
 
-  -- a file that is synced has no less
-  pub synced_files : (number : ℕ) (before after : Disk L) → SyncsFile number before after → (other : ℕ) (file : File L) → Is before other file → (later : File L) × Is after other later × IsNoLess file later
-  synced_files number before after s other file is = elim (ℕ_discrete other number) [
+  -- where one file has become another that has no less
+  pub changed_files : (number : ℕ) (old new : File L) (before after : Disk L) → Changes number old new before after → IsNoLess old new
+      → (other : ℕ) (file : File L) → Is before other file → (later : File L) × Is after other later × IsNoLess file later
+  changed_files number old new before after c alike other file is = elim (ℕ_discrete other number) [
     | yes same ↦
-        let one : file ≡ s.file = some-injective file s.file (sym is ∙ (ap (λ k. get_elem? before.files k) same ∙ s.synced.was)) in (
-          record s.file { synced = length s.file.lines },
-          subst (λ k. Is after k (record s.file { synced = length s.file.lines })) (sym same) s.synced.is,
-          record {
-            lines = ap (λ (f : File L). f.lines) (sym one);
-            synced = (let h = s.within in let a = ap (λ (f : File L). f.synced) one in omega arith);
-            whole = λ e. ap (λ (f : File L). length f.lines) (sym one);
-            cut = ap (λ (f : File L). f.is_cut) (sym one);
-          },
-        )
-    | no not ↦ (file, s.synced.files other file not is, no_less_itself file)
+        let one : old ≡ file = some-injective old file (sym c.was ∙ (ap (λ k. get_elem? before.files k) (sym same) ∙ is)) in
+        (new, subst (λ k. Is after k new) (sym same) c.is, subst (λ (f : File L). IsNoLess f new) one alike)
+    | no not ↦ (file, c.files other file not is, no_less_itself file)
   ]
 
-  pub syncs_stays : (number : ℕ) (before after : Disk L) → SyncsFile number before after → Stays Anywhere before after
-  syncs_stays number before after s = record {
-    now = λ p _. s.synced.now (piece p);
-    names = λ p _ file has. subst (λ (names : List (Option ℕ)). Contains names file) (λ i. s.synced.now (piece p) i ∷ s.synced.earlier (piece p) i) has;
-    files = λ p other file _ named is. synced_files number before after s other file is;
+  pub changed_stays : (number : ℕ) (old new : File L) (before after : Disk L) → Changes number old new before after → IsNoLess old new → Stays Anywhere before after
+  changed_stays number old new before after c alike = record {
+    now = λ p _. c.now (piece p);
+    names = λ p _ file has. subst (λ (names : List (Option ℕ)). Contains names file) (λ i. c.now (piece p) i ∷ c.earlier (piece p) i) has;
+    files = λ p other file _ named is. changed_files number old new before after c alike other file is;
   }
+
+  -- a file that is synced has no less
+  pub synced_alike : (number : ℕ) (before after : Disk L) → (s : SyncsFile number before after) → IsNoLess s.file (record s.file { synced = s.count })
+  synced_alike number before after s = record {
+    lines = refl;
+    synced = s.no_fewer;
+    whole = λ e. (let h = s.no_fewer in let k = s.within in omega arith);
+    resumes = refl;
+  }
+
+  pub synced_files : (number : ℕ) (before after : Disk L) → SyncsFile number before after → (other : ℕ) (file : File L) → Is before other file → (later : File L) × Is after other later × IsNoLess file later
+  synced_files number before after s = changed_files number s.file (record s.file { synced = s.count }) before after s.synced (synced_alike number before after s)
+
+  pub syncs_stays : (number : ℕ) (before after : Disk L) → SyncsFile number before after → Stays Anywhere before after
+  syncs_stays number before after s = changed_stays number s.file (record s.file { synced = s.count }) before after s.synced (synced_alike number before after s)

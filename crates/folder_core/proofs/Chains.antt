@@ -1,5 +1,5 @@
 -- The pieces of a journal as they stand in a folder, one behind another, and what a crash leaves of them.
-use Rattle.std.proofs.Common.{◌≡◌, ℕ, ◌+◌, ◌≤◌, ◌<◌, ◌⊎◌, false, Option, Some, None, List, [], ◌∷◌, ◌++◌, length, take, drop, All, refl, sym, ap, ◌∙◌, subst, inl, inr, ⊎_elim, arith, append_assoc, append-nil, length-append, eq-or-lt_of_le, take-append-drop}
+use Rattle.std.proofs.Common.{◌≡◌, ℕ, ◌+◌, ◌≤◌, ◌<◌, ◌⊎◌, Option, Some, None, List, [], ◌∷◌, ◌++◌, length, take, drop, All, refl, sym, ap, ◌∙◌, subst, inl, inr, ⊎_elim, arith, append_assoc, append-nil, length-append, eq-or-lt_of_le, take-append-drop}
 use Rattle.std.proofs.lemmas.List.{length-take-le, take_all}
 use Rattle.std.proofs.lemmas.List.Elements.{All-contains}
 use Rattle.folder_core.specs.FileNames.{FileName, piece}
@@ -118,7 +118,6 @@ module _ {L : Type 0} (disk : Disk L) (told : ℕ) where
     pub is_piece : IsPiece n file
     pub lines_are : lines ≡ file.lines
     pub told_is : told ≤ n + file.synced
-    pub uncut : file.is_cut ≡ false
     pub no_later : (p : ℕ) → n < p → Unnamed (piece p)
 
   -- ---- the end of what a start has found: nothing that was told stands behind it

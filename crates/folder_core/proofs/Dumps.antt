@@ -56,8 +56,8 @@ module _ {L : Type 0} where
   later_unnamed disk told first' n _ (ends _ lines e) p above = (let h = e.is_first in e.no_later p (omega arith))
   later_unnamed disk told first' n _ (goes_on _ file lines q full told_is between more) p above = later_unnamed disk told first' (n + length file.lines) lines more p above
 
-  pub made_piece_dumps : (n point : ℕ) (disk : Disk L) → DumpsStay n disk (made (piece point) disk)
-  made_piece_dumps n point disk = dumps_elsewhere n disk (made (piece point) disk) (λ p le. refl) (λ p le. refl) (all_there disk (made (piece point) disk) (longer_has (piece point) disk))
+  pub made_piece_dumps : (n point : ℕ) (disk : Disk L) → DumpsStay n disk (made (piece point) point disk)
+  made_piece_dumps n point disk = dumps_elsewhere n disk (made (piece point) point disk) (λ p le. refl) (λ p le. refl) (all_there disk (made (piece point) point disk) (longer_has (piece point) point disk))
 
   pub none_named : (disk : Disk L) (name : FileName) → NamesNone disk name → All (λ (file : Option ℕ). file ≡ None) (named disk name)
   none_named disk name n =

@@ -1,6 +1,6 @@
 -- What a start finds is one thing, and it finds it again behind another crash.
-use Rattle.std.proofs.Common.{◌≡◌, ℕ, ◌+◌, ◌≤◌, true, false, Option, Some, None, List, [], ◌∷◌, ◌++◌, length, All, refl, sym, ap, ◌∙◌, subst, inl, inr, arith, length-append, leb, leb-true, leb-false}
-use Rattle.std.proofs.lemmas.List.{length-take-le}
+use Rattle.std.proofs.Common.{◌≡◌, ℕ, ◌+◌, ◌≤◌, true, false, Option, Some, None, List, [], ◌∷◌, ◌++◌, length, drop, All, refl, sym, ap, ◌∙◌, subst, inl, inr, arith, length-append, leb, leb-true, leb-false}
+use Rattle.std.proofs.lemmas.List.{length-take-le, drop_at}
 use Rattle.std.proofs.lemmas.List.Elements.{All-nil, All-cons, All-contains}
 use mathlib.Core.Option.{some-injective}
 use Rattle.folder_core.specs.FileNames.{FileName, dump, piece}
@@ -43,24 +43,32 @@ module _ {L : Type 0} (disk : Disk L) where
         | false ↦ λ e. absurd (there_or_not (dump b) file has (newest b (leb-false b a e)))
       ] refl
 
-  pub restores_one : (p q : ℕ) (base base' behind behind' : List L) → Restores disk p base behind → Restores disk q base' behind' → (p ≡ q) × (base ≡ base') × (behind ≡ behind')
-  restores_one p q _ _ _ _ (behind_dump point file behind has newest joins) (behind_dump point' file' behind' has' newest' joins') =
+  -- behind as many lines that are skipped stands the same
+  same_behind : (n : ℕ) (a b s t : List L) → Joins disk n (s ++ a) → Joins disk n (t ++ b) → length s ≡ length t → a ≡ b
+  same_behind n a b s t p q e =
+      sym (drop_at s a (length s) refl) ∙ (ap (drop (length s)) (joins_one n (s ++ a) (t ++ b) p q) ∙ drop_at t b (length s) (sym e))
+
+  pub restores_one : (p q r r' : ℕ) (base base' behind behind' : List L) → Restores disk p r base behind → Restores disk q r' base' behind' → (p ≡ q) × (r ≡ r') × (base ≡ base') × (behind ≡ behind')
+  restores_one p q _ _ _ _ _ _ (behind_dump point file skipped behind has newest joins at) (behind_dump point' file' skipped' behind' has' newest' joins' at') =
       let a = not_later point point' file' newest has' in
       let b = not_later point' point file newest' has in
-      let same : point ≡ point' = omega arith in (
+      let same : point ≡ point' = omega arith in
+      let one : file ≡ file' = one_file (dump point) file file' has (subst (λ k. Has disk (dump k) file') (sym same) has') in
+      let resumes : file.resumes ≡ file'.resumes = ap (λ (f : File L). f.resumes) one in (
         same,
-        ap (λ (f : File L). f.lines) (one_file (dump point) file file' has (subst (λ k. Has disk (dump k) file') (sym same) has')),
-        joins_one point behind behind' joins (subst (λ k. Joins disk k behind') (sym same) joins'),
+        resumes,
+        ap (λ (f : File L). f.lines) one,
+        same_behind file.resumes behind behind' skipped skipped' joins (subst (λ k. Joins disk k (skipped' ++ behind')) (sym resumes) joins') (omega arith),
       )
-  restores_one p q _ _ _ _ (behind_dump point file behind has newest joins) (from_first behind' none newest' joins') =
+  restores_one p q _ _ _ _ _ _ (behind_dump point file skipped behind has newest joins at) (from_first behind' none newest' joins') =
       let a = not_later 0 point file newest' has in
       let same : point ≡ 0 = omega arith in
       absurd (there_or_not (dump 0) file (subst (λ k. Has disk (dump k) file) same has) none)
-  restores_one p q _ _ _ _ (from_first behind none newest joins) (behind_dump point' file' behind' has' newest' joins') =
+  restores_one p q _ _ _ _ _ _ (from_first behind none newest joins) (behind_dump point' file' skipped' behind' has' newest' joins' at') =
       let a = not_later 0 point' file' newest has' in
       let same : point' ≡ 0 = omega arith in
       absurd (there_or_not (dump 0) file' (subst (λ k. Has disk (dump k) file') same has') none)
-  restores_one p q _ _ _ _ (from_first behind none newest joins) (from_first behind' none' newest' joins') = (refl, refl, joins_one 0 behind behind' joins joins')
+  restores_one p q _ _ _ _ _ _ (from_first behind none newest joins) (from_first behind' none' newest' joins') = (refl, refl, refl, joins_one 0 behind behind' joins joins')
 
   -- ---- behind a crash all that is there is on the disk
   pub record IsSettled : Type 0 where

@@ -6,4 +6,6 @@ pub mod Begun
 pub mod Found
 pub mod Standing
 pub mod Dumps
+pub mod Captures
 pub mod Outlives
+pub mod WorkedExample

@@ -1,5 +1,5 @@
 -- What each call does to the pieces of a journal as they stand in a folder.
-use Rattle.std.proofs.Common.{◌≡◌, ◌≢◌, ℕ, ◌+◌, ◌≤◌, ◌<◌, Option, Some, None, List, [], ◌∷◌, ◌++◌, length, All, Contains, refl, sym, ap, ◌∙◌, subst, inl, inr, ⊎_elim, arith, append_assoc, length-append}
+use Rattle.std.proofs.Common.{◌≡◌, ◌≢◌, ℕ, ◌+◌, ◌≤◌, ◌<◌, ◌⊎◌, Option, Some, None, List, [], ◌∷◌, ◌++◌, length, All, Contains, refl, sym, ap, ◌∙◌, subst, inl, inr, ⊎_elim, leb, leb-true, leb-false, true, false, arith, append_assoc, length-append}
 use Rattle.std.proofs.lemmas.List.Elements.{All-nil, All-cons, All-contains, All-weaker, All-contains_itself}
 use mathlib.Core.Option.{some-injective}
 use Rattle.folder_core.specs.FileNames.{FileName, dump, unfinished, piece}
@@ -25,10 +25,10 @@ module _ {L : Type 0} where
     pub lines : after.lines ≡ before.lines
     pub synced : before.synced ≤ after.synced
     pub whole : before.synced ≡ length before.lines → after.synced ≡ length before.lines
-    pub cut : after.is_cut ≡ before.is_cut
+    pub resumes : after.resumes ≡ before.resumes
 
   pub no_less_itself : (file : File L) → IsNoLess file file
-  no_less_itself file = record { lines = refl; synced = (omega arith); whole = λ e. e; cut = refl }
+  no_less_itself file = record { lines = refl; synced = (omega arith); whole = λ e. e; resumes = refl }
 
   -- What a call leaves of such pieces: each names the same now, and before only what it named; and their files
   -- have no less.
@@ -64,7 +64,6 @@ module _ {L : Type 0} where
           is_piece = f.1;
           lines_are = e.lines_are ∙ sym f.2.lines;
           told_is = (omega arith);
-          uncut = f.2.cut ∙ e.uncut;
           no_later = λ p above. unnamed_stays p (all p (omega arith)) (e.no_later p above);
         }
 
@@ -104,46 +103,75 @@ module _ {L : Type 0} where
   chain_first disk told first n _ (ends _ lines e) = (let h = e.is_first in omega arith)
   chain_first disk told first n _ (goes_on _ file lines p full told_is between more) = (let h = chain_first disk told first (n + length file.lines) lines more in omega arith)
 
-  -- what is on the disk names its file alone
-  on_disk_named : (disk : Disk L) (told n number : ℕ) → disk.now (piece n) ≡ Some number → disk.earlier (piece n) ≡ [] → All (MayName disk told n number) (named disk (piece n))
-  on_disk_named disk told n number here none =
-      subst (λ (earlier : List (Option ℕ)). All (MayName disk told n number) (disk.now (piece n) ∷ earlier)) (sym none)
-      (All-cons (MayName disk told n number) (disk.now (piece n)) [] (inl here) (All-nil (MayName disk told n number)))
+  -- of a chain its last piece is one
+  pub last_chain : (disk : Disk L) (told first n : ℕ) (lines : List L) → Chain disk told (IsLast disk told first) n lines
+      → (skipped : List L) × (rest : List L) × (lines ≡ skipped ++ rest) × (n + length skipped ≡ first) × Chain disk told (IsLast disk told first) first rest
+  last_chain disk told first n _ (ends _ lines e) =
+      let is = e.is_first in
+      ([], lines, refl, omega arith, subst (λ m. Chain disk told (IsLast disk told first) m lines) is (ends _ lines e))
+  last_chain disk told first n _ (goes_on _ file lines p full told_is between more) =
+      let t = last_chain disk told first (n + length file.lines) lines more in
+      let size = length-append file.lines t.0 in
+      let at = t.3 in
+      (file.lines ++ t.0, t.1, ap (λ z. file.lines ++ z) t.2 ∙ sym (append_assoc file.lines t.0 t.1), omega arith, t.4)
 
-  -- ---- all that stands there is told
+  -- ---- more is told
+  -- Of a piece the changes up to there are told: where it begins before them, its name is settled, and they are on
+  -- the disk, all of it or so many.
+  abbrev pub HoldsTold : Disk L → ℕ → ℕ → ℕ → Type 0
+  HoldsTold disk told n number =
+      (disk.earlier (piece n) ≡ []) × ((file : File L) → Is disk number file → (file.synced ≡ length file.lines) ⊎ (told ≤ n + file.synced))
+
+  told_piece : (disk : Disk L) (told told' n : ℕ) (file : File L) → ((number : ℕ) → n < told' → disk.now (piece n) ≡ Some number → HoldsTold disk told' n number)
+      → IsPiece disk told n file → IsPiece disk told' n file × ((told' ≤ n + file.synced) ⊎ (file.synced ≡ length file.lines))
+  told_piece disk told told' n file on p =
+      elim (leb told' n) as (λ z. leb told' n ≡ z → IsPiece disk told' n file × ((told' ≤ n + file.synced) ⊎ (file.synced ≡ length file.lines))) [
+        | true ↦ λ e. let beyond : told' ≤ n = leb-true told' n e in (
+          record {
+            number = p.number;
+            here = p.here;
+            names = All-weaker (MayName disk told n p.number) (MayName disk told' n p.number)
+                (λ name. ⊎_elim inl (λ (t : (name ≡ None) × (told ≤ n)). inr (t.0, beyond)))
+                (named disk (piece n)) p.names;
+            is = p.is;
+          },
+          inl (omega arith),
+        )
+        | false ↦ λ e. let h = on p.number (leb-false told' n e) p.here in (
+          record {
+            number = p.number;
+            here = p.here;
+            names = subst (λ (earlier : List (Option ℕ)). All (MayName disk told' n p.number) (disk.now (piece n) ∷ earlier)) (sym h.0)
+                (All-cons (MayName disk told' n p.number) (disk.now (piece n)) [] (inl p.here) (All-nil (MayName disk told' n p.number)));
+            is = p.is;
+          },
+          ⊎_elim inr inl (h.1 file p.is),
+        )
+      ] refl
+
   told_last : (disk : Disk L) (told told' first n : ℕ) (lines : List L) → told' ≤ n + length lines
-      → ((p number : ℕ) → n ≤ p → disk.now (piece p) ≡ Some number → (disk.earlier (piece p) ≡ []) × ((file : File L) → Is disk number file → file.synced ≡ length file.lines))
+      → ((p number : ℕ) → n ≤ p → p < told' → disk.now (piece p) ≡ Some number → HoldsTold disk told' p number)
       → IsLast disk told first n lines → IsLast disk told' first n lines
   told_last disk told told' first n lines within on e =
-      let h = on n e.is_piece.number (omega arith) e.is_piece.here in
-      let all = h.1 e.file e.is_piece.is in
+      let h = told_piece disk told told' n e.file (λ number. on n number (omega arith)) e.is_piece in
       let same = ap length e.lines_are in
       record {
         is_first = e.is_first;
         file = e.file;
-        is_piece = record {
-          number = e.is_piece.number;
-          here = e.is_piece.here;
-          names = on_disk_named disk told' n e.is_piece.number e.is_piece.here h.0;
-          is = e.is_piece.is;
-        };
+        is_piece = h.0;
         lines_are = e.lines_are;
-        told_is = (omega arith);
-        uncut = e.uncut;
+        told_is = ⊎_elim (λ (t : told' ≤ n + e.file.synced). t) (λ (t : e.file.synced ≡ length e.file.lines). omega arith) h.1;
         no_later = e.no_later;
       }
 
   pub told_chain : (disk : Disk L) (told told' first n : ℕ) (lines : List L) → told' ≤ n + length lines
-      → ((p number : ℕ) → n ≤ p → disk.now (piece p) ≡ Some number → (disk.earlier (piece p) ≡ []) × ((file : File L) → Is disk number file → file.synced ≡ length file.lines))
+      → ((p number : ℕ) → n ≤ p → p < told' → disk.now (piece p) ≡ Some number → HoldsTold disk told' p number)
       → Chain disk told (IsLast disk told first) n lines → Chain disk told' (IsLast disk told' first) n lines
   told_chain disk told told' first n _ within on (ends _ lines e) = ends _ lines (told_last disk told told' first n lines within on e)
   told_chain disk told told' first n _ within on (goes_on _ file lines p full told_is between more) =
-      let h = on n p.number (omega arith) p.here in
-      let all = h.1 file p.is in
+      let h = told_piece disk told told' n file (λ number. on n number (omega arith)) p in
       let whole = length-append file.lines lines in
-      goes_on _ file lines
-      (record { number = p.number; here = p.here; names = on_disk_named disk told' n p.number p.here h.0; is = p.is })
-      full (inr all) between
+      goes_on _ file lines h.0 full h.1 between
       (told_chain disk told told' first (n + length file.lines) lines (omega arith) (λ q number above. on q number (omega arith)) more)
 
   -- ---- a line more
@@ -169,7 +197,7 @@ module _ {L : Type 0} where
       let was = e.told_is in
       record {
         is_first = e.is_first;
-        file = record w.file { lines = w.file.lines ++ line ∷ [] };
+        file = record w.file { lines = w.file.lines ++ line ∷ []; part = None };
         is_piece = record {
           number = number;
           here = w.wrote.now (piece n) ∙ (ap (λ k. before.now (piece k)) e.is_first ∙ here);
@@ -179,7 +207,6 @@ module _ {L : Type 0} where
         };
         lines_are = ap (λ z. z ++ line ∷ []) (e.lines_are ∙ ap (λ (f : File L). f.lines) one);
         told_is = (omega arith);
-        uncut = w.whole;
         no_later = λ q above. subst (All (λ (file : Option ℕ). file ≡ None)) (λ i. sym (w.wrote.now (piece q)) i ∷ sym (w.wrote.earlier (piece q)) i) (e.no_later q above);
       }
 

@@ -1,18 +1,20 @@
 -- A folder on a disk, what calls do to it, and what a crash leaves of it: of each file a front
 -- that has at least what was synced, and of each name what it named at the folder's last sync, or
 -- at some time since.
-use Rattle.std.specs.Prelude.{◌≡◌, ◌≢◌, ◌≤◌, ℕ, Bool, false, if◌then◌else◌, List, [], ◌∷◌, ◌++◌, length, take, Option, Some, None, Contains}
+use Rattle.std.specs.Prelude.{◌≡◌, ◌≢◌, ◌≤◌, ◌⊎◌, ℕ, if◌then◌else◌, List, [], ◌∷◌, ◌++◌, length, take, Option, Some, None, Contains}
 use lib.ListN.{get_elem?}
 use mathlib.Core.Option.{some}
 use Rattle.folder_core.specs.FileNames.{FileName, is_same_file_name}
 
--- A file of lines: the name under which it was made, the lines that were written, how many of the
--- first are on the disk for sure, and whether a part of one more line stands behind them.
+-- A file of lines: the name under which it was made; the piece of the journal with which its reader
+-- goes on, which it tells by its name; the lines that were written, how many of the first are on the
+-- disk for sure, and of which line a part stands behind them, if of any.
 pub record File (L : Type 0) : Type 0 where
   pub born : FileName
+  pub resumes : ℕ
   pub lines : List L
   pub synced : ℕ
-  pub is_cut : Bool
+  pub part : Option L
 
 -- A folder: its files, by number; what each name names now, a file or none; and what else it has
 -- named since the folder's last sync.
@@ -43,13 +45,16 @@ module _ {L : Type 0} where
         earlier = λ other. if is_same_file_name other name then named disk other else disk.earlier other;
       }
 
+  -- a file without lines
+  abbrev pub new_file : FileName → ℕ → File L
+  new_file name resumes =
+      record { born = name; resumes = resumes; lines = []; synced = 0; part = None }
+
   -- a new file is made
-  abbrev pub made : FileName → Disk L → Disk L
-  made name disk =
+  abbrev pub made : FileName → ℕ → Disk L → Disk L
+  made name resumes disk =
       naming name (Some (length disk.files))
-      (record disk {
-        files = disk.files ++ record { born = name; lines = []; synced = 0; is_cut = false } ∷ [];
-      })
+      (record disk { files = disk.files ++ new_file name resumes ∷ [] })
 
   -- a file is renamed, in the place of another, if there is one
   abbrev pub renamed : FileName → FileName → Disk L → Disk L
@@ -74,17 +79,27 @@ module _ {L : Type 0} where
     pub now : (name : FileName) → after.now name ≡ before.now name
     pub earlier : (name : FileName) → after.earlier name ≡ before.earlier name
 
-  -- a line is written to a file at whose end stands no part of another
+  -- a part of a line is written to a file that ends with a whole one
+  pub record BeginsLine (number : ℕ) (line : L) (before after : Disk L) : Type 0 where
+    pub file : File L
+    pub whole : file.part ≡ None
+    pub wrote : Changes number file (record file { part = Some line }) before after
+
+  -- a line is written, or the rest of one of which a part stands there
   pub record WritesLine (number : ℕ) (line : L) (before after : Disk L) : Type 0 where
     pub file : File L
-    pub whole : file.is_cut ≡ false
-    pub wrote : Changes number file (record file { lines = file.lines ++ line ∷ [] }) before after
+    pub goes_on : (file.part ≡ None) ⊎ (file.part ≡ Some line)
+    pub wrote : Changes number file (record file { lines = file.lines ++ line ∷ []; part = None })
+        before after
 
-  -- a file is synced, of which no more was than was written
+  -- A file is synced: so many of its lines are on the disk, no fewer than before. Lines that were
+  -- written while the call went on may be among them or not.
   pub record SyncsFile (number : ℕ) (before after : Disk L) : Type 0 where
     pub file : File L
-    pub within : file.synced ≤ length file.lines
-    pub synced : Changes number file (record file { synced = length file.lines }) before after
+    pub count : ℕ
+    pub no_fewer : file.synced ≤ count
+    pub within : count ≤ length file.lines
+    pub synced : Changes number file (record file { synced = count }) before after
 
   -- ---- crashes
   -- what a crash leaves of a file
@@ -95,6 +110,7 @@ module _ {L : Type 0} where
     pub lines : new.lines ≡ take count old.lines
     pub on_disk : new.synced ≡ count
     pub born : new.born ≡ old.born
+    pub resumes : new.resumes ≡ old.resumes
 
   -- what a crash leaves of a folder
   pub record CrashLeaves (old new : Disk L) : Type 0 where

@@ -33,15 +33,18 @@ module _ {L : Type 0} (disk : Disk L) where
   abbrev pub IsNewest : ℕ → Type 0
   IsNewest point = (later : ℕ) → point < later → HasNone (dump later)
 
-  -- what is restored: the newest dump and the lines behind it, or without a dump all lines
-  pub data Restores : ℕ → List L → List L → Type 0 where
-    behind_dump : (point : ℕ) (file : File L) (behind : List L)
+  -- What is restored: the newest dump, and of the lines from the piece on with which it resumes those
+  -- behind its point; or without a dump all lines. It is told behind how many changes the dump stands, and
+  -- with which piece it resumes.
+  pub data Restores : ℕ → ℕ → List L → List L → Type 0 where
+    behind_dump : (point : ℕ) (file : File L) (skipped behind : List L)
         → Has (dump point) file
         → IsNewest point
-        → Joins point behind
-        → Restores point file.lines behind
+        → Joins file.resumes (skipped ++ behind)
+        → file.resumes + length skipped ≡ point
+        → Restores point file.resumes file.lines behind
     from_first : (behind : List L)
         → HasNone (dump 0)
         → IsNewest 0
         → Joins 0 behind
-        → Restores 0 [] behind
+        → Restores 0 0 [] behind

@@ -1,8 +1,8 @@
 -- What a server does to its folder, from its first start on and through every crash: and that
 -- what was told is restored.
-use Rattle.std.specs.Prelude.{◌≡◌, ◌≤◌, ◌<◌, ℕ, ◌+◌, List, [], ◌∷◌, ◌++◌, length, take, Option, Some, None}
+use Rattle.std.specs.Prelude.{◌≡◌, ◌≤◌, ◌<◌, ◌⊎◌, ℕ, ◌+◌, List, [], ◌∷◌, ◌++◌, length, take, Option, Some, None}
 use Rattle.folder_core.specs.FileNames.{FileName, dump, unfinished, piece}
-use Rattle.folder_core.specs.Disk.{File, Disk, empty_disk, Is, made, renamed, name_removed, folder_synced, WritesLine, SyncsFile, CrashLeaves}
+use Rattle.folder_core.specs.Disk.{File, Disk, empty_disk, Is, made, renamed, name_removed, folder_synced, BeginsLine, WritesLine, SyncsFile, CrashLeaves}
 use Rattle.folder_core.specs.Restoring.{Restores}
 
 -- How far it is: a crash has ended it; it starts; or it serves, and writes to the piece that
@@ -17,30 +17,45 @@ abbrev pub IsUp : Phase → Type 0
 IsUp crashed = ⊥
 IsUp _ = Unit {0}
 
--- A folder and how far its server is: the point of the newest dump, the lines of all changes
--- since the first, and how many of them were told.
+-- A folder and how far its server is: the point of the newest dump, the piece with which it resumes,
+-- the lines of all changes since the first, and how many of them were told.
 pub record ServerState (L : Type 0) : Type 0 where
   pub disk : Disk L
   pub phase : Phase
   pub base : ℕ
+  pub resumes : ℕ
   pub journal : List L
   pub told : ℕ
 
 module _ {L : Type 0} where
   abbrev pub nothing_served : ServerState L
-  nothing_served = record { disk = empty_disk; phase = crashed; base = 0; journal = []; told = 0 }
+  nothing_served =
+      record {
+        disk = empty_disk;
+        phase = crashed;
+        base = 0;
+        resumes = 0;
+        journal = [];
+        told = 0;
+      }
 
   abbrev pub on : Disk L → ServerState L → ServerState L
   on disk s = record s { disk = disk }
 
-  -- a file is on the disk whole, and is the only one that its name has named since the folder's
-  -- last sync
-  pub record IsOnDisk (disk : Disk L) (name : FileName) (number : ℕ) : Type 0 where
+  -- the journal goes on in a piece of its own
+  abbrev pub begun : ServerState L → ServerState L
+  begun s =
+      record (on (made (piece (length s.journal)) (length s.journal) s.disk) s) {
+        phase = serving (length s.journal) None;
+      }
+
+  -- of a piece on the disk these changes are there for sure: all of it, or so many
+  pub record HoldsUpTo (count : ℕ) (disk : Disk L) (point number : ℕ) : Type 0 where
     pub file : File L
-    pub named : disk.now name ≡ Some number
-    pub settled : disk.earlier name ≡ []
+    pub named : disk.now (piece point) ≡ Some number
+    pub settled : disk.earlier (piece point) ≡ []
     pub is : Is disk number file
-    pub synced : file.synced ≡ length file.lines
+    pub synced : (file.synced ≡ length file.lines) ⊎ (count ≤ point + file.synced)
 
   -- it names nothing, and has not since the folder's last sync
   abbrev pub NamesNone : Disk L → FileName → Type 0
@@ -62,12 +77,13 @@ module _ {L : Type 0} where
         → IsUp s.phase
         → ServerStep dumped s (on (name_removed (unfinished point) s.disk) s)
     -- ---- while it starts
-    finds : (point : ℕ) (base behind : List L)
+    finds : (point resumes : ℕ) (base behind : List L)
         → s.phase ≡ crashed
-        → Restores s.disk point base behind
+        → Restores s.disk point resumes base behind
         → ServerStep dumped s (record s {
           phase = starting;
           base = point;
+          resumes = resumes;
           journal = take (point + length behind) s.journal;
         })
     clears : (point : ℕ)
@@ -76,30 +92,38 @@ module _ {L : Type 0} where
         → ServerStep dumped s (on (name_removed (piece point) s.disk) s)
     is_ready : s.phase ≡ starting
         → ((point : ℕ) → length s.journal ≤ point → NamesNone s.disk (piece point))
-        → ServerStep dumped s (record (on (made (piece (length s.journal)) s.disk) s) {
-          phase = serving (length s.journal) None;
-        })
+        → ServerStep dumped s (begun s)
     -- ---- while it serves
     enters : (first number : ℕ) (capture : Option ℕ) (line : L) (after : Disk L)
         → s.phase ≡ serving first capture
         → s.disk.now (piece first) ≡ Some number
         → WritesLine number line s.disk after
         → ServerStep dumped s (record (on after s) { journal = s.journal ++ line ∷ [] })
-    tells : (first : ℕ) (capture : Option ℕ)
+    falls_short : (first number : ℕ) (capture : Option ℕ) (line : L) (after : Disk L)
         → s.phase ≡ serving first capture
-        → ((point number : ℕ) → s.base ≤ point → s.disk.now (piece point) ≡ Some number
-        → IsOnDisk s.disk (piece point) number)
-        → ServerStep dumped s (record s { told = length s.journal })
+        → s.disk.now (piece first) ≡ Some number
+        → BeginsLine number line s.disk after
+        → ServerStep dumped s (on after s)
+    tells : (first count : ℕ) (capture : Option ℕ)
+        → s.phase ≡ serving first capture
+        → s.told ≤ count
+        → count ≤ length s.journal
+        → ((point number : ℕ) → s.resumes ≤ point → point < count
+        → s.disk.now (piece point) ≡ Some number
+        → HoldsUpTo count s.disk point number)
+        → ServerStep dumped s (record s { told = count })
     begins : (first : ℕ)
         → s.phase ≡ serving first None
         → first < length s.journal
-        → ServerStep dumped s (record (on (made (piece (length s.journal)) s.disk) s) {
-          phase = serving (length s.journal) (Some (length s.journal));
-        })
+        → ServerStep dumped s (begun s)
+    captures : (first : ℕ)
+        → s.phase ≡ serving first None
+        → s.base < length s.journal
+        → ServerStep dumped s (record s { phase = serving first (Some (length s.journal)) })
     makes : (first point : ℕ)
         → s.phase ≡ serving first (Some point)
         → NamesNone s.disk (dump point)
-        → ServerStep dumped s (on (made (unfinished point) s.disk) s)
+        → ServerStep dumped s (on (made (unfinished point) first s.disk) s)
     writes : (first point number : ℕ) (line : L) (after : Disk L)
         → s.phase ≡ serving first (Some point)
         → NamesNone s.disk (dump point)
@@ -112,19 +136,21 @@ module _ {L : Type 0} where
         → Is s.disk number file
         → file.lines ≡ dumped (take point s.journal)
         → file.synced ≡ length file.lines
+        → file.resumes ≡ first
+        → point ≤ s.told
         → ServerStep dumped s (on (renamed (unfinished point) (dump point) s.disk) s)
     settles : (first point number : ℕ)
         → s.phase ≡ serving first (Some point)
         → s.disk.now (dump point) ≡ Some number
         → s.disk.earlier (dump point) ≡ []
-        → ServerStep dumped s (record s { phase = serving first None; base = point })
+        → ServerStep dumped s (record s { phase = serving first None; base = point; resumes = first })
     gives_up : (first point : ℕ)
         → s.phase ≡ serving first (Some point)
         → NamesNone s.disk (dump point)
         → ServerStep dumped s (record s { phase = serving first None })
     removes_piece : (first point : ℕ) (capture : Option ℕ)
         → s.phase ≡ serving first capture
-        → point < s.base
+        → point < s.resumes
         → ServerStep dumped s (on (name_removed (piece point) s.disk) s)
     removes_dump : (first point : ℕ) (capture : Option ℕ)
         → s.phase ≡ serving first capture
@@ -143,10 +169,11 @@ module _ {L : Type 0} where
   -- first changes leave, or without a dump nothing, and behind it the lines of the others.
   pub record IsRestored (dumped : List L → List L) (s : ServerState L) : Type 0 where
     pub point : ℕ
+    pub resumes : ℕ
     pub base : List L
     pub behind : List L
     pub rest : List L
-    pub restores : Restores s.disk point base behind
+    pub restores : Restores s.disk point resumes base behind
     pub base_is : base ≡ dumped (take point s.journal)
     pub journal_is : s.journal ≡ take point s.journal ++ (behind ++ rest)
     pub within : point ≤ length s.journal

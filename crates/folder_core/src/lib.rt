@@ -14,14 +14,17 @@
 //! # Mechanism
 //!
 //! A piece is named by how many changes stand before its first line, and a dump by how many changes it is
-//! of. So a start sees where lines are missing: it takes a piece only where the one before it ends. No
+//! of, and by the piece in which these end. So a start knows with which piece the journal resumes behind the
+//! dump, and how many of its lines it skips; and it sees where lines are missing: it takes a piece only where
+//! the one before it ends. So a capture may begin at any change, whoever writes lines meanwhile. No
 //! process goes on with a piece of another, since a part of a line may stand at its end: a start begins
 //! one of its own. Pieces that do not join are removed, and that is on the disk, before the first line is
 //! written: else they would join once the journal has grown to where they begin.
 //!
-//! What stands is a chain: from the newest dump on each piece says the changes up to the next, whatever of
-//! it a crash takes. One lemma says what a crash leaves of a chain, and one for each call that it is a chain
-//! behind it.
+//! What stands is a chain: from that piece on each says the changes up to the next, whatever of it a crash
+//! takes. One lemma says what a crash leaves of a chain, and one for each call that it is a chain behind it.
+//! A dump has its name only once the changes that it is of are on the disk as lines: so what a crash leaves
+//! of the chain reaches its point.
 #![tactic(auto)]
 
 mod laws;
