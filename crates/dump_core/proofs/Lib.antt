@@ -23,3 +23,4 @@ pub mod Formed
 pub mod OneDump
 pub mod WritingLemmas
 pub mod Loaded
+pub mod Imaged

@@ -1,5 +1,5 @@
 -- Lines that are written one after another.
-use Rattle.std.proofs.Common.{◌≡◌, ℕ, suc, false, ◌+◌, List, [], ◌∷◌, ◌++◌, map, length, take, drop, Option, Some, Result, Err, refl, sym, ap, ◌∙◌, subst, append_assoc, append-nil}
+use Rattle.std.proofs.Common.{◌≡◌, ◌<◌, ℕ, zero, suc, false, get_or, arith, ◌+◌, List, [], ◌∷◌, ◌++◌, map, length, take, drop, Option, Some, Result, Err, refl, sym, ap, ◌∙◌, subst, append_assoc, append-nil}
 use Rattle.std.specs.Prelude.{slice_get}
 use Rattle.std.specs.List.{AllByRecursion, flat_map}
 use Rattle.std.specs.Io.KnownBytes.{Appends, Keeps}
@@ -20,14 +20,13 @@ use Rattle.base_core.proofs.Fronts.{front-first, front-second}
 use Rattle.journal_core.proofs.Lines.{text-append}
 use Rattle.printer_core.specs.Printing.{ended_line, has_literals}
 use Rattle.grants_core.specs.declared.grant.Grant.{Grant}
-use Rattle.system_core.specs.Journal.{tables_at, rights_at}
 use Rattle.system_core.specs.declared.machine.event.Entry.{Entry}
 use Rattle.dump_core.specs.declared.fault.DumpFault.{DumpFault}
 use Rattle.dump_core.specs.declared.fault.DumpFault.TheVariants as faults
-use Rattle.dump_core.specs.Dump.{creation, insertion, insertions, granting, grants_together, dump}
+use Rattle.dump_core.specs.Dump.{creation, insertion, insertions, granting, grants_together, dump_of}
 use Rattle.dump_core.specs.Grouped.{Group}
 use Rattle.dump_core.specs.Laws.{AreWellFormed}
-use Rattle.dump_core.specs.Ending.{HasLine, WritesLines, IsLongItself, IsLongAmong, IsLongIn, IsLongRow, IsNowhere, EndsLines, EndsDump}
+use Rattle.dump_core.specs.Ending.{HasLine, WritesLines, IsLongItself, IsLongAmong, IsLongIn, IsLongRow, IsNowhere, EndsLines}
 
 pub none : (a : Option (List ℕ)) → WritesLines [] a a
 none a = record { each = tt; wrote = Appends-nil a }
@@ -75,6 +74,12 @@ around xs i x e = split_at xs i x (slice_get_within xs i x e) ∙ ap (λ y. take
 
 pub one_more : {A : Type 0} (xs : List A) (i : ℕ) (x : A) → slice_get xs i ≡ Some x → take (i + 1) xs ≡ take i xs ++ x ∷ []
 one_more xs i x e = take_more xs i x (slice_get_within xs i x e) ∙ ap (λ y. take i xs ++ y ∷ []) (get_or_from_slice_get xs i x x e)
+
+-- what is made of an item stands where the item does
+pub made_at : {A B : Type 0} (f : A → B) (xs : List A) (i : ℕ) (x : A) → i < length xs → x ≡ get_or xs i x → slice_get (map f xs) i ≡ Some (f x)
+made_at f [] i x within e = absurd (let h : ⊥ = omega arith in h)
+made_at f (y ∷ ys) zero x within e = ap (λ z. Some (f z)) (sym e)
+made_at f (y ∷ ys) (suc i) x within e = made_at f ys i x (let h : i < length ys = omega arith in h) e
 
 -- what holds of all entries holds of those in their midst
 module _ {A : Type 0} (P : A → Type 0) where
@@ -203,9 +208,9 @@ granting-plain [] e more is = cc
 granting-plain (group ∷ groups) e more is = let same : e ≡ granting group = cc in ap (λ k. has_literals k.statement) same
 
 -- ---- the three parts of a dump
-module _ (journal : List Entry) (a b c d : Option (List ℕ)) where
-  abbrev tables : List (Name × Table)
-  tables = tables_at journal
+module _ (tables : List (Name × Table)) (given : List Grant) (a b c d : Option (List ℕ)) where
+  abbrev Ends : Result (Unit {0}) DumpFault → Option (List ℕ) → Option (List ℕ) → Type 0
+  Ends = EndsLines (IsLongRow tables) (dump_of tables given)
 
   abbrev creations : List Entry
   creations = map creation tables
@@ -214,21 +219,21 @@ module _ (journal : List Entry) (a b c d : Option (List ℕ)) where
   rows = flat_map insertions tables
 
   abbrev grants : List Entry
-  grants = map granting (grants_together (rights_at journal).in_force)
+  grants = map granting (grants_together given)
 
-  pub in_creations : (f : DumpFault) → EndsLines {T = Unit {0}} IsNowhere creations (Err f) a b → EndsDump journal (Err f) a b
+  pub in_creations : (f : DumpFault) → EndsLines {T = Unit {0}} IsNowhere creations (Err f) a b → Ends (Err f) a b
   in_creations f e = ends-behind (Unit {0}) (Unit {0}) IsNowhere (IsLongRow tables) [] creations (rows ++ grants) a a b f (λ name number before h. absurd h) (none a) e
 
-  pub in_rows : (f : DumpFault) → WritesLines creations a b → EndsLines {T = Unit {0}} (IsLongIn tables) rows (Err f) b c → EndsDump journal (Err f) a c
+  pub in_rows : (f : DumpFault) → WritesLines creations a b → EndsLines {T = Unit {0}} (IsLongIn tables) rows (Err f) b c → Ends (Err f) a c
   in_rows f v e = ends-behind (Unit {0}) (Unit {0}) (IsLongIn tables) (IsLongRow tables) creations rows grants a b c f (λ name number before h. record { inserted = before; row = h; before_are = refl }) v e
 
-  pub in_grants : (f : DumpFault) → WritesLines creations a b → WritesLines rows b c → EndsLines {T = Unit {0}} IsNowhere grants (Err f) c d → EndsDump journal (Err f) a d
+  pub in_grants : (f : DumpFault) → WritesLines creations a b → WritesLines rows b c → EndsLines {T = Unit {0}} IsNowhere grants (Err f) c d → Ends (Err f) a d
   in_grants f v w e =
       let all : (creations ++ rows) ++ (grants ++ []) ≡ creations ++ (rows ++ grants) = ap (λ t. (creations ++ rows) ++ t) (append-nil grants) ∙ append_assoc creations rows grants in
       let whole = ends-behind (Unit {0}) (Unit {0}) IsNowhere (IsLongRow tables) (creations ++ rows) grants [] a c d f (λ name number before h. absurd h) (then creations rows a b c v w) e in
       subst (λ es. EndsLines {T = Unit {0}} (IsLongRow tables) es (Err f) a d) all whole
 
-  pub all_parts : WritesLines creations a b → WritesLines rows b c → WritesLines grants c d → WritesLines (dump journal) a d
+  pub all_parts : WritesLines creations a b → WritesLines rows b c → WritesLines grants c d → WritesLines (dump_of tables given) a d
   all_parts v w u = then creations (rows ++ grants) a b d v (then rows grants b c d w u)
 
 -- what is handed on stays written

@@ -19,6 +19,8 @@ use Rattle.reader_core.specs.declared.privilege.Privilege.TheVariants as privile
 use Rattle.reader_core.specs.declared.statement.Statement.TheVariants as statements
 use Rattle.tables_core.specs.Contents.{Table}
 use Rattle.grants_core.specs.declared.grant.Grant.{Grant}
+use Rattle.capture_core.specs.declared.image.Image.{Image}
+use Rattle.capture_core.specs.declared.image.TableImage.{TableImage}
 use Rattle.monitor_core.specs.Atoms.{columns_listed}
 use Rattle.system_core.specs.declared.machine.event.Entry.{Entry}
 use Rattle.system_core.specs.Journal.{tables_at, rights_at}
@@ -122,3 +124,23 @@ dump_of tables grants =
 -- what a journal leaves: its tables with their rows, and the grants in force
 abbrev pub dump : List Entry → List Entry
 dump journal = dump_of (tables_at journal) (rights_at journal).in_force
+
+-- ---- the dump of an image
+-- a table as an image keeps it, whose rows have no numbers
+abbrev pub as_table : TableImage → Name × Table
+as_table t = (
+  t.name,
+  record {
+    owner = t.owner;
+    columns = t.columns;
+    inserted = 0;
+    rows = map (λ row. (0, row)) t.rows;
+  },
+)
+
+abbrev pub tables_kept : Image → List (Name × Table)
+tables_kept image = map as_table image.tables
+
+-- the dump of what an image keeps
+abbrev pub dump_of_image : Image → List Entry
+dump_of_image image = dump_of (tables_kept image) image.grants

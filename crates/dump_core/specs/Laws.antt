@@ -10,8 +10,11 @@ use Rattle.tables_core.specs.Contents.{all_rows}
 use Rattle.monitor_core.specs.Verdict.{is_change}
 use Rattle.system_core.specs.declared.machine.event.Entry.{Entry}
 use Rattle.system_core.specs.Journal.{tables_at, rights_at, verdict_at, IsLawful}
+use Rattle.system_core.specs.Exports.{journal_at}
+use Rattle.system_core.specs.Standing.{IsImageOf}
 use Rattle.system_core.specs.Step.{IsAnswer}
-use Rattle.dump_core.specs.Dump.{dump, grants_together}
+use Rattle.capture_core.specs.declared.image.Image.{Image}
+use Rattle.dump_core.specs.Dump.{dump, dump_of_image, grants_together}
 use Rattle.dump_core.specs.Alike.{AreAlike}
 
 -- ---- the dump
@@ -129,3 +132,10 @@ DumpServesAsWell =
     → IsLawful limits (journal ++ more)
     → length (dump journal ++ more) ≤ limits.changes
     → AreLawfulAlike limits (journal ++ more) (dump journal ++ more)
+
+-- an image is dumped as the journal is at its point
+abbrev pub ImageIsDumped : Type 0
+ImageIsDumped =
+    (journal : List Entry) (image : Image)
+    → IsImageOf journal image
+    → dump_of_image image ≡ dump (journal_at journal image.point)

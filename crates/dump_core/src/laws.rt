@@ -1,5 +1,5 @@
 //! Laws of the dump, each the contract of a function that does nothing.
-ghost use Rattle.dump_core.specs.Laws.{LengthOfDump, GrantsAreTogether, DumpIsLawful, DumpIsWellFormed, DumpIsAlike, AlikeHaveOneDump, DumpIsItsOwnDump, AlikeJudgeAlike, AlikeJudgeQueriesAlike, AlikeAnswerAlike, AlikeStayAlike, DumpServesAsWell};
+ghost use Rattle.dump_core.specs.Laws.{LengthOfDump, GrantsAreTogether, DumpIsLawful, DumpIsWellFormed, DumpIsAlike, AlikeHaveOneDump, DumpIsItsOwnDump, AlikeJudgeAlike, AlikeJudgeQueriesAlike, AlikeAnswerAlike, AlikeStayAlike, DumpServesAsWell, ImageIsDumped};
 ghost use Rattle.dump_core.specs.Loaded.{DumpIsLoaded};
 
 /// The dump has a statement for each table, each row and all grants in force that are together, so
@@ -37,4 +37,10 @@ pub fn alike_stay_alike()
 /// is a file to load: its lines load the dump, which leaves what the journal leaves.
 pub fn dump_is_loaded()
     ensures { DumpIsLoaded }
+{}
+
+/// What an image keeps is dumped as the journal at its point is: so the dump of an image, written while
+/// everybody goes on, loads what the first so many changes left.
+pub fn image_is_dumped()
+    ensures { ImageIsDumped }
 {}

@@ -62,7 +62,7 @@
 //!
 //! # The text
 //!
-//! [`write_dump`] is the one contract beside the laws. It writes the dump of what a core has as the
+//! [`write_dump`] is the main contract beside the laws. It writes the dump of what a core has as the
 //! lines of a script, `user: statement`, each with a line feed behind it, and has the writer hand
 //! them on.
 //!
@@ -78,6 +78,10 @@
 //! bytes, and each list has a limit. A fault of the writer, and memory that was refused, leave a
 //! front of the text.
 //!
+//! [`write_image`] writes the dump of what a checkpoint's image keeps, which is that of the journal at the
+//! image's point (law [`image_is_dumped`](laws::image_is_dumped)): an image stays what it is while everybody
+//! goes on.
+//!
 //! # Cost
 //!
 //! Statements are made, printed and written one by one, so that memory is taken for one at a time,
@@ -88,6 +92,7 @@
 //! with the kinds so far, of which there are at most 66.
 #![tactic(auto)]
 
+mod contents;
 mod fault;
 pub mod laws;
 mod neighbours;
@@ -97,4 +102,4 @@ mod well_formed;
 mod writing;
 
 pub use fault::DumpFault;
-pub use writing::write_dump;
+pub use writing::{write_dump, write_image};

@@ -1,25 +1,26 @@
 //! The text of a dump, written statement by statement.
-ghost use Rattle.std.specs.Prelude.{◌≡◌, ◌<◌, ◌∷◌, [], Some, true, false, length, map, slice_get, IfOk, OnOk};
+ghost use Rattle.std.specs.Prelude.{◌≡◌, ◌∷◌, [], true, false, map, IfOk, OnOk};
 ghost use Rattle.std.specs.List.{flat_map};
 ghost use Rattle.reader_core.specs.declared.statement.Statement.TheVariants as statements;
 ghost use Rattle.reader_core.specs.Forming.{AreNamed, IsShort};
 ghost use Rattle.printer_core.specs.Printing.{has_literals};
 ghost use Rattle.dump_core.specs.Dump as dumps;
-ghost use Rattle.dump_core.specs.Dump.{insertions, grants_together};
+ghost use Rattle.dump_core.specs.Dump.{insertions, grants_together, dump_of, dump_of_image, tables_kept};
 ghost use Rattle.dump_core.specs.Laws.{AreWellFormed};
-ghost use Rattle.dump_core.specs.Ending.{IsLongItself, IsLongAmong, IsLongIn, IsNowhere, EndsLines, EndsDump, is_write_fault};
+ghost use Rattle.dump_core.specs.Ending.{IsLongItself, IsLongRow, IsNowhere, EndsLines, EndsDump, is_write_fault};
 ghost use Rattle.system_core.specs.World.{entry};
 
+use crate::contents::Contents;
 use crate::fault::DumpFault;
 use crate::statements::{FirstGrants, creation, first_grants, insertion};
 use crate::well_formed::entries_are_well_formed;
-use base_core::{Name, Row, Sink, User, write_all};
+use base_core::{Column, Name, Row, Sink, User, write_all};
+use capture_core::Image;
 use grants_core::Grant;
 use printer_core::Page;
 use reader_core::Statement;
 use std::alloc::Global;
 use system_core::System;
-use tables_core::{TableView, Tables};
 
 /// Writes a statement without literals, which always has a line.
 fn write_statement<W: Sink>(
@@ -41,63 +42,25 @@ fn write_statement<W: Sink>(
 }
 
 /// Writes the CREATE TABLE of a table.
-fn write_creation<W: Sink>(
+pub(crate) fn write_creation<W: Sink>(
     alloc: Global,
     page: &mut Page,
     writer: &mut W,
-    table: &TableView<'_>,
+    name: Name,
+    owner: User,
+    columns: &[Column],
 ) -> Result<(), DumpFault>
     requires works { W.failed writer.old ≡ false }
-    requires columns { AreNamed 32 (λ c. c.name) table.now.columns.now }
+    requires columns { AreNamed 32 (λ c. c.name) columns.now }
     ensures failed { W.failed writer.new ≡ is_write_fault result }
     ensures ends { EndsLines IsNowhere
-        (entry 0 table.now.owner (statements.CreateTable table.now.name table.now.columns.now) ∷ [])
+        (entry 0 owner (statements.CreateTable name columns.now) ∷ [])
         result (W.taken writer.old) (W.taken writer.new) }
 {
-    let statement = creation(alloc, table.name, table.columns)?;
-    let written = write_statement(page, writer, table.owner, &statement);
+    let statement = creation(alloc, name, columns)?;
+    let written = write_statement(page, writer, owner, &statement);
     drop(statement);
     written
-}
-
-/// The table at this place in the order of creation.
-fn table_at(tables: &Tables, index: usize) -> TableView<'_>
-    requires { index < length tables.now.tables }
-    ensures { slice_get tables.now.tables index
-        ≡ Some (
-          result.name,
-          record {
-            owner = result.owner;
-            columns = result.columns.now;
-            inserted = result.inserted;
-            rows = result.rows.now.contents;
-          },
-        ) }
-{
-    match tables.at(index) {
-        Some(table) => table,
-        None => unreachable!(),
-    }
-}
-
-/// Writes the CREATE TABLE of each table, in order.
-fn write_creations<W: Sink>(
-    alloc: Global,
-    page: &mut Page,
-    writer: &mut W,
-    tables: &Tables,
-) -> Result<(), DumpFault>
-    requires works { W.failed writer.old ≡ false }
-    requires formed { AreWellFormed (map dumps.creation tables.now.tables) }
-    ensures failed { W.failed writer.new ≡ is_write_fault result }
-    ensures ends { EndsLines IsNowhere (map dumps.creation tables.now.tables) result
-        (W.taken writer.old) (W.taken writer.new) }
-{
-    for index in 0..tables.len() {
-        let table = table_at(tables, index);
-        write_creation(alloc, page, writer, &table)?;
-    }
-    Ok(())
 }
 
 /// Writes the INSERT of the row of this number in a table.
@@ -122,71 +85,26 @@ fn write_insertion<W: Sink>(
 }
 
 /// Writes the INSERT of a row of the table, which is the one of this number.
-fn write_row<W: Sink>(
+pub(crate) fn write_row<W: Sink>(
     alloc: Global,
     page: &mut Page,
     writer: &mut W,
-    table: &TableView<'_>,
+    name: Name,
+    owner: User,
     number: u64,
     row: &Row,
 ) -> Result<(), DumpFault>
     requires works { W.failed writer.old ≡ false }
     requires values { IsShort 32 row.now.values }
     ensures failed { W.failed writer.new ≡ is_write_fault result }
-    ensures ends { let e = entry 0 table.now.owner (statements.Insert table.now.name row.now.values) in
-        EndsLines (IsLongItself table.now.name number e) (e ∷ []) result
+    ensures ends { let e = entry 0 owner (statements.Insert name row.now.values) in
+        EndsLines (IsLongItself name number e) (e ∷ []) result
         (W.taken writer.old) (W.taken writer.new) }
 {
-    let statement = insertion(alloc, table.name, row.values.as_slice())?;
-    let written = write_insertion(page, writer, table.owner, &statement, table.name, number);
+    let statement = insertion(alloc, name, row.values.as_slice())?;
+    let written = write_insertion(page, writer, owner, &statement, name, number);
     drop(statement);
     written
-}
-
-/// Writes the INSERT of each row of a table, in order.
-fn write_rows_of<W: Sink>(
-    alloc: Global,
-    page: &mut Page,
-    writer: &mut W,
-    table: &TableView<'_>,
-) -> Result<(), DumpFault>
-    requires works { W.failed writer.old ≡ false }
-    requires formed { AreWellFormed
-        (map (dumps.insertion table.now.name table.now.owner) table.now.rows.now.contents) }
-    ensures failed { W.failed writer.new ≡ is_write_fault result }
-    ensures ends { EndsLines
-        (IsLongAmong table.now.name table.now.owner table.now.rows.now.contents)
-        (map (dumps.insertion table.now.name table.now.owner) table.now.rows.now.contents)
-        result (W.taken writer.old) (W.taken writer.new) }
-{
-    // So many rows fit in a number.
-    let _ = table.rows.len();
-    let mut number = 0;
-    for (_, row) in table.rows.items() {
-        number += 1;
-        write_row(alloc, page, writer, table, number, row)?;
-    }
-    Ok(())
-}
-
-/// Writes the INSERT of each row, table by table.
-fn write_rows<W: Sink>(
-    alloc: Global,
-    page: &mut Page,
-    writer: &mut W,
-    tables: &Tables,
-) -> Result<(), DumpFault>
-    requires works { W.failed writer.old ≡ false }
-    requires formed { AreWellFormed (flat_map insertions tables.now.tables) }
-    ensures failed { W.failed writer.new ≡ is_write_fault result }
-    ensures ends { EndsLines (IsLongIn tables.now.tables) (flat_map insertions tables.now.tables)
-        result (W.taken writer.old) (W.taken writer.new) }
-{
-    for index in 0..tables.len() {
-        let table = table_at(tables, index);
-        write_rows_of(alloc, page, writer, &table)?;
-    }
-    Ok(())
 }
 
 /// Writes the statement that makes the first of some grants, and says how many it makes.
@@ -230,6 +148,29 @@ fn write_grants<W: Sink>(
     Ok(())
 }
 
+/// Writes the dump of tables and of grants in force, and has the writer hand it on.
+fn write_contents<C: Contents, W: Sink>(
+    alloc: Global,
+    contents: &C,
+    grants: &[Grant],
+    writer: &mut W,
+) -> Result<(), DumpFault>
+    requires works { W.failed writer.old ≡ false }
+    requires creations { AreWellFormed (map dumps.creation (C.tables contents.now)) }
+    requires rows { AreWellFormed (flat_map insertions (C.tables contents.now)) }
+    ensures failed { W.failed writer.new ≡ is_write_fault result }
+    ensures flushed { OnOk result (W.flushed writer.new ≡ true) }
+    ensures ends { EndsLines (IsLongRow (C.tables contents.now))
+        (dump_of (C.tables contents.now) grants.now) result
+        (W.taken writer.old) (W.taken writer.new) }
+{
+    let mut page = Page::new(alloc)?;
+    contents.write_creations(alloc, &mut page, writer)?;
+    contents.write_rows(alloc, &mut page, writer)?;
+    write_grants(alloc, &mut page, writer, grants)?;
+    Ok(writer.flush()?)
+}
+
 /// Writes the dump of what a core has, a line for each statement, and has the writer hand it on.
 ///
 /// - `Write` exactly if the writer has failed. A front of the text was written.
@@ -246,9 +187,18 @@ pub fn write_dump<W: Sink>(alloc: Global, system: &System, writer: &mut W) -> Re
 {
     entries_are_well_formed(system.journal());
     let grants = system.in_force()?;
-    let mut page = Page::new(alloc)?;
-    write_creations(alloc, &mut page, writer, system.tables())?;
-    write_rows(alloc, &mut page, writer, system.tables())?;
-    write_grants(alloc, &mut page, writer, &grants)?;
-    Ok(writer.flush()?)
+    write_contents(alloc, system.tables(), &grants, writer)
+}
+
+/// Writes the dump of what an image keeps, which is that of the journal at its point, a line for each
+/// statement, and has the writer hand it on. The faults are those of [`write_dump`].
+pub fn write_image<W: Sink>(alloc: Global, image: &Image, writer: &mut W) -> Result<(), DumpFault>
+    requires works { W.failed writer.old ≡ false }
+    requires formed { AreWellFormed (dump_of_image image.now) }
+    ensures failed { W.failed writer.new ≡ is_write_fault result }
+    ensures flushed { OnOk result (W.flushed writer.new ≡ true) }
+    ensures ends { EndsLines (IsLongRow (tables_kept image.now)) (dump_of_image image.now) result
+        (W.taken writer.old) (W.taken writer.new) }
+{
+    write_contents(alloc, image, image.grants.as_slice(), writer)
 }

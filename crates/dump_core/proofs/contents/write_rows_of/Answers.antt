@@ -1,7 +1,7 @@
 use Rattle.std.proofs.Common.{◌≡◌, ℕ, ◌+◌, Err, List, [], ◌∷◌, ◌++◌, length, ap, sym, ◌∙◌, append_assoc, length-append, arith, rules}
 use Rattle.base_core.specs.declared.value.Row.{Row}
 use Rattle.dump_core.proofs.WritingLemmas.{row-formed, row-next, row-stop}
-use Rattle.dump_core.proofs.writing.write_rows_of.Goals as goal
+use Rattle.dump_core.proofs.contents.write_rows_of.Goals as goal
 
 pub write_row-requires-clause-values : goal.write_row-requires-clause-values
 write_row-requires-clause-values g c =

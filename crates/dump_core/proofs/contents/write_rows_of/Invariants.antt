@@ -2,7 +2,7 @@ use Rattle.std.proofs.Common.{◌≡◌, ℕ, false, List, ◌++◌, map, length
 use Rattle.base_core.specs.declared.value.Row.{Row}
 use Rattle.dump_core.specs.Dump.{insertion}
 use Rattle.dump_core.specs.Ending.{WritesLines}
-use Rattle.dump_core.proofs.writing.write_rows_of.Given as goal
+use Rattle.dump_core.proofs.contents.write_rows_of.Given as goal
 
 abbrev pub invariant-loop-row : goal.invariant-loop-row
 invariant-loop-row g l =
