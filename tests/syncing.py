@@ -1,8 +1,11 @@
-"""When a server's journal is put on its disk: once a second, or never; and what comes of a disk that refuses it.
+"""When a server's journal is put on its disk: before each reply, once a second, or never; and what comes of a disk that
+is slow, or refuses it.
 
-A library that is loaded before libc's writes down each sync of a file or folder, and refuses those of files from some call on.
+A library that is loaded before libc's writes down each sync of a file or folder, has those of files take some time, and
+refuses them from some call on.
 """
 import os
+import threading
 import time
 
 import counted
@@ -24,7 +27,7 @@ static atomic_int files;
 /* One byte for each sync: d of a folder, f of a file, r of a file that is refused. */
 static int synced(int file, const char *how) {
     int (*real)(int) = (int (*)(int))dlsym(RTLD_NEXT, how);
-    const char *told = getenv("SYNCS"), *good = getenv("GOOD_SYNCS");
+    const char *told = getenv("SYNCS"), *good = getenv("GOOD_SYNCS"), *slow = getenv("SYNC_MICROS");
     struct stat seen;
     int is_folder = !fstat(file, &seen) && S_ISDIR(seen.st_mode);
     int is_refused = !is_folder && good && atomic_fetch_add(&files, 1) >= atoi(good);
@@ -33,6 +36,7 @@ static int synced(int file, const char *how) {
         if (write(log, is_folder ? "d" : is_refused ? "r" : "f", 1) < 0) abort();
         close(log);
     }
+    if (slow && !is_folder) usleep(atoi(slow));
     if (is_refused) {
         errno = EIO;
         return -1;
@@ -55,14 +59,14 @@ class Syncing:
         self.program, self.folder, self.preloaded = program, folder, preloaded
         self.told = os.path.join(folder, "syncs")
 
-    def serving(self, name, *words, good=None):
+    def serving(self, name, *words, sessions=1, workers=2, good=None, micros=0):
         with open(self.told, "wb"):
             pass
-        given = {"LD_PRELOAD": self.preloaded, "SYNCS": self.told}
+        given = {"LD_PRELOAD": self.preloaded, "SYNCS": self.told, "SYNC_MICROS": str(micros)}
         if good is not None:
             given["GOOD_SYNCS"] = str(good)
         journal = ["--journal", os.path.join(self.folder, name), *words]
-        return Server(self.program, 1, more=journal, env={**os.environ, **given})
+        return Server(self.program, sessions, workers, more=journal, env={**os.environ, **given})
 
     def syncs(self):
         with open(self.told) as file:
@@ -107,9 +111,75 @@ def refused(syncing, check):
     check("a disk that refuses a sync: the end", seen == (1, True, True), ended)
 
 
+def each(syncing, check):
+    server = syncing.serving("each", "--journal-sync", "each")
+    ann = Session(server, "ann")
+    check("what a server began with is synced before its first reply", syncing.syncs() == "df", syncing.syncs())
+    said = [ann.ask("CREATE TABLE t (x INTEGER)"), syncing.syncs()]
+    check("a change is synced before its reply", said == ["done @1\n", "dff"], said)
+    said = [ann.ask("SELECT * FROM t"), syncing.syncs()]
+    check("a query of what is synced has no sync", said == ["rows 0 @1\n", "dff"], said)
+    said = [ann.ask("DELETE FROM u"), syncing.syncs()]
+    check("nor has a denial", said[1] == "dff", said)
+    ann.end()
+    ended = server.end()
+    check("synced before each reply: the end", ended == (0, b"served 1\n", []), ended)
+
+
+def behind_a_slow_sync(syncing, check):
+    server = syncing.serving("slow", "--journal-sync", "each", micros=300_000)
+    ann = Session(server, "ann")
+    began = time.monotonic()
+    said, took = ann.ask("CREATE TABLE t (x INTEGER)"), time.monotonic() - began
+    check("a reply waits for its sync", said == "done @1\n" and took > 0.3, (said, took))
+    ann.end()
+    server.end()
+
+
+CLIENTS, CHANGES = 8, 20
+
+
+def one_for_all(syncing, check):
+    server = syncing.serving("all", "--journal-sync", "each", sessions=CLIENTS + 1, workers=8, micros=20_000)
+    ann = Session(server, "ann")
+    said = [ann.ask("CREATE TABLE t (x INTEGER)"), ann.ask("GRANT INSERT ON t TO bob")]
+    ann.end()
+
+    def change(told):
+        bob = Session(server, "bob")
+        told += [bob.ask("INSERT INTO t VALUES (1)") for _ in range(CHANGES)]
+        bob.end()
+
+    all_told = [[] for _ in range(CLIENTS)]
+    clients = [threading.Thread(target=change, args=(told,)) for told in all_told]
+    for client in clients:
+        client.start()
+    for client in clients:
+        client.join()
+    ended = server.end()
+    lines = sorted(sum(all_told, said), key=lambda line: int(line.split("@")[1]))
+    wanted = [f"done @{n}\n" for n in range(1, CLIENTS * CHANGES + 3)]
+    check("changes of several clients are told", (lines, ended[0]) == (wanted, 0), (lines, ended))
+    count = syncing.syncs().count("f")
+    check("one sync serves all who wait", count < CLIENTS * CHANGES / 2, count)
+
+
+def refused_each(syncing, check):
+    server = syncing.serving("refused-each", "--journal-sync", "each", sessions=2, good=2)
+    ann = Session(server, "ann")
+    said = [ann.ask("CREATE TABLE t (x INTEGER)"), ann.ask("INSERT INTO t VALUES (1)")]
+    said.append(Session(server, "bob").welcome)
+    check("a disk that refuses a sync: nobody is told of what it said", said == ["done @1\n", "", ""], said)
+    ended = server.end()
+    faults = [line for line in ended[2] if line.startswith("session fault")]
+    told = f"sysr: {os.path.join(syncing.folder, 'refused-each')}: cannot be synced"
+    seen = ended[0], told in ended[2], faults
+    check("the end of such sessions", seen == (1, True, ["session fault: journal"] * 2), ended)
+
+
 def played(program, check, work):
     preloaded = counted.library(work, "syncs", SYNCS)
     if preloaded:
         syncing = Syncing(program, work, preloaded)
-        for test in (once_a_second, never, refused):
+        for test in (once_a_second, never, refused, each, behind_a_slow_sync, one_for_all, refused_each):
             test(syncing, check)

@@ -9,48 +9,61 @@ use std::alloc::Global;
 use std::cell::Cell;
 use std::mem::forget;
 use std::process::Abort;
+use std::rc::Rc;
 use std::sync::Wait;
 use system_core::System;
 
-/// Bytes of a test as a writer, which has room for so many more.
+/// The bytes that a writer of a test took, and for how many more it has room.
 #[derive(Drop)]
-struct Paper<'a> {
-    bytes: &'a mut Vec<u8>,
-    room: &'a Cell<usize>,
+struct Sheet {
+    bytes: Cell<Vec<u8>>,
+    room: Cell<usize>,
+}
+
+/// A writer of a test.
+#[derive(Drop)]
+struct Paper {
+    alloc: Global,
+    sheet: Rc<Sheet>,
     failed: bool,
 }
 
-impl<'a> Paper<'a> {
-    fn new(bytes: &'a mut Vec<u8>, room: &'a Cell<usize>) -> Paper<'a>
+impl Paper {
+    fn new(alloc: Global, sheet: Rc<Sheet>) -> Paper
         ensures { result.failed ≡ false }
     {
         Paper {
-            bytes,
-            room,
+            alloc,
+            sheet,
             failed: false,
         }
     }
 }
 
-impl Sink for Paper<'_> {
-    ghost use Rattle.std.specs.Prelude.{Some, true, refl};
+impl Sink for Paper {
+    ghost use Rattle.std.specs.Prelude.{None, true, refl};
 
     ghost failed = { λ s. s.failed };
 
-    ghost taken = { λ s. Some s.bytes.now.items };
+    // The test reads them.
+    ghost taken = { λ _. None };
 
-    ghost handed_on = { λ s. Some s.bytes.now.items };
+    ghost handed_on = { λ _. None };
 
     ghost flushed = { λ _. true };
 
     fn write(&mut self, bytes: &[u8]) -> Result<usize, Broken> {
-        let room = self.room.get();
-        let count = bytes.len().min(room);
-        if count < bytes.len().min(1) || self.bytes.extend_from_slice(&bytes[..count]).is_err() {
+        let Sheet { bytes: taken, room } = &*self.sheet;
+        let left = room.get();
+        let count = bytes.len().min(left);
+        let mut more = taken.replace(Vec::new(self.alloc));
+        let is_kept = more.extend_from_slice(&bytes[..count]).is_ok();
+        taken.set(more);
+        if !is_kept || count < bytes.len().min(1) {
             self.failed = true;
             return Err(Broken);
         }
-        self.room.set(room - count);
+        room.set(left - count);
         Ok(count)
     }
 
@@ -61,20 +74,20 @@ impl Sink for Paper<'_> {
     ghost flushed_hands_on = { λ _ _. refl };
 }
 
-impl Resume for Paper<'_> {
+impl Resume for Paper {
     fn resume(&mut self) {
         self.failed = false;
     }
 }
 
-type Lines<'a> = LineKeeper<Paper<'a>>;
+type Lines = LineKeeper<Paper>;
 
 /// Whether the desk answers what the user says through this pass.
-fn is_answered<'a, R: Wait + Abort>(
+fn is_answered<R: Wait + Abort>(
     rt: &R,
     alloc: Global,
-    desk: &Desk<Lines<'a>>,
-    pass: &mut Pass<Lines<'a>>,
+    desk: &Desk<Lines>,
+    pass: &mut Pass<Lines>,
     user: &str,
     statement: &str,
 ) -> bool
@@ -95,11 +108,11 @@ fn is_answered<'a, R: Wait + Abort>(
 fn are_answered<R: Wait + Abort>(
     rt: &R,
     alloc: Global,
-    bytes: &mut Vec<u8>,
+    sheet: &Rc<Sheet>,
 ) -> (bool, bool, bool, bool, bool, bool) {
-    let room = Cell::new(40);
     let system = System::new(alloc, 16).expect(rt, "memory");
-    let keeper = LineKeeper::new(alloc, Paper::new(bytes, &room)).expect(rt, "memory");
+    let paper = Paper::new(alloc, sheet.clone().expect(rt, "memory"));
+    let keeper = LineKeeper::new(alloc, paper).expect(rt, "memory");
     let (desk, mut passes) = Desk::build(alloc, system, keeper, 2).expect(rt, "memory");
     let mut second = passes.pop().expect(rt, "a pass");
     let mut first = passes.pop().expect(rt, "a pass");
@@ -109,7 +122,7 @@ fn are_answered<R: Wait + Abort>(
     let looked = is_answered(rt, alloc, &desk, ann, "ann", "SELECT * FROM t");
     let seen = is_answered(rt, alloc, &desk, bob, "bob", "SELECT * FROM s");
     let barred = is_answered(rt, alloc, &desk, ann, "ann", "CREATE TABLE r (z TEXT)");
-    room.set(1000);
+    sheet.room.set(1000);
     let settled = is_answered(rt, alloc, &desk, ann, "ann", "INSERT INTO t VALUES (1)");
     // A test that let the desk go would prove its destructor.
     forget(desk);
@@ -121,8 +134,12 @@ fn are_answered<R: Wait + Abort>(
 /// owed is written first, and nothing twice.
 #[test]
 fn changes_are_kept(rt: HostRuntime) {
-    let mut bytes = Vec::new(rt.alloc());
-    let answered = are_answered(&rt, rt.alloc(), &mut bytes);
+    let alloc = rt.alloc();
+    let bytes = Cell::new(Vec::new(alloc));
+    let room = Cell::new(40);
+    let sheet = Rc::new(alloc, Sheet { bytes, room }).expect(&rt, "memory");
+    let answered = are_answered(&rt, alloc, &sheet);
+    let bytes = sheet.bytes.replace(Vec::new(alloc));
     let wanted =
         b"ann: CREATE TABLE t (x INTEGER)\nbob: CREATE TABLE s (y TEXT)\nann: INSERT INTO t VALUES (1)\n";
     assert!(rt; answered == (true, false, true, true, false, true));

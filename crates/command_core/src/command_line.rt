@@ -126,6 +126,8 @@ pub enum JournalSync {
     Never,
     /// Once a second, where something was written since.
     Second,
+    /// Before anyone is told of what it says.
+    Each,
 }
 
 /// The form in which a server tells how it fares.
@@ -243,6 +245,7 @@ fn sessions_of(matches: &ArgMatches<'_>) -> u64
 fn journal_sync_of(matches: &ArgMatches<'_>) -> JournalSync {
     match matches.get_str("journal-sync") {
         Some("never") => JournalSync::Never,
+        Some("each") => JournalSync::Each,
         _ => JournalSync::Second,
     }
 }

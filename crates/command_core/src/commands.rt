@@ -13,7 +13,7 @@ pub const VERSION: &str = "0.1.0";
 const MODES: [&str; 3] = ["600", "660", "666"];
 
 // When a journal is put on its disk.
-const JOURNAL_SYNCS: [&str; 2] = ["never", "second"];
+const JOURNAL_SYNCS: [&str; 3] = ["never", "second", "each"];
 
 // The forms in which a server tells how it fares.
 const STATUS_FORMS: [&str; 3] = ["text", "prometheus", "json"];
@@ -148,8 +148,8 @@ fn journal_arg<'a>(alloc: Global) -> Arg<'a> {
 
 fn journal_sync_arg<'a>(alloc: Global) -> Arg<'a> {
     let help =
-        "When the journal is put on its disk, so that a loss of power leaves it: once a second (second, as \
-        where none is given), or when the system does (never)";
+        "When the journal is put on its disk, so that a loss of power leaves it: before a client is told of \
+        what it says (each), once a second (second, as where none is given), or when the system does (never)";
     value_arg(alloc, "journal-sync", "s", help).value_parser(JOURNAL_SYNCS.as_slice())
 }
 

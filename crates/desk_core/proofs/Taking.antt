@@ -1,9 +1,9 @@
 -- A turn of the turn lock, with the core as its object, is a turn at the desk.
-use Rattle.std.proofs.Common.{◌≡◌, ◌≤◌, ◌<◌, ◌+◌, ◌^◌, ℕ, Bool, true, false, List, ◌++◌, length, drop, refl, sym, ap, ◌∙◌, subst, arith, length-append}
+use Rattle.std.proofs.Common.{◌≡◌, ◌≤◌, ◌<◌, ◌+◌, ◌^◌, ℕ, Bool, true, false, List, [], ◌++◌, length, drop, refl, sym, ap, ◌∙◌, subst, arith, append-nil, length-append}
 use Rattle.std.specs.Prelude.{Result, Ok, Err, IfOk, OnErr, MatchResult}
 use Rattle.std.proofs.lemmas.List.{drop_at}
 use Rattle.std.proofs.lemmas.List.Elements.{All-weaker}
-use Rattle.turnstile.specs.Logs.{gained}
+use Rattle.turnstile.specs.Logs.{StartsWith, gained}
 use Rattle.turnstile.specs.Passes.{mine}
 use Rattle.turnstile.specs.Turned.{Turned}
 use Rattle.turnstile.specs.Closed.{Closed, Kept}
@@ -23,7 +23,8 @@ use Rattle.journal_core.specs.declared.recorder.Unkept.{Unkept}
 use Rattle.journal_core.proofs.Entering.{done_enters, one-told}
 use Rattle.desk_core.specs.Guarded.{Origin, CoreState, DeskLock, DeskPass, origin_of, snapshot}
 use Rattle.desk_core.specs.Kept.{HasKept, IsKept}
-use Rattle.desk_core.specs.Acting.{event_of, basis, Acts}
+use Rattle.desk_core.specs.declared.object.Purpose.TheVariants as purposes
+use Rattle.desk_core.specs.Acting.{event_of, basis, Acts, Answering, ActsFor}
 use Rattle.desk_core.specs.Turns.{asked_by, journal_of, begun_of, basis_of, Took, Answered, took, Ended}
 use Rattle.desk_core.proofs.Entering.{keeps_on}
 
@@ -89,6 +90,49 @@ module _ {K : Type 0} (rules : Ghosts K) where
     -- only that to a change may not be told
     pub turn_change : answer.told ≡ false → says_change (event_of old.number ask) ≡ true
     turn_change untold = t.acted.steps.withheld untold
+
+  -- a turn in which the core acts
+  pub acted_turn : (desk : DeskLock K) (ask : Ask) (answer : Answering K) (old new : DeskPass K)
+      → Turned {O = CoreState K} (λ c. c.world.journal) asked_by (λ c. c.world.begun) basis (ActsFor rules) desk (purposes.Act ask) answer old new
+      → Turned {O = CoreState K} (λ c. c.world.journal) asked_by (λ c. c.world.begun) basis (Acts rules) desk ask answer.acted old new
+  acted_turn desk ask answer old new t = record {
+    before = t.before;
+    after = t.after;
+    acted = t.acted;
+    grown = t.grown;
+    fixed_is = t.fixed_is;
+    seen_before = t.seen_before;
+    mark_before = t.mark_before;
+    seen_after = t.seen_after;
+    mark_after = t.mark_after;
+    mine_after = t.mine_after;
+  }
+
+  module _ (desk : DeskLock K) (answer : Answering K) (old new : DeskPass K)
+      (t : Turned {O = CoreState K} (λ c. c.world.journal) asked_by (λ c. c.world.begun) basis (ActsFor rules) desk purposes.Look answer old new) where
+    -- the pass has then seen the core as it was found
+    look_found : new.seen ≡ t.before.world.journal
+    look_found = t.seen_after ∙ ap (λ (c : CoreState K). c.world.journal) t.acted.same
+
+    pub look_seen : StartsWith new.seen old.seen
+    look_seen = subst (λ (s : List Entry). StartsWith s old.seen) (sym look_found) t.seen_before
+
+    pub look_mark : old.mark ≤ new.mark
+    look_mark = subst (λ (m : ℕ). old.mark ≤ m) (sym (t.mark_after ∙ ap (λ (c : CoreState K). c.world.begun) t.acted.same)) t.mark_before
+
+    pub look_made : mine asked_by new ≡ mine asked_by old
+    look_made =
+        let none = ap (λ (c : CoreState K). c.world.journal) t.acted.same ∙ sym (append-nil t.before.world.journal) in
+        t.mine_after ∙ ap (λ es. mine asked_by old ++ es) (gained-is t.before.world.journal t.after.world.journal [] none) ∙ append-nil (mine asked_by old)
+
+    pub look_count : answer.count ≡ length new.seen
+    look_count = t.acted.count_is ∙ ap length (sym look_found)
+
+    pub look_kept : HasKept rules (origin_of desk) new.seen answer.keeper
+    look_kept =
+        let keeper = ap (λ (s : Snapshot (Origin K)). s.value.keeper) t.fixed_is in
+        let front = ap (λ (s : Snapshot (Origin K)). s.value.front) t.fixed_is in
+        subst (λ (z : K × ℕ × List Entry × K). KeepsOrOwes rules z.0 (drop z.1 z.2) z.3) (λ i. (keeper i, front i, sym look_found i, sym t.acted.keeper_is i)) t.acted.has_kept
 
   -- the core that comes out of the turn lock
   pub closed_ended : (desk : DeskLock K) (passes : List (DeskPass K)) (core : CoreState K) (w : World) → core.world ≡ w → IsLawfulWorld w

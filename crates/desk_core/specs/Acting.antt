@@ -1,10 +1,12 @@
 -- The core as what threads take turns at: what is asked through a pass, and what comes of it.
-use Rattle.std.specs.Prelude.{ℕ, ◌≡◌}
-use Rattle.std.proofs.Common.{inl, ◌∙◌, append-nil}
+use Rattle.std.specs.Prelude.{ℕ, ◌≡◌, ◌≤◌, length}
+use Rattle.std.proofs.Common.{inl, ◌∙◌, ap, sym, le_of_eq, append-nil}
 use Rattle.std.specs.declared.snapshot.Snapshot.{Snapshot}
 use Rattle.turnstile.specs.Logs.{Grown}
 use Rattle.desk_core.specs.declared.object.Ask.{Ask}
 use Rattle.desk_core.specs.declared.object.Ask.TheVariants as asks
+use Rattle.desk_core.specs.declared.object.Purpose.{Purpose}
+use Rattle.desk_core.specs.declared.object.Purpose.TheVariants as purposes
 use Rattle.system_core.specs.declared.machine.event.Entry.{Entry}
 use Rattle.system_core.specs.declared.machine.event.Event.{Event}
 use Rattle.system_core.specs.declared.machine.event.Event.TheVariants as events
@@ -22,6 +24,13 @@ event_of pass (asks.Say said) = events.Say pass said.user said.statement
 event_of pass (asks.Describe said) = events.Describe said.user said.statement
 event_of pass asks.Step = events.Step
 event_of pass asks.Abandon = events.Abandon
+
+-- what comes of a turn: a reply, and whether it may be told; how many entries the journal has behind it, and
+-- what keeps them
+pub record Answering (K : Type 0) : Type 0 where
+  pub acted : Acted
+  pub count : ℕ
+  pub keeper : K
 
 -- what no act changes: what the desk was built on, whose chunk and limits the core still has
 abbrev pub basis : {K : Type 0} → CoreState K → Snapshot (Origin K)
@@ -80,4 +89,30 @@ module _ {K : Type 0} (rules : Ghosts K) where
         adds = inl (m.journal ∙ append-nil old.world.journal);
         rises = m.begun;
         stays = (λ i. snapshot (record (h.origin i) { chunk = m.chunk i; limits = m.limits i }));
+      }
+
+  -- A look at the core: it stays as it is, and how many entries its journal has is told, and what keeps them.
+  pub record LooksAt (old : CoreState K) (answer : Answering K) (new : CoreState K) : Type 0 where
+    pub same : new ≡ old
+    pub has_kept : HasKept rules old.origin old.world.journal old.keeper
+    pub count_is : answer.count ≡ length old.world.journal
+    pub keeper_is : answer.keeper ≡ old.keeper
+
+  -- what a turn does that is for this
+  abbrev pub ActsFor : CoreState K → ℕ → Purpose → Answering K → CoreState K → Type 0
+  ActsFor old pass (purposes.Act ask) answer new = Acts old pass ask answer.acted new
+  ActsFor old pass purposes.Look answer new = LooksAt old answer new
+
+  -- it enters one entry of the pass at most, no checkpoint is unbegun, and the basis stays
+  pub acts_for_grow :
+      (old : CoreState K) (pass : ℕ) (purpose : Purpose) (answer : Answering K) (new : CoreState K)
+      → ActsFor old pass purpose answer new
+      → Grown {O = CoreState K} (λ c. c.world.journal) (λ (e : Entry). e.pass) (λ c. c.world.begun)
+      basis pass old new
+  acts_for_grow old pass (purposes.Act ask) answer new h = acts_grow old pass ask answer.acted new h
+  acts_for_grow old pass purposes.Look answer new h =
+      record {
+        adds = inl (ap (λ (c : CoreState K). c.world.journal) h.same);
+        rises = le_of_eq (ap (λ (c : CoreState K). c.world.begun) (sym h.same));
+        stays = ap basis h.same;
       }

@@ -1,5 +1,5 @@
 //! The core behind a turn lock.
-ghost use Rattle.std.specs.Prelude.{◌≡◌, ◌≢◌, ◌+◌, ◌<◌, ◌≤◌, ◌^◌, ℕ, List, length, All, Some, true, false, IfOk, IfErr, OnOk, OnErr};
+ghost use Rattle.std.specs.Prelude.{◌≡◌, ◌≢◌, ◌+◌, ◌<◌, ◌≤◌, ◌^◌, ℕ, List, length, All, Some, true, false, IfOk, IfErr, IfSome, OnOk, OnErr};
 ghost use Rattle.turnstile.specs.Logs.{StartsWith};
 ghost use Rattle.turnstile.specs.Passes.{IsSamePass, mine, new_passes};
 ghost use Rattle.turnstile.specs.Closed.{AreAll};
@@ -13,7 +13,7 @@ ghost use Rattle.desk_core.specs.Kept.{HasKept, IsKept};
 ghost use Rattle.desk_core.specs.Turns.{asked_by, Took, Answered, Ended};
 
 use crate::last_size::LastSize;
-use crate::object::{Ask, Core, Said};
+use crate::object::{Ask, Core, Look, Purpose, Said};
 use base_core::{Lack, Moment, NoMemory, User};
 use journal_core::{Keeper, Unkept, settle_owed};
 use reader_core::Statement;
@@ -103,7 +103,7 @@ impl<K: Keeper + Drop> Desk<K> {
             × Took self.now ask reply pass.old pass.new) }
         ensures change { OnErr result (says_change (event_of pass.old.number ask) ≡ true) }
     {
-        match self.turnstile.turn(rt, pass, ask) {
+        match self.turnstile.turn(rt, pass, Purpose::Act(ask)) {
             Ok(answer) => answer.into_reply(&self.size),
             Err(Worn) => Ok(Reply::Refused {
                 at: Moment(0),
@@ -188,6 +188,24 @@ impl<K: Keeper + Drop> Desk<K> {
         match self.turn(rt, pass, Ask::Abandon) {
             Ok(reply) => reply,
             Err(Unkept) => unreachable!(),
+        }
+    }
+
+    /// Looks at what is kept, in a turn of the pass, which has then seen all that was entered. None where all
+    /// turns are drawn.
+    pub fn look<R: Wait>(&self, rt: &R, pass: &mut Pass<K>) -> Option<Look<K>>
+        requires { pass.old.lock ≡ Some self.now }
+        ensures same { IsSamePass pass.old pass.new }
+        ensures made { mine asked_by pass.new ≡ mine asked_by pass.old }
+        ensures seen { StartsWith pass.new.seen pass.old.seen }
+        ensures mark { pass.old.mark ≤ pass.new.mark }
+        ensures count { IfSome result (λ look. look.count ≡ length pass.new.seen) }
+        ensures kept { IfSome result
+            (λ look. HasKept K.Keeper (origin_of self.now) pass.new.seen look.keeper.value) }
+    {
+        match self.turnstile.turn(rt, pass, Purpose::Look) {
+            Ok(answer) => Some(answer.into_look()),
+            Err(Worn) => None,
         }
     }
 

@@ -54,4 +54,4 @@ mod object;
 
 pub use desk::{Desk, Note, Pass};
 pub use journal_core::Unkept;
-pub use object::Basis;
+pub use object::{Basis, Look};

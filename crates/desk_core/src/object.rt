@@ -2,8 +2,9 @@
 ghost use Rattle.std.specs.Prelude.{◌≡◌, ℕ, List, length, true, false, IfOk, MatchResult};
 ghost use Rattle.reader_core.specs.Language.{Spells};
 ghost use Rattle.journal_core.specs.Recorder.{IsSpelledEvent};
-ghost use Rattle.desk_core.specs.Acting.{event_of};
+ghost use Rattle.desk_core.specs.Acting.{event_of, Acts, LooksAt};
 ghost use Rattle.desk_core.specs.Guarded.{origin_at};
+ghost use Rattle.desk_core.specs.Kept.{HasKept};
 
 use crate::last_size::LastSize;
 use base_core::{NoMemory, User};
@@ -56,6 +57,15 @@ pub enum Ask {
     Abandon,
 }
 
+/// What a turn is for.
+#[derive(Drop)]
+pub enum Purpose {
+    /// To act.
+    Act(Ask),
+    /// To look at what is kept.
+    Look,
+}
+
 impl Ask {
     /// What is asked, as an event of the pass of this number.
     fn event(self, pass: u64) -> Event
@@ -81,38 +91,70 @@ impl Ask {
     }
 }
 
-/// A reply, whether it may be told, what is freed behind the turn, and behind a step of the
-/// checkpointer how large the core is. Contracts see the reply, and whether it may be told.
+/// What was seen of a core: how many entries its journal has, and what keeps them. It tells contracts alone
+/// of the keeper.
 #[derive(Drop)]
-pub struct Answer {
+pub struct Look<K> {
+    pub count: u64,
+    pub keeper: Snapshot<K>,
+}
+
+/// A reply, whether it may be told, what is freed behind the turn, behind a step of the checkpointer how
+/// large the core is, and what was seen of it. Contracts see the reply, whether it may be told, and what
+/// was seen.
+#[derive(Drop)]
+pub struct Answer<K> {
     acted: Acted,
     parting: Parting,
     size: Option<Size>,
+    look: Look<K>,
 }
 
-impl Model for Answer {
-    ghost use Rattle.journal_core.specs.declared.recorder.Acted.{Acted};
+impl<K> Model for Answer<K> {
+    ghost use Rattle.desk_core.specs.Acting.{Answering};
 
-    ghost Value = { Acted };
+    ghost Value = { Answering K };
 
-    ghost view = { λ a. a.acted };
+    ghost view = { λ a. record {
+      acted = a.acted;
+      count = a.look.count;
+      keeper = a.look.keeper.value;
+    } };
 }
 
-impl Answer {
+impl<K> Answer<K> {
     /// The reply, if it may be told. What is to be freed is freed here, and a size is noted.
     pub fn into_reply(self, last: &LastSize) -> Result<Reply, Unkept>
         ensures { MatchResult result
-            (λ reply. (self.told ≡ true) × (reply ≡ self.reply)) (λ _. self.told ≡ false) }
+            (λ reply. (self.acted.told ≡ true) × (reply ≡ self.acted.reply))
+            (λ _. self.acted.told ≡ false) }
     {
         let Answer {
             acted,
             parting,
             size,
+            look: _,
         } = self;
         parting.free();
         last.note(size);
         let Acted { reply, told } = acted;
         if told { Ok(reply) } else { Err(Unkept) }
+    }
+
+    /// What was seen. What is to be freed is freed here.
+    pub fn into_look(self) -> Look<K>
+        ensures count { result.count ≡ self.count }
+        ensures keeper { result.keeper.value ≡ self.keeper }
+    {
+        let Answer {
+            acted,
+            parting,
+            size: _,
+            look,
+        } = self;
+        parting.free();
+        drop(acted);
+        look
     }
 }
 
@@ -186,12 +228,64 @@ impl<K: Keeper + Drop> Core<K> {
     }
 }
 
+impl<K: Keeper + Drop> Core<K> {
+    /// What there is to see of it.
+    fn seen(&self) -> Look<K>
+        ensures count { result.count ≡ length self.now.world.journal }
+        ensures keeper { result.keeper.value ≡ self.now.keeper }
+        ensures kept { HasKept K.Keeper self.now.origin self.now.world.journal self.now.keeper }
+    {
+        Look {
+            count: self.system.journal().len() as u64,
+            keeper: Snapshot::of(&self.keeper),
+        }
+    }
+
+    /// Does what is asked, for the pass of that number.
+    fn carry_out(&mut self, pass: u64, ask: Ask) -> Answer<K>
+        ensures { Acts K.Keeper self.old pass ask result.acted self.new }
+    {
+        // The journal says that the world is lawful.
+        let _ = self.system.journal();
+        let is_step = matches!(ask, Ask::Step);
+        let acted = act(&mut self.system, &mut self.keeper, ask.event(pass));
+        let parting = self.system.take_parting();
+        let size = if is_step {
+            Some(self.system.size())
+        } else {
+            None
+        };
+        let look = self.seen();
+        Answer {
+            acted,
+            parting,
+            size,
+            look,
+        }
+    }
+
+    /// Looks at what is kept.
+    fn looked_at(&self) -> Answer<K>
+        ensures { LooksAt K.Keeper self.now result self.now }
+    {
+        Answer {
+            acted: Acted {
+                reply: Reply::Idle,
+                told: true,
+            },
+            parting: Parting::nothing(),
+            size: None,
+            look: self.seen(),
+        }
+    }
+}
+
 impl<K: Keeper + Drop> Object for Core<K> {
-    ghost use Rattle.desk_core.specs.Acting.{Acts, acts_grow, basis};
+    ghost use Rattle.desk_core.specs.Acting.{ActsFor, acts_for_grow, basis};
 
-    type Ask = Ask;
+    type Ask = Purpose;
 
-    type Reply = Answer;
+    type Reply = Answer<K>;
 
     type Entry = Entry;
 
@@ -205,23 +299,12 @@ impl<K: Keeper + Drop> Object for Core<K> {
 
     ghost fixed = { basis };
 
-    ghost acts = { Acts K.Keeper };
+    ghost acts = { ActsFor K.Keeper };
 
-    fn act(&mut self, pass: u64, ask: Ask) -> Answer {
-        // The journal says that the world is lawful.
-        let _ = self.system.journal();
-        let is_step = matches!(ask, Ask::Step);
-        let acted = act(&mut self.system, &mut self.keeper, ask.event(pass));
-        let parting = self.system.take_parting();
-        let size = if is_step {
-            Some(self.system.size())
-        } else {
-            None
-        };
-        Answer {
-            acted,
-            parting,
-            size,
+    fn act(&mut self, pass: u64, purpose: Purpose) -> Answer<K> {
+        match purpose {
+            Purpose::Act(ask) => self.carry_out(pass, ask),
+            Purpose::Look => self.looked_at(),
         }
     }
 
@@ -229,5 +312,5 @@ impl<K: Keeper + Drop> Object for Core<K> {
         Snapshot::of(&self.basis)
     }
 
-    ghost grows = { acts_grow K.Keeper };
+    ghost grows = { acts_for_grow K.Keeper };
 }

@@ -4,7 +4,7 @@ ghost use Rattle.std.specs.Option.{is_some};
 
 use crate::alarm::Alarm;
 use crate::login::Login;
-use crate::readiness::{Interest, Readiness};
+use crate::readiness::{Interest, NO_LIMIT, NO_WAIT, Readiness};
 use crate::user_socket::UserSocket;
 use base_core::User;
 use libc::net::SHUT_RDWR;
@@ -92,7 +92,7 @@ pub enum Ready {
     Door,
     /// The session that waits under this number may go on.
     Session(u64),
-    /// Neither by now: the bell was rung, or a signal came.
+    /// Neither by now; or the bell was rung, or a signal came.
     Nothing,
 }
 
@@ -298,7 +298,16 @@ impl Entrance {
     /// Waits until somebody may come in, or a session may go on, or the bell was rung. Of somebody who may
     /// come in one is told, and nobody again until it is asked for.
     pub fn wait(&self) -> Ready {
-        match self.readiness.wait() {
+        self.ready_within(NO_LIMIT)
+    }
+
+    /// The same, of what is ready by now: it does not wait.
+    pub fn ready(&self) -> Ready {
+        self.ready_within(NO_WAIT)
+    }
+
+    fn ready_within(&self, millis: i32) -> Ready {
+        match self.readiness.wait(millis) {
             Some(DOOR) => Ready::Door,
             Some(EAR) | None => Ready::Nothing,
             Some(number) => Ready::Session(number),

@@ -8,7 +8,10 @@ use std::net::Net;
 use std::os::fd::AsRawFd;
 
 /// It waits without a limit.
-const NO_LIMIT: i32 = -1;
+pub(crate) const NO_LIMIT: i32 = -1;
+
+/// It does not wait.
+pub(crate) const NO_WAIT: i32 = 0;
 
 /// What is waited for at a descriptor, beside its end.
 #[derive(Clone, Copy, Debug, PartialEq, Eq)]
@@ -66,10 +69,11 @@ impl Readiness {
         self.ask(EPOLL_CTL_MOD, descriptor, events_of(interest), number)
     }
 
-    /// Waits until a descriptor is ready: its number. None where a signal came.
-    pub(crate) fn wait(&self) -> Option<u64> {
+    /// Waits until a descriptor is ready, for so many milliseconds: its number. None where none is by then,
+    /// or a signal came.
+    pub(crate) fn wait(&self, millis: i32) -> Option<u64> {
         let mut events = [EpollEvent { events: 0, data: 0 }; 1];
-        match epoll_wait(self.set.as_raw_fd(), &mut events, NO_LIMIT) {
+        match epoll_wait(self.set.as_raw_fd(), &mut events, millis) {
             0 => None,
             _ => Some(events[0].data),
         }

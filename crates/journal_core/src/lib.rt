@@ -32,6 +32,7 @@ mod keeper;
 mod laws;
 mod line_keeper;
 mod recorder;
+mod syncs;
 mod unwritten;
 mod writing;
 
@@ -39,4 +40,5 @@ pub use keeper::{Keeper, NoKeeper};
 pub use laws::kept_lines_are_the_text;
 pub use line_keeper::LineKeeper;
 pub use recorder::{Acted, Unkept, act, enter, settle_owed};
+pub use syncs::{NoSync, Syncs};
 pub use writing::{JournalFault, write_journal};

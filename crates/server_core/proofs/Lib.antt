@@ -1,3 +1,4 @@
 pub mod SamePass
 pub mod Owed
 pub mod Pieces
+pub mod Fronts

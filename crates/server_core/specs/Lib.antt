@@ -1,4 +1,5 @@
 pub mod Sessions
+pub mod Durable
 pub use Rattle.turnstile.specs.Passes
 pub use Rattle.turnstile.specs.Closed
 pub use Rattle.system_core.specs.World

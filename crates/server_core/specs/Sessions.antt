@@ -11,6 +11,7 @@ use Rattle.system_core.specs.World.{World}
 use Rattle.desk_core.specs.Guarded.{DeskLock, DeskPass, DeskNote, origin_of, origin_at}
 use Rattle.desk_core.specs.Turns.{Ended}
 use Rattle.session_core.specs.Checking.{LooksRepeatedly}
+use Rattle.session_core.specs.Gains.{Watches}
 use Rattle.session_core.specs.declared.admission.Admission.{Admission}
 use Rattle.session_core.specs.Machines.{Protocol}
 use Rattle.session_core.specs.Parking.{GainsFor, pass_note}
@@ -87,7 +88,7 @@ module _ {K : Type 0} (protocol : Protocol K) (by : Admittance) where
     abbrev pub ServesPiece : DeskPass K → DeskPass K → Type 0
     ServesPiece old new = (new ≡ old) ⊎ (IsSamePass old new × ∥ Attends old new ∥₁)
 
-    -- he goes on with pieces of sessions, one after another
+    -- he goes on with pieces of sessions, one after another, and looks meanwhile at what is kept
     pub data ServesPieces (old : DeskPass K) : DeskPass K → Type 0 where
       no_piece : ServesPieces old old
       next_piece : (between new : DeskPass K)
@@ -95,8 +96,13 @@ module _ {K : Type 0} (protocol : Protocol K) (by : Admittance) where
           → IsSamePass between new
           → ∥ Attends between new ∥₁
           → ServesPieces old new
+      looked : (between new : DeskPass K)
+          → ServesPieces old between
+          → Watches between new
+          → ServesPieces old new
 
-    -- sessions that he was admitted, each of which is counted, and those that he went on with
+    -- sessions that he was admitted, each of which is counted, those that he went on with, and looks at what
+    -- is kept, by which his pass has seen more and made nothing
     pub data Attended (old : Working K) : Working K → Type 0 where
       nobody : Attended old old
       admitted : (between : Working K)
@@ -106,6 +112,10 @@ module _ {K : Type 0} (protocol : Protocol K) (by : Admittance) where
           → Attended old between
           → IsSamePass between.pass pass
           → ∥ Attends between.pass pass ∥₁
+          → Attended old (record between { pass = pass })
+      watched : (between : Working K) (pass : DeskPass K)
+          → Attended old between
+          → Watches between.pass pass
           → Attended old (record between { pass = pass })
 
   -- since the desk was built, sessions of the entrance were served through the worker's pass, as many as he

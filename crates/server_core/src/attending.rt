@@ -7,43 +7,27 @@ use crate::conversing::{Spoken, converse};
 use crate::counting::Counting;
 use crate::guest::{Guest, Stage};
 use crate::hearing::{Heard, hear};
+use crate::holding::Holding;
 use crate::instance::Instance;
-use crate::leaving::{dismiss, end_behind, hear_out, leave, refuse, rest, stop, wait};
+use crate::leaving::{end_behind, hear_out, leave, rest};
 use crate::outbox::Outbox;
-use crate::owing::Owing;
+use crate::outcome::{Behind, Outcome};
 use crate::parked_session::{ParkedSession, Progress};
 use crate::permit::Permit;
 use crate::room::{PIECE_BYTES, Room, Speech};
 use crate::service::Service;
-use base_core::{Name, Unbuffered};
+use base_core::Unbuffered;
 use desk_core::{Desk, Pass};
 use door_core::Log;
 use journal_core::Keeper;
 use login_core::Beginning;
-use session_core::{SessionEnd, SessionFault, Summary};
+use session_core::SessionFault;
 use std::alloc::Global;
 use std::sync::Wait;
 use std::time::Clock;
 
 // Behind so many rounds a session that goes on at once has others go first.
 const ROUNDS: u32 = 8;
-
-/// What comes of what a client has sent.
-#[derive(Drop)]
-enum Outcome<K: Keeper + Drop, I: Instance<K>> {
-    /// His session goes on, behind these bytes. He may have sent more by now.
-    GoesOn(ParkedSession<K, I>, Vec<u8>),
-    /// It goes on, behind these bytes, once he sends or takes more, or others have had their turn.
-    Waits(ParkedSession<K, I>, Vec<u8>),
-    /// It has ended, once this is written, if anything is still to be.
-    Ended(Summary, Option<Owing<K, I>>),
-    /// It has ended as the server was stopped.
-    Stopped(Summary),
-    /// His login was refused, that of this user, if he has said who he is.
-    Refused(Option<Name>),
-    /// It was not whole in time.
-    Late(Option<Name>),
-}
 
 /// What comes of a session that has come so far by this piece. What is left of that is kept.
 fn behind_piece<K: Keeper + Drop, I: Instance<K>>(
@@ -129,7 +113,7 @@ fn answer_piece<K: Keeper + Drop, I: Instance<K>, R: Wait + Clock, G: Log>(
     if piece.len() < PIECE_BYTES {
         return outcome;
     }
-    in_turn(outcome)
+    outcome.in_turn()
 }
 
 /// Goes on with a session by what is left of what its client has sent.
@@ -187,14 +171,6 @@ fn finish<K: Keeper + Drop, I: Instance<K>, R: Wait + Clock, G: Log>(
     let progress = session.finish(rt, alloc, desk, pass, scratch, &mut writer, &gate);
     permit.rest();
     behind_all(progress)
-}
-
-/// The same, but that a session waits which may have gone on at once.
-fn in_turn<K: Keeper + Drop, I: Instance<K>>(outcome: Outcome<K, I>) -> Outcome<K, I> {
-    match outcome {
-        Outcome::GoesOn(session, left) => Outcome::Waits(session, left),
-        outcome => outcome,
-    }
 }
 
 /// What comes of a session whose client sent nothing for too long.
@@ -285,29 +261,6 @@ fn go_further<K: Keeper + Drop, I: Instance<K>, R: Wait + Clock, G: Log>(
     )
 }
 
-/// What is told of a session that has ended, and whose last answers its client did not take.
-fn untaken(summary: Summary) -> Summary {
-    let write = Err(SessionEnd::Session(SessionFault::Write));
-    let ended = summary.ended.and(write);
-    Summary { ended, ..summary }
-}
-
-/// The same, where there was no memory for what the client has not taken, or his connection is gone. That
-/// is the fault of the session, if it had none.
-fn unheard<K: Keeper + Drop, I: Instance<K>>(outcome: Outcome<K, I>) -> Outcome<K, I> {
-    match in_turn(outcome) {
-        Outcome::Waits(session, left) => {
-            drop(left);
-            Outcome::Ended(session.fails(SessionFault::Write), None)
-        }
-        Outcome::Ended(summary, owed) => {
-            drop(owed);
-            Outcome::Ended(untaken(summary), None)
-        }
-        outcome => outcome,
-    }
-}
-
 /// Sends what a session has written before, and then goes on with it.
 fn go_on<K: Keeper + Drop, I: Instance<K>, R: Wait + Clock, G: Log>(
     rt: &R,
@@ -323,9 +276,7 @@ fn go_on<K: Keeper + Drop, I: Instance<K>, R: Wait + Clock, G: Log>(
 ) -> Outcome<K, I>
     requires desk { I.desk ≡ Some desk.now }
     requires pass { IsOf desk.now pass.old }
-    requires nothing { room.old ≡ [] }
-    ensures pieces { ServesPieces I.Session.protocol I.by desk.now pass.old pass.new }
-    ensures handed_on { room.new ≡ [] }
+    ensures { ServesPieces I.Session.protocol I.by desk.now pass.old pass.new }
 {
     if !connection.send() {
         return Outcome::Ended(session.fails(SessionFault::Write), None);
@@ -333,33 +284,23 @@ fn go_on<K: Keeper + Drop, I: Instance<K>, R: Wait + Clock, G: Log>(
     if !connection.unsent.is_empty() {
         return Outcome::Waits(session, left);
     }
-    let outcome = go_further(
+    go_further(
         rt, alloc, desk, pass, connection, session, left, room, service, log,
-    );
-    if let Outcome::Refused(_) = outcome {
-        // What he is told waits. Without memory for it he is told nothing.
-        let _ = connection.keep(&mut room.speech.output);
-        return outcome;
-    }
-    if !connection.hand_on(&mut room.speech.output) {
-        return unheard(outcome);
-    }
-    if connection.unsent.is_empty() {
-        return outcome;
-    }
-    in_turn(outcome)
+    )
 }
 
-/// Goes on with a guest by what he has sent by now, and gives him back where he may have sent more since.
-/// Else he waits for it, or has left. What was gathered for him is handed on, or dropped: it is no other
-/// guest's.
-fn attend_once<K: Keeper + Drop, I: Instance<K>, R: Wait + Clock, G: Log>(
+/// Goes on with the session of a guest, tells him what was gathered for him, and gives him back where he may
+/// have sent more since. Where that is to be durable before, he waits to be told.
+fn go_on_and_tell<K: Keeper + Drop, I: Instance<K>, R: Wait + Clock, G: Log>(
     rt: &R,
     alloc: Global,
     desk: &Desk<K>,
     pass: &mut Pass<K>,
-    guest: Guest<K, I>,
+    connection: Connection,
+    session: ParkedSession<K, I>,
+    left: Vec<u8>,
     room: &mut Room,
+    holding: &mut Holding<K, I>,
     service: &Service<'_, K, I>,
     log: &G,
 ) -> Option<Guest<K, I>>
@@ -369,27 +310,7 @@ fn attend_once<K: Keeper + Drop, I: Instance<K>, R: Wait + Clock, G: Log>(
     ensures pieces { ServesPieces I.Session.protocol I.by desk.now pass.old pass.new }
     ensures handed_on { room.new ≡ [] }
 {
-    let Guest {
-        mut connection,
-        stage,
-    } = guest;
-    let (session, left) = match stage {
-        Stage::Speaking(session, left) => (session, left),
-        Stage::Hearing(owing, summary) => {
-            let owed = Some(owing);
-            let speech = &mut room.speech;
-            end_behind(rt, connection, owed, summary, speech, service, log);
-            return None;
-        }
-        Stage::Refused => {
-            leave(rt, connection, service);
-            return None;
-        }
-        Stage::Leaving => {
-            hear_out(rt, connection, &mut room.input, service);
-            return None;
-        }
-    };
+    let mut connection = connection;
     let outcome = go_on(
         rt,
         alloc,
@@ -402,20 +323,56 @@ fn attend_once<K: Keeper + Drop, I: Instance<K>, R: Wait + Clock, G: Log>(
         service,
         log,
     );
-    match outcome {
-        Outcome::GoesOn(session, left) => {
-            connection.is_late.set(false);
-            let stage = Stage::Speaking(session, left);
-            return Some(Guest { connection, stage });
+    let behind = Behind {
+        connection,
+        outcome,
+    };
+    let speech = &mut room.speech;
+    if speech.output.is_empty() {
+        return behind.conclude(rt, desk, pass, speech, service, log);
+    }
+    if service.syncing.is_asked() {
+        return holding.hold(rt, alloc, desk, pass, behind, speech, service, log);
+    }
+    behind.tell(rt, desk, pass, speech, service, log)
+}
+
+/// Goes on with a guest by what he has sent by now, and gives him back where he may have sent more since.
+/// Else he waits for it, or to be told, or has left. What was gathered for him is handed on, held, or
+/// dropped: it is no other guest's.
+fn attend_once<K: Keeper + Drop, I: Instance<K>, R: Wait + Clock, G: Log>(
+    rt: &R,
+    alloc: Global,
+    desk: &Desk<K>,
+    pass: &mut Pass<K>,
+    guest: Guest<K, I>,
+    room: &mut Room,
+    holding: &mut Holding<K, I>,
+    service: &Service<'_, K, I>,
+    log: &G,
+) -> Option<Guest<K, I>>
+    requires desk { I.desk ≡ Some desk.now }
+    requires pass { IsOf desk.now pass.old }
+    requires nothing { room.old ≡ [] }
+    ensures pieces { ServesPieces I.Session.protocol I.by desk.now pass.old pass.new }
+    ensures handed_on { room.new ≡ [] }
+{
+    let Guest { connection, stage } = guest;
+    match stage {
+        Stage::Speaking(session, left) => {
+            return go_on_and_tell(
+                rt, alloc, desk, pass, connection, session, left, room, holding, service, log,
+            );
         }
-        Outcome::Waits(session, left) => wait(rt, connection, session, left, service, log),
-        Outcome::Ended(summary, owed) => {
+        Stage::Hearing(owing, summary) => {
+            let owed = Some(owing);
             let speech = &mut room.speech;
-            end_behind(rt, connection, owed, summary, speech, service, log);
+            end_behind(
+                rt, desk, pass, connection, owed, summary, speech, service, log,
+            );
         }
-        Outcome::Stopped(summary) => stop(rt, connection, summary, service, log),
-        Outcome::Refused(claimed) => refuse(rt, connection, claimed, service, log),
-        Outcome::Late(claimed) => dismiss(rt, connection, claimed, service, log),
+        Stage::Refused => leave(rt, connection, service),
+        Stage::Leaving => hear_out(rt, connection, &mut room.input, service),
     }
     None
 }
@@ -430,6 +387,7 @@ pub(crate) fn attend<K: Keeper + Drop, I: Instance<K>, R: Wait + Clock, G: Log>(
     pass: &mut Pass<K>,
     guest: Guest<K, I>,
     room: &mut Room,
+    holding: &mut Holding<K, I>,
     service: &Service<'_, K, I>,
     log: &G,
 )
@@ -441,7 +399,7 @@ pub(crate) fn attend<K: Keeper + Drop, I: Instance<K>, R: Wait + Clock, G: Log>(
 {
     let mut guest = guest;
     for _ in 0..ROUNDS {
-        match attend_once(rt, alloc, desk, pass, guest, room, service, log) {
+        match attend_once(rt, alloc, desk, pass, guest, room, holding, service, log) {
             Some(next) => guest = next,
             None => return,
         }

@@ -1,15 +1,18 @@
 //! The connection of a client.
 ghost use Rattle.std.specs.Prelude.{◌≡◌, []};
 
-use crate::outbox::send;
+use crate::instance::Instance;
+use crate::outbox::{send, send_on};
+use crate::syncing::Synced;
 use door_core::Client;
+use journal_core::Keeper;
 use std::alloc::Global;
 use std::cell::Cell;
 use std::net::{Shutdown, TcpStream};
 use std::os::fd::AsRawFd;
 use std::time::Instant;
 
-/// The connection of a client: what he was to be sent and his stream has not taken yet, and until when
+/// The connection of a client: what may be sent to him and his stream has not taken yet, and until when
 /// it waits for him.
 #[derive(Drop)]
 pub(crate) struct Connection {
@@ -46,24 +49,32 @@ impl Connection {
 
     /// Sends what waits, as far as it goes in. Whether the connection stands.
     pub(crate) fn send(&mut self) -> bool {
-        send(&self.stream, &mut self.unsent).is_ok()
+        send_on(&self.stream, &mut self.unsent).is_ok()
     }
 
     /// Sends what was gathered, as far as it goes in behind what waits, and keeps the rest. Whether the
     /// connection stands, and there was memory for it.
-    pub(crate) fn hand_on(&mut self, gathered: &mut Vec<u8>) -> bool
+    pub(crate) fn hand_on<K: Keeper + Drop, I: Instance<K>>(
+        &mut self,
+        synced: &Synced<K, I>,
+        gathered: &mut Vec<u8>,
+    ) -> bool
         ensures { gathered.new.items ≡ [] }
     {
-        if self.unsent.is_empty() && send(&self.stream, gathered).is_err() {
+        if self.unsent.is_empty() && send(&self.stream, synced, gathered).is_err() {
             // It is no other client's.
             gathered.clear();
             return false;
         }
-        self.keep(gathered)
+        self.keep(synced, gathered)
     }
 
     /// Keeps what was gathered for later. Whether there was memory for it.
-    pub(crate) fn keep(&mut self, gathered: &mut Vec<u8>) -> bool
+    pub(crate) fn keep<K: Keeper + Drop, I: Instance<K>>(
+        &mut self,
+        _synced: &Synced<K, I>,
+        gathered: &mut Vec<u8>,
+    ) -> bool
         ensures { gathered.new.items ≡ [] }
     {
         let kept = self.unsent.extend_from_slice(gathered.as_slice());

@@ -1,5 +1,6 @@
 //! How lines of a session are answered, as far as its client takes the answers.
 ghost use Rattle.std.specs.Prelude.{◌≡◌, Some};
+ghost use Rattle.session_core.specs.Gains.{Watches};
 ghost use Rattle.server_core.specs.Sessions.{IsOf, ServesPiece, ServesPieces};
 
 use crate::connection::Connection;
@@ -29,12 +30,24 @@ pub(crate) enum Spoken<K: Keeper + Drop, I: Instance<K>> {
 }
 
 /// Whether there is room for more, where the client takes what was gathered. None where his connection is
-/// gone.
-pub(crate) fn has_room(connection: &Connection, gathered: &mut Vec<u8>) -> Option<bool> {
+/// gone, or he may not be told.
+pub(crate) fn has_room<K: Keeper + Drop, I: Instance<K>, R: Wait>(
+    rt: &R,
+    desk: &Desk<K>,
+    pass: &mut Pass<K>,
+    connection: &Connection,
+    gathered: &mut Vec<u8>,
+    service: &Service<'_, K, I>,
+) -> Option<bool>
+    requires desk { I.desk ≡ Some desk.now }
+    requires pass { IsOf desk.now pass.old }
+    ensures { Watches pass.old pass.new }
+{
     if gathered.len() < OUTPUT_BYTES {
         return Some(true);
     }
-    match send(&connection.stream, gathered) {
+    let synced = service.syncing.sync_seen(rt, desk, pass).ok()?;
+    match send(&connection.stream, &synced, gathered) {
         Ok(()) => Some(gathered.len() < OUTPUT_BYTES),
         Err(_) => None,
     }
@@ -115,7 +128,7 @@ pub(crate) fn converse<K: Keeper + Drop, I: Instance<K>, R: Wait, G: Witness>(
     let mut session = session;
     let mut taken = 0;
     for _ in rt.forever() {
-        match has_room(connection, &mut speech.output) {
+        match has_room(rt, desk, pass, connection, &mut speech.output, service) {
             Some(true) => {}
             Some(false) => return Spoken::Waits(session, taken),
             None => return Spoken::Ended(session.fails(SessionFault::Write), None),

@@ -1,5 +1,7 @@
 //! How a guest waits, and leaves.
-ghost use Rattle.std.specs.Prelude.{◌≡◌, []};
+ghost use Rattle.std.specs.Prelude.{◌≡◌, [], Some};
+ghost use Rattle.session_core.specs.Gains.{Watches};
+ghost use Rattle.server_core.specs.Sessions.{IsOf};
 
 use crate::connection::Connection;
 use crate::conversing::has_room;
@@ -12,6 +14,7 @@ use crate::parked_session::ParkedSession;
 use crate::room::Speech;
 use crate::service::Service;
 use base_core::{Broken, Name, Unbuffered};
+use desk_core::{Desk, Pass};
 use door_core::Log;
 use journal_core::Keeper;
 use session_core::{SessionEnd, SessionFault, Summary};
@@ -224,24 +227,33 @@ pub(crate) fn end<K: Keeper + Drop, I: Instance<K>, R: Wait + Clock, G: Log>(
 /// behind that, if anything is.
 fn tell_more<K: Keeper + Drop, I: Instance<K>, R: Wait>(
     rt: &R,
+    desk: &Desk<K>,
+    pass: &mut Pass<K>,
     connection: &mut Connection,
     owed: Option<Owing<K, I>>,
     speech: &mut Speech,
-) -> Result<Option<Owing<K, I>>, Broken> {
+    service: &Service<'_, K, I>,
+) -> Result<Option<Owing<K, I>>, Broken>
+    requires desk { I.desk ≡ Some desk.now }
+    requires pass { IsOf desk.now pass.old }
+    ensures { Watches pass.old pass.new }
+{
     let mut owed = owed;
     for _ in rt.forever() {
         let Some(owing) = owed else {
             owed = None;
             break;
         };
-        if !has_room(connection, &mut speech.output).ok_or(Broken)? {
+        let room = has_room(rt, desk, pass, connection, &mut speech.output, service);
+        if !room.ok_or(Broken)? {
             owed = Some(owing);
             break;
         }
         let mut writer = Unbuffered::new(Outbox::new(&mut speech.output));
         owed = owing.go_on(&mut speech.scratch, &mut writer)?;
     }
-    if !connection.hand_on(&mut speech.output) {
+    let synced = service.syncing.sync_seen(rt, desk, pass)?;
+    if !connection.hand_on(&synced, &mut speech.output) {
         return Err(Broken);
     }
     Ok(owed)
@@ -251,12 +263,18 @@ fn tell_more<K: Keeper + Drop, I: Instance<K>, R: Wait>(
 /// What is to come behind that, if anything is.
 fn tell_rest<K: Keeper + Drop, I: Instance<K>, R: Wait>(
     rt: &R,
+    desk: &Desk<K>,
+    pass: &mut Pass<K>,
     connection: &mut Connection,
     owed: Option<Owing<K, I>>,
     speech: &mut Speech,
+    service: &Service<'_, K, I>,
 ) -> Result<Option<Owing<K, I>>, Broken>
-    requires { speech.old.output.items ≡ [] }
-    ensures { speech.new.output.items ≡ [] }
+    requires desk { I.desk ≡ Some desk.now }
+    requires pass { IsOf desk.now pass.old }
+    requires nothing { speech.old.output.items ≡ [] }
+    ensures watched { Watches pass.old pass.new }
+    ensures handed_on { speech.new.output.items ≡ [] }
 {
     if !connection.send() {
         return Err(Broken);
@@ -264,7 +282,7 @@ fn tell_rest<K: Keeper + Drop, I: Instance<K>, R: Wait>(
     if !connection.unsent.is_empty() {
         return Ok(owed);
     }
-    let told = tell_more(rt, connection, owed, speech);
+    let told = tell_more(rt, desk, pass, connection, owed, speech, service);
     // What could not be handed on is no other client's.
     speech.output.clear();
     told
@@ -291,6 +309,8 @@ fn wait_behind<K: Keeper + Drop, I: Instance<K>, R: Wait + Clock, G: Log>(
 /// Ends a session once its last reply is written, as far as its client takes that.
 pub(crate) fn end_behind<K: Keeper + Drop, I: Instance<K>, R: Wait + Clock, G: Log>(
     rt: &R,
+    desk: &Desk<K>,
+    pass: &mut Pass<K>,
     connection: Connection,
     owed: Option<Owing<K, I>>,
     summary: Summary,
@@ -298,19 +318,22 @@ pub(crate) fn end_behind<K: Keeper + Drop, I: Instance<K>, R: Wait + Clock, G: L
     service: &Service<'_, K, I>,
     log: &G,
 )
-    requires { speech.old.output.items ≡ [] }
-    ensures { speech.new.output.items ≡ [] }
+    requires desk { I.desk ≡ Some desk.now }
+    requires pass { IsOf desk.now pass.old }
+    requires nothing { speech.old.output.items ≡ [] }
+    ensures watched { Watches pass.old pass.new }
+    ensures handed_on { speech.new.output.items ≡ [] }
 {
     if owed.is_none() {
         return end(rt, connection, summary, service, log);
     }
     let mut connection = connection;
-    let told = tell_rest(rt, &mut connection, owed, speech);
+    let told = tell_rest(rt, desk, pass, &mut connection, owed, speech, service);
     match told {
         Ok(Some(owing)) => wait_behind(rt, connection, owing, summary, service, log),
         Ok(None) => end(rt, connection, summary, service, log),
         Err(Broken) => {
-            let ended = Err(SessionEnd::Session(SessionFault::Write));
+            let ended = Err(service.syncing.untold());
             end(rt, connection, Summary { ended, ..summary }, service, log);
         }
     }

@@ -42,6 +42,12 @@
 //! before there is room for it. All that is sent before more of him is read, so he keeps nobody from a
 //! worker.
 //!
+//! **Where it is asked for, nothing is told before it is durable.** What is sent of what was gathered takes
+//! leave of a `Synced`, and one is made only of what a pass had seen, once all of that is durable: a sync was
+//! made of a keeper that had kept it. A worker whose guests wait for that answers others who are ready
+//! meanwhile, where no other worker would, and then syncs for all of them; who comes while another worker
+//! syncs waits for it, and mostly finds that the next sync was of his too. So one sync serves many clients.
+//!
 //! **A login holds no worker.** Its messages are pieces as any others. The answer to its last is
 //! held back where it is refused, and told a second later. A login is judged by the users of the
 //! moment at which its client came, and refused where his line of the file is another by the time
@@ -89,11 +95,14 @@ mod counters;
 mod counting;
 mod guest;
 mod hearing;
+mod holding;
+mod idle;
 mod instance;
 mod leaving;
 mod letting_in;
 mod lookout;
 mod outbox;
+mod outcome;
 mod owing;
 mod parked_session;
 mod permit;
@@ -102,6 +111,7 @@ mod room;
 mod service;
 mod sessions;
 mod sign;
+mod syncing;
 mod worker;
 
 pub use bell::Bell;

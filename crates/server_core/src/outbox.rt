@@ -1,6 +1,9 @@
 //! What a session's client is sent.
 ghost use Rattle.std.specs.Prelude.{None};
 
+use crate::instance::Instance;
+use crate::syncing::Synced;
+use journal_core::Keeper;
 use lines_core::Steady;
 use std::io::{Error, ErrorKind, Result, Write};
 use std::net::TcpStream;
@@ -31,8 +34,17 @@ impl<'a> Write for Outbox<'a> {
     }
 }
 
-/// Sends as much as goes in at once, and takes that away.
-pub(crate) fn send(stream: &TcpStream, waiting: &mut Vec<u8>) -> Result<()> {
+/// Sends as much of what was gathered as goes in at once, and takes that away.
+pub(crate) fn send<K: Keeper + Drop, I: Instance<K>>(
+    stream: &TcpStream,
+    _synced: &Synced<K, I>,
+    gathered: &mut Vec<u8>,
+) -> Result<()> {
+    send_on(stream, gathered)
+}
+
+/// The same of what was let through before.
+pub(crate) fn send_on(stream: &TcpStream, waiting: &mut Vec<u8>) -> Result<()> {
     if waiting.is_empty() {
         return Ok(());
     }

@@ -3,10 +3,12 @@ ghost use Rattle.std.specs.Prelude.{◌≡◌, IfOk};
 
 use crate::bell::Bell;
 use crate::counters::Counters;
+use crate::idle::Idle;
 use crate::instance::Instance;
 use crate::permits::Permits;
 use crate::sessions::Sessions;
 use crate::sign::Sign;
+use crate::syncing::Syncing;
 use base_core::{Moment, NoMemory};
 use door_core::{Entrance, Manners};
 use journal_core::Keeper;
@@ -16,8 +18,8 @@ use std::sync::Wait;
 use std::time::{Clock, Instant};
 
 /// What the threads of a server share, beside the desk: where clients come in, the sign that none is
-/// taken, the sessions that wait for their clients, the permits to run, what is counted, and how sessions
-/// are treated.
+/// taken, the sessions that wait for their clients, the permits to run, what is counted, how far the journal
+/// is durable, and how sessions are treated.
 #[derive(Drop)]
 pub struct Service<'a, K: Keeper + Drop, I: Instance<K>> {
     pub entrance: &'a Entrance,
@@ -27,16 +29,20 @@ pub struct Service<'a, K: Keeper + Drop, I: Instance<K>> {
     pub counters: Counters,
     /// Wakes the checkpointer.
     pub bell: Bell,
+    pub(crate) syncing: Syncing<K, I>,
+    pub(crate) idle: Idle,
     pub manners: Manners,
 }
 
 impl<'a, K: Keeper + Drop, I: Instance<K>> Service<'a, K, I> {
-    /// What workers share on so many processors, from this moment on. `NoMemory` where a request for
+    /// What workers share on so many processors, from this moment on, with this one who makes durable what
+    /// clients are told. `NoMemory` where a request for
     /// memory was refused.
     pub fn new(
         alloc: Global,
         entrance: &'a Entrance,
         processors: usize,
+        syncer: I::Syncer,
         manners: Manners,
         moment: Moment,
     ) -> Result<Service<'a, K, I>, NoMemory>
@@ -51,6 +57,8 @@ impl<'a, K: Keeper + Drop, I: Instance<K>> Service<'a, K, I> {
             permits: Permits::new(processors),
             counters,
             bell: Bell::new(),
+            syncing: Syncing::new(syncer),
+            idle: Idle::new(),
             manners,
         })
     }

@@ -3,6 +3,7 @@ ghost use Rattle.std.specs.Prelude.{◌≡◌, ◌+◌, ◌⊎◌, ◌<◌, [], 
 ghost use Rattle.server_core.specs.Sessions.{IsOf, Attended};
 
 use crate::attending::attend;
+use crate::holding::Holding;
 use crate::instance::Instance;
 use crate::letting_in::{take_in, turn_away, unmet};
 use crate::room::Room;
@@ -124,19 +125,33 @@ pub fn work<K: Keeper + Drop, L: Ledger, I: Instance<K>, R: Wait + Clock, G: Log
         mut token,
         mut room,
     } = worker;
+    let mut holding = Holding::new(alloc);
     for _ in rt.forever() {
-        if service.is_done() {
+        if holding.is_empty() && service.is_done() {
             break;
         }
-        match service.entrance.wait() {
+        match holding.ready(service) {
             Ready::Door => open_door(rt, alloc, service, door, &mut token, log),
             Ready::Session(number) => {
                 let Some(guest) = service.sessions.take(rt, number) else {
                     continue;
                 };
-                attend(rt, alloc, desk, &mut pass, guest, &mut room, service, log);
+                let (pass, room) = (&mut pass, &mut room);
+                attend(
+                    rt,
+                    alloc,
+                    desk,
+                    pass,
+                    guest,
+                    room,
+                    &mut holding,
+                    service,
+                    log,
+                );
             }
-            Ready::Nothing => {}
+            Ready::Nothing => {
+                holding.tell_all(rt, desk, &mut pass, &mut room, service, log);
+            }
         }
     }
     service.go();

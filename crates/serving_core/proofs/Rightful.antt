@@ -17,7 +17,7 @@ use Rattle.session_core.specs.declared.admission.Admission.{Admission}
 use Rattle.session_core.specs.Machines.{Protocol, Right}
 use Rattle.session_core.specs.Parking.{GainsFor, pass_note}
 use Rattle.door_core.specs.Entrance.{Admittance}
-use Rattle.server_core.specs.Sessions.{Working, new_pass, new_worker, Attends, Attended, nobody, admitted, went_on, nothing_known, IsWorkers, IsCheckpointers, AreServers, Leaves}
+use Rattle.server_core.specs.Sessions.{Working, new_pass, new_worker, Attends, Attended, nobody, admitted, went_on, watched, nothing_known, IsWorkers, IsCheckpointers, AreServers, Leaves}
 use Rattle.serving_core.specs.Rightful.{IsByRight}
 use Rattle.serving_core.proofs.PassLemmas.{checks_watch}
 
@@ -41,7 +41,7 @@ Adds right by before pass = ∥ ((es : List Entry) × (mine asked_by pass ≡ be
 
 gained_adds : {K : Type 0} (right : Right) (by : Admittance) (found : Option User) (old new : DeskPass K) → ((user : User) → found ≡ Some user → HasRight right by user) → GainsFor found old new
     → (es : List Entry) × (mine asked_by new ≡ mine asked_by old ++ es) × All (Rightful right by) es
-gained_adds right by None old new come watched = ([], watched.mine_is ∙ sym (append-nil (mine asked_by old)), All-nil (Rightful right by))
+gained_adds right by None old new come look = ([], look.mine_is ∙ sym (append-nil (mine asked_by old)), All-nil (Rightful right by))
 gained_adds right by (Some user) old new come gains =
     (gains.entries, gains.mine_is, All-weaker (λ (e : Entry). e.user ≡ user) (Rightful right by) (λ e is. subst (HasRight right by) (sym is) (come user refl)) gains.entries gains.bear)
 
@@ -66,6 +66,8 @@ attended_adds right protocol rightful by desk old _ (went_on between pass before
       second.1 ∙ (ap (λ z. z ++ second.0) first.1 ∙ append_assoc (mine asked_by old.pass) first.0 second.0),
       All-append (Rightful right by) first.0 second.0 first.2 second.2,
     )))
+attended_adds right protocol rightful by desk old _ (watched between pass before look) =
+    ∥∥₁_map (attended_adds right protocol rightful by desk old between before) (λ first. (first.0, look.mine_is ∙ first.1, first.2))
 
 abbrev AddsToJournal : {K : Type 0} → Right → Admittance → List Entry → DeskPass K → Type 0
 AddsToJournal right by journal pass = Adds right by (own asked_by pass.number journal) pass
@@ -75,8 +77,8 @@ worker_adds right protocol rightful by journal desk w served = attended_adds rig
 
 checkpointer_adds : {K : Type 0} (right : Right) (by : Admittance) (journal : List Entry) (desk : DeskLock K) (pass : DeskPass K) → IsCheckpointers journal desk pass → AddsToJournal right by journal pass
 checkpointer_adds right by journal desk pass looked =
-    let watched = checks_watch desk (new_pass journal desk pass.number) pass looked in
-    ∣ ([], watched.mine_is ∙ sym (append-nil (own asked_by pass.number journal)), All-nil (Rightful right by)) ∣₁
+    let look = checks_watch desk (new_pass journal desk pass.number) pass looked in
+    ∣ ([], look.mine_is ∙ sym (append-nil (own asked_by pass.number journal)), All-nil (Rightful right by)) ∣₁
 
 servers_add : {K : Type 0} (right : Right) (protocol : Protocol K) (rightful : IsRightful right protocol) (by : Admittance) (journal : List Entry) (desk : DeskLock K) (sessions : ℕ) (passes : List (DeskPass K)) → AreServers protocol by journal desk sessions passes → All (AddsToJournal right by journal) passes
 servers_add {K = K} right protocol rightful by journal desk sessions passes s =

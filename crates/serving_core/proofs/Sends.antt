@@ -26,6 +26,7 @@ use Rattle.server_core.proofs.sign.Sign.TheSendSync as signs
 use Rattle.server_core.proofs.permits.Permits.TheSendSync as permits
 use Rattle.server_core.proofs.counters.Counters.TheSendSync as counters
 use Rattle.server_core.proofs.bell.Bell.TheSendSync as bells
+use Rattle.server_core.proofs.idle.Idle.TheSendSync as idles
 use Rattle.lines_core.proofs.feeding.Feeding.TheSendSync as feedings
 use Rattle.login_core.proofs.beginning.Beginning.TheSendSync as beginnings
 use Rattle.reply_core.proofs.pending.Pending.TheSendSync as pendings
@@ -42,6 +43,9 @@ use Rattle.server_core.specs.contracts.guest.Guest as Guest
 use Rattle.server_core.specs.contracts.guest.Stage as Stage
 use Rattle.server_core.specs.contracts.sessions.Sessions as Sessions
 use Rattle.server_core.specs.contracts.service.Service as Service
+use Rattle.server_core.specs.contracts.syncing.Progress as Progress
+use Rattle.server_core.specs.contracts.syncing.Syncing as Syncing
+use Rattle.journal_core.specs.declared.syncs.Syncs as syncs
 use Rattle.server_core.specs.contracts.worker.Worker as Worker
 
 basis_send : (K : RattleType) → IsSend (Basis.the_row K)
@@ -69,24 +73,32 @@ wire_send K k s =
     let core = core_send K k s in
     search (sendable, crosses, notes.the_send, clients.the_send) depth 60 fits 20000
 
-pub at_site_send : (S M : RattleType) → IsSend S → IsSend M → IsSend (AtSite.the_row S M)
-at_site_send S M s m = search (sendable, crosses) depth 60 fits 20000
+pub at_site_send : (S M Y : RattleType) → IsSend S → IsSend M → IsSend Y → IsSend (AtSite.the_row S M Y)
+at_site_send S M Y s m y = search (sendable, crosses) depth 60 fits 20000
 
 -- what waits in a server whose sessions are such machines
-module _ (K I M : RattleType) (k : keeper.Ghosts K.Denot) (send_keeper : IsSend K) (send_instance : IsSend I) (send_machine : IsSend M) (i : instance.Ghosts I.Denot K.Denot M.Denot) (m : machine.Ghosts M.Denot K.Denot) where
-  session_send : IsSend (ParkedSession.the_row K I M k i m)
+module _ (K I M Y : RattleType) (k : keeper.Ghosts K.Denot) (send_keeper : IsSend K) (send_instance : IsSend I) (send_machine : IsSend M) (sync_syncer : IsSync Y)
+    (i : instance.Ghosts I.Denot K.Denot M.Denot Y.Denot) (m : machine.Ghosts M.Denot K.Denot) (y : syncs.Ghosts Y.Denot K.Denot) where
+  session_send : IsSend (ParkedSession.the_row K I M Y k i m y)
   session_send = search (sendable, crosses, admissions.the_send) depth 60 fits 20000
 
-  stage_send : IsSend (Stage.the_row K I M k i m)
+  stage_send : IsSend (Stage.the_row K I M Y k i m y)
   stage_send = let session = session_send in search (sendable, crosses, variants_send, pendings.the_send, summaries.the_send) depth 60 fits 20000
 
-  guest_send : IsSend (Guest.the_row K I M k i m)
+  guest_send : IsSend (Guest.the_row K I M Y k i m y)
   guest_send = let stage = stage_send in search (sendable, crosses, declared_send, connections.the_send) depth 60 fits 20000
 
-  sessions_sync : IsSync (Sessions.the_row K I M k i m)
+  sessions_sync : IsSync (Sessions.the_row K I M Y k i m y)
   sessions_sync = let guest = guest_send in search (sendable, crosses) depth 60 fits 20000
 
-  pub service_sync : (entrance : NamedLft) → IsSync (Service.the_row entrance K I M k i m)
+  progress_send : IsSend (Progress.the_row K I M Y k i m y)
+  progress_send = let core = core_send K k send_keeper in search (sendable, crosses, declared_send, notes.the_send) depth 60 fits 20000
+
+  syncing_sync : IsSync (Syncing.the_row K I M Y k i m y)
+  syncing_sync = let progress = progress_send in search (sendable, crosses, declared_sync) depth 60 fits 20000
+
+  pub service_sync : (entrance : NamedLft) → IsSync (Service.the_row entrance K I M Y k i m y)
   service_sync entrance =
       let sessions = sessions_sync in
-      search (sendable, crosses, declared_sync, entrances.the_sync, signs.the_sync, permits.the_sync, counters.the_sync, bells.the_sync, manners.the_sync) depth 60 fits 20000
+      let syncing = syncing_sync in
+      search (sendable, crosses, declared_sync, entrances.the_sync, signs.the_sync, permits.the_sync, counters.the_sync, bells.the_sync, idles.the_sync, manners.the_sync) depth 60 fits 20000

@@ -14,7 +14,7 @@ use base_core::Moment;
 use desk_core::{Desk, Pass};
 use door_core::{Door, Entrance, Log, Manners, ServeFault, SharedLog, Taken};
 use either_core::EitherSession;
-use journal_core::Keeper;
+use journal_core::{Keeper, Syncs};
 use server_core::{AtSite, Control, Service, Site};
 use session_core::{Parked, SessionMachine};
 use std::alloc::Global;
@@ -41,7 +41,7 @@ fn processors<R: Threads>(rt: &R) -> usize {
 
 /// Serves sessions through these passes, and gives them back with the checkpointer's behind them, and all
 /// of the token.
-fn serve_dealt<K, L, S, M, R, G, C>(
+fn serve_dealt<K, L, S, M, Y, R, G, C>(
     rt: &R,
     alloc: Global,
     desk: &Desk<K>,
@@ -49,7 +49,7 @@ fn serve_dealt<K, L, S, M, R, G, C>(
     passes: Vec<Pass<K>>,
     own: Pass<K>,
     rest: Share<L>,
-    service: &Service<'_, K, AtSite<S, M>>,
+    service: &Service<'_, K, AtSite<S, M, Y>>,
     door: &Mutex<Door<L>>,
     log: &G,
     control: &C,
@@ -59,6 +59,7 @@ where
     L: Ledger + Send + Sync,
     S: Site<K> + Send + Sync,
     M: SessionMachine<K> + Send,
+    Y: Syncs<K> + Send + Sync,
     R: Threads + Wait + Clock + Sync,
     G: Log + Sync,
     C: Control,
@@ -88,7 +89,7 @@ where
 
 /// Serves so many sessions of the entrance through these passes, of which the last is the
 /// checkpointer's, and gives their number and the passes.
-fn serve_through<K, L, S, M, R, G, C>(
+fn serve_through<K, L, S, M, Y, R, G, C>(
     rt: &R,
     alloc: Global,
     blank: Blank,
@@ -98,6 +99,7 @@ fn serve_through<K, L, S, M, R, G, C>(
     workers: usize,
     entrance: &Entrance,
     sessions: u64,
+    syncer: Y,
     manners: Manners,
     moment: Moment,
     log: &G,
@@ -108,6 +110,7 @@ where
     L: Ledger + Send + Sync,
     S: Site<K> + Send + Sync,
     M: SessionMachine<K> + Send,
+    Y: Syncs<K> + Send + Sync,
     R: Threads + Wait + Clock + Sync,
     G: Log + Sync,
     C: Control,
@@ -126,7 +129,9 @@ where
         return Err(ServeFault::NoMemory);
     };
     let machines = processors(rt);
-    let service = Service::<K, AtSite<S, M>>::new(alloc, entrance, machines, manners, moment)?;
+    let service = Service::<K, AtSite<S, M, Y>>::new(
+        alloc, entrance, machines, syncer, manners, moment,
+    )?;
     let (book, rest) = blank.open::<L>();
     let door = Mutex::new(Door::new(sessions, book));
     let served = serve_dealt(
@@ -184,7 +189,7 @@ fn close<K: Keeper + Drop>(
 }
 
 /// As [`serve_on`], with a blank token of one part for each thread.
-fn serve_sessions<K, L, M, R, G, C>(
+fn serve_sessions<K, L, M, Y, R, G, C>(
     rt: &R,
     alloc: Global,
     blank: Blank,
@@ -193,6 +198,7 @@ fn serve_sessions<K, L, M, R, G, C>(
     sessions: u64,
     system: System,
     keeper: K,
+    syncer: Y,
     manners: Manners,
     log: &G,
     control: &C,
@@ -201,6 +207,7 @@ where
     K: Keeper + Drop + Send,
     L: Ledger + Send + Sync,
     M: SessionMachine<K> + Send,
+    Y: Syncs<K> + Send + Sync,
     R: Threads + Wait + Clock + Sync,
     G: Log + Sync,
     C: Control,
@@ -220,9 +227,9 @@ where
     let begun = Snapshot::of(&system);
     let moment = system.moment();
     let (desk, passes) = Desk::build(alloc, system, keeper, workers + 1)?;
-    match serve_through::<K, L, Brand, M, R, G, C>(
-        rt, alloc, blank, &desk, &begun, passes, workers, entrance, sessions, manners, moment, log,
-        control,
+    match serve_through::<K, L, Brand, M, Y, R, G, C>(
+        rt, alloc, blank, &desk, &begun, passes, workers, entrance, sessions, syncer, manners,
+        moment, log, control,
     ) {
         Ok((taken, passes)) => close(desk, passes, taken),
         Err(fault) => {
@@ -236,7 +243,8 @@ where
 /// Serves so many sessions that come in at the entrance, by so many threads, from 1 to 16, beside
 /// one that takes the steps of checkpoints, of so many records as the core's chunk says. Where
 /// clients have to log in, a session is one that was proved to be its user's. They begin with this
-/// core, and the keeper keeps each change before its reply is written. Behind the last session that
+/// core, and the keeper keeps each change before its reply is written; where the syncer is asked for it,
+/// what a client is told is durable before it is sent. Behind the last session that
 /// is wanted the entrance is closed, so that further clients are refused. Then it closes the desk,
 /// and answers the number of sessions, and the core and the keeper that they left. Where the
 /// control says that it is to stop, it takes no further session, those that run answer the lines
@@ -254,10 +262,11 @@ where
 /// `Accept` where a listener is gone: no further session is taken, and those that run are ended by
 /// their clients. Of any other fault of accepting a session nothing is told, and it is tried again.
 /// A session whose change could not be kept ends with a fault, and the server goes on: what is owed
-/// of that change is tried again before the next is entered, and once more at the end. `NoMemory`
+/// of that change is tried again before the next is entered, and once more at the end. Where a sync failed,
+/// nobody is told anything any more, and each session that would be ends with `journal`. `NoMemory`
 /// where a request for memory was refused or a thread could not be started, before the first
 /// session or behind the last.
-pub fn serve_on<K, R, W, C>(
+pub fn serve_on<K, Y, R, W, C>(
     rt: &R,
     alloc: Global,
     entrance: &Entrance,
@@ -265,12 +274,14 @@ pub fn serve_on<K, R, W, C>(
     sessions: u64,
     system: System,
     keeper: K,
+    syncer: Y,
     manners: Manners,
     err: &mut W,
     control: &C,
 ) -> Result<Served<K>, ServeFault>
 where
     K: Keeper + Drop + Send,
+    Y: Syncs<K> + Send + Sync,
     R: Threads + Wait + Clock + Sync,
     W: Write + Send,
     C: Control,
@@ -293,7 +304,16 @@ where
         times: manners.times,
     };
     let blank = Blank::new(workers as u64 + 1);
-    serve_sessions::<K, Brand, EitherSession<K, Parked<K>, WireSession<K>>, R, SharedLog<'_, W>, C>(
-        rt, alloc, blank, entrance, workers, sessions, system, keeper, manners, &log, control,
+    serve_sessions::<
+        K,
+        Brand,
+        EitherSession<K, Parked<K>, WireSession<K>>,
+        Y,
+        R,
+        SharedLog<'_, W>,
+        C,
+    >(
+        rt, alloc, blank, entrance, workers, sessions, system, keeper, syncer, manners, &log,
+        control,
     )
 }

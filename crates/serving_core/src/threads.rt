@@ -6,7 +6,7 @@ ghost use Rattle.serving_core.specs.Promises.{IsOfServer};
 
 use desk_core::{Desk, Pass};
 use door_core::{Door, Entrance, Log, ServeFault};
-use journal_core::Keeper;
+use journal_core::{Keeper, Syncs};
 use server_core::{AtSite, Control, Instance, Lookout, Service, Site, Worker, watch, work};
 use session_core::{SessionMachine, checkpointer};
 use std::alloc::Global;
@@ -128,14 +128,14 @@ fn join_all<'a, K: Keeper + Drop, L: Ledger, M: SessionMachine<K>, R: Threads>(
 
 /// Runs all threads to their end, and gives the workers back, and the checkpointer's pass. Where one
 /// could not be started, a worker is missing, and the door is shut.
-pub fn serve_all<K, L, S, M, R, G, C>(
+pub fn serve_all<K, L, S, M, Y, R, G, C>(
     rt: &R,
     alloc: Global,
     desk: &Desk<K>,
     begun: &Snapshot<System>,
     workers: Vec<Worker<K, L>>,
     own: Pass<K>,
-    service: &Service<'_, K, AtSite<S, M>>,
+    service: &Service<'_, K, AtSite<S, M, Y>>,
     door: &Mutex<Door<L>>,
     log: &G,
     control: &C,
@@ -146,6 +146,7 @@ where
     L: Ledger + Send + Sync,
     S: Site<K> + Send + Sync,
     M: SessionMachine<K> + Send,
+    Y: Syncs<K> + Send + Sync,
     R: Threads + Wait + Clock + Sync,
     G: Log + Sync,
     C: Control,
@@ -163,7 +164,7 @@ where
         rt,
         move |scope| -> Result<(Vec<Worker<K, L>>, Pass<K>), ServeFault>
             requires crosses { IsSend K.row × IsSync R.row × IsSync G.row × IsSend S.row
-                × IsSend M.row }
+                × IsSend M.row × IsSend Y.row × IsSync Y.row }
             requires instance { IsOfInstance S.desk S.by desk.now service.now.entrance.now }
             requires workers { All (IsNewWorker begun.now.value.journal desk.now)
                 dealt.workers.items }

@@ -2,7 +2,7 @@
 ghost use Rattle.std.specs.Prelude.{◌≡◌, false, IfOk, IfErr};
 ghost use Rattle.std.specs.Process.{exit_status};
 
-use crate::syncing::JournalFile;
+use crate::syncing::{JournalFile, JournalSyncer};
 use base_core::{NoMemory, StdSink, StdSource, Unbuffered};
 use command_core::JournalSync;
 use lines_core::{NO_MEMORY, Steady, give_up};
@@ -20,6 +20,13 @@ pub type DumpSink = StdSink<Steady<File>>;
 
 /// A file that a journal is written to. It has no buffer, as each line is handed on at once.
 pub type JournalSink = Unbuffered<Steady<JournalFile>>;
+
+/// The same, and who puts it on its disk whenever a client is told of it, where that is asked for.
+#[derive(Drop)]
+pub struct Journal {
+    pub sink: JournalSink,
+    pub syncer: Option<JournalSyncer>,
+}
 
 /// Tells on standard error what is wrong with a file. A fault of standard error is forgotten.
 pub fn tell_of(rt: &HostRuntime, path: &str, what: &[u8]) {
@@ -128,23 +135,42 @@ fn sync_folder(rt: &HostRuntime, path: &str) -> Result<(), ExitCode> {
     }
 }
 
-/// A writer to this file of a journal, which is put on its disk as is asked. The error is the status,
-/// where there was no memory for it, or no thread, which is told.
-fn journal_sink<R: Threads>(
+/// The file of a journal, which is put on its disk as is asked, and who puts it there whenever a client is told
+/// of it. `NoMemory` where there was no memory for it, or no thread.
+fn opened_journal<R: Threads>(
     host: &HostRuntime,
     rt: &R,
     path: &str,
     file: File,
     sync: JournalSync,
-) -> Result<JournalSink, ExitCode>
-    ensures { IfOk result (λ writer. writer.failed ≡ false) }
+) -> Result<(JournalFile, Option<JournalSyncer>), NoMemory> {
+    match sync {
+        JournalSync::Never => Ok((JournalFile::new(host.alloc(), file)?, None)),
+        JournalSync::Second => Ok((JournalFile::synced(host, rt, path, file)?, None)),
+        JournalSync::Each => {
+            let file = JournalFile::new(host.alloc(), file)?;
+            let syncer = file.syncer(host, path)?;
+            Ok((file, Some(syncer)))
+        }
+    }
+}
+
+/// A writer to this file of a journal, which is put on its disk as is asked. The error is the status,
+/// where there was no memory for it, or no thread, which is told.
+fn journal_to<R: Threads>(
+    host: &HostRuntime,
+    rt: &R,
+    path: &str,
+    file: File,
+    sync: JournalSync,
+) -> Result<Journal, ExitCode>
+    ensures { IfOk result (λ journal. journal.sink.failed ≡ false) }
 {
-    let made = match sync {
-        JournalSync::Never => JournalFile::new(host.alloc(), file),
-        JournalSync::Second => JournalFile::synced(host, rt, path, file),
-    };
-    match made {
-        Ok(file) => Ok(Unbuffered::new(Steady::new(file))),
+    match opened_journal(host, rt, path, file, sync) {
+        Ok((file, syncer)) => Ok(Journal {
+            sink: Unbuffered::new(Steady::new(file)),
+            syncer,
+        }),
         Err(NoMemory) => Err(give_up(host, NO_MEMORY)),
     }
 }
@@ -155,11 +181,11 @@ pub fn journal_gone_on<R: Threads>(
     rt: &R,
     path: &str,
     sync: JournalSync,
-) -> Result<JournalSink, ExitCode>
-    ensures { IfOk result (λ writer. writer.failed ≡ false) }
+) -> Result<Journal, ExitCode>
+    ensures { IfOk result (λ journal. journal.sink.failed ≡ false) }
 {
     let file = opened(host, path, false)?;
-    journal_sink(host, rt, path, file, sync)
+    journal_to(host, rt, path, file, sync)
 }
 
 /// A writer to the file of a journal, which has to be missing or empty. The error is the status, as
@@ -169,14 +195,14 @@ pub fn journal_file<R: Threads>(
     rt: &R,
     path: &str,
     sync: JournalSync,
-) -> Result<JournalSink, ExitCode>
-    ensures { IfOk result (λ writer. writer.failed ≡ false) }
+) -> Result<Journal, ExitCode>
+    ensures { IfOk result (λ journal. journal.sink.failed ≡ false) }
 {
     let file = fresh(host, path)?;
     if sync != JournalSync::Never {
         sync_folder(host, path)?;
     }
-    journal_sink(host, rt, path, file, sync)
+    journal_to(host, rt, path, file, sync)
 }
 
 /// A writer to the file of a dump, which has to be missing or empty. The error is the status, as of

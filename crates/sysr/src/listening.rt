@@ -18,11 +18,12 @@ use crate::loading::{Start, begun};
 use crate::naming::{Named, apart_from_each_other};
 use crate::reading_time::tell_reading;
 use crate::recording::dump_to;
+use crate::syncing::JournalSyncer;
 use crate::users::login_of;
 use base_core::{Resume, Sink};
 use command_core::{Serving, UserSocketWord};
 use door_core::{Entrance, Login, Manners, ServeFault, Taken};
-use journal_core::{Keeper, NoKeeper};
+use journal_core::{Keeper, NoKeeper, NoSync, Syncs};
 use lines_core::{NO_MEMORY, SessionFault, fault_text, give_up};
 use run_core::{Left, status_of};
 use script_core::{ScriptFault, script_fault_text};
@@ -45,7 +46,7 @@ fn serve_fault_text(fault: ServeFault) -> &'static str {
 /// Serves the sessions that are asked for at the entrance, from this core on, whose changes are
 /// kept, or until it is told to stop, and gives what they left, and how many they were. The error
 /// is the status, where the server ended by a fault, which is told.
-fn served<R, K>(
+fn served<R, K, Y>(
     host: &HostRuntime,
     rt: &R,
     asked: Serving<'_>,
@@ -53,10 +54,12 @@ fn served<R, K>(
     controls: &Controls<'_>,
     system: System,
     keeper: K,
+    syncer: Y,
 ) -> Result<(Left<K>, Taken), ExitCode>
 where
     R: Threads + Wait + Clock + Sync,
     K: Keeper + Drop + Send,
+    Y: Syncs<K> + Send + Sync,
     requires range { ServesInRange asked }
     requires ready { IsReady system }
     requires settled { K.owing keeper ≡ false }
@@ -84,6 +87,7 @@ where
         asked.sessions,
         system,
         keeper,
+        syncer,
         manners,
         &mut err,
         controls,
@@ -98,6 +102,37 @@ where
             Ok((Left { system, keeper }, taken))
         }
         Err(fault) => Err(give_up(host, serve_fault_text(fault))),
+    }
+}
+
+/// The same, where what clients are told is durable, if there is one who makes it so.
+fn served_synced<R, K>(
+    host: &HostRuntime,
+    rt: &R,
+    asked: Serving<'_>,
+    entrance: &Entrance,
+    controls: &Controls<'_>,
+    system: System,
+    keeper: K,
+    syncer: Option<JournalSyncer>,
+) -> Result<(Left<K>, Taken), ExitCode>
+where
+    R: Threads + Wait + Clock + Sync,
+    K: Keeper + Drop + Send,
+    requires range { ServesInRange asked }
+    requires ready { IsReady system }
+    requires settled { K.owing keeper ≡ false }
+    ensures count { IfOk result
+        (λ b. b.1.stopped ≡ false → b.1.sessions ≡ asked.entry.sessions) }
+    ensures leaves { IfOk result
+        (λ b. Leaves SpeaksServed entrance.now asked.entry.workers b.1.sessions keeper system
+        b.0.system) }
+    ensures kept { IfOk result (λ b. HasKept K.Keeper (origin_at system keeper)
+        b.0.system.journal b.0.keeper) }
+{
+    match syncer {
+        Some(syncer) => served(host, rt, asked, entrance, controls, system, keeper, syncer),
+        None => served(host, rt, asked, entrance, controls, system, keeper, NoSync),
     }
 }
 
@@ -122,14 +157,22 @@ where
     ensures served { IfOk result (λ b. IsServed W.taken W.handed_on entrance.now
         asked.entry.workers b.1.sessions begun b.0) }
 {
-    let Start { system, journal } = begun;
+    let Start {
+        system,
+        journal,
+        syncer,
+    } = begun;
     let Some(sink) = journal else {
-        let (left, taken) = served(host, rt, asked, entrance, controls, system, NoKeeper)?;
+        let (left, taken) = served(
+            host, rt, asked, entrance, controls, system, NoKeeper, NoSync,
+        )?;
         return Ok((Kept::Nowhere(left), taken));
     };
     match line_keeper(host, sink) {
         Ok(keeper) => {
-            let (left, taken) = served(host, rt, asked, entrance, controls, system, keeper)?;
+            let (left, taken) = served_synced(
+                host, rt, asked, entrance, controls, system, keeper, syncer,
+            )?;
             Ok((Kept::Lines(left), taken))
         }
         Err(status) => {

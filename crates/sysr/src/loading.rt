@@ -1,14 +1,15 @@
 //! What a program begins with: a core, and the file of a journal.
-ghost use Rattle.std.specs.Prelude.{◌≡◌, ◌<◌, ◌≤◌, true, false, [], None, IfOk, IfErr, IfSome};
+ghost use Rattle.std.specs.Prelude.{◌≡◌, ◌<◌, ◌≤◌, true, false, [], None, Some, IfOk, IfErr, IfSome};
 ghost use Rattle.std.specs.Option.{is_some};
 ghost use Rattle.std.specs.List.{AllByRecursion};
 ghost use Rattle.std.specs.Process.{exit_status};
 ghost use Rattle.journal_core.specs.Text.{WasRead};
 ghost use Rattle.load_core.specs.Ready.{IsReady};
 
-use crate::files::{JournalSink, give_up_on, journal_file, journal_gone_on, reader_of};
+use crate::files::{Journal, JournalSink, give_up_on, journal_file, journal_gone_on, reader_of};
 use crate::mending::mend;
 use crate::naming::Named;
+use crate::syncing::JournalSyncer;
 use base_core::{Limits, NoMemory};
 use command_core::JournalSync;
 use lines_core::{NO_MEMORY, SessionFault, fault_text, give_up};
@@ -134,26 +135,54 @@ fn loaded_and_told(
     }
 }
 
-/// What a program begins with: a core, and a journal that its changes are kept in, if there is one.
+/// What a program begins with: a core, and a journal that its changes are kept in, if there is one; and who
+/// puts that on its disk whenever a client is told of it, where that is asked for.
 #[derive(Drop)]
 pub struct Start<W> {
     pub system: System,
     pub journal: Option<W>,
+    pub syncer: Option<JournalSyncer>,
 }
 
-/// A writer to the file of a journal, if one is named, which is put on its disk as is asked.
-fn journal_of<R: Threads>(
+/// The same, with the file of a journal, if one is named, which is put on its disk as is asked.
+fn with_journal<R: Threads>(
     host: &HostRuntime,
     rt: &R,
+    system: System,
     path: Option<&str>,
     sync: JournalSync,
-) -> Result<Option<JournalSink>, ExitCode>
-    ensures named { IfOk result (λ journal. is_some journal ≡ is_some path.entry) }
-    ensures works { IfOk result (λ journal. IfSome journal (λ sink. sink.failed ≡ false)) }
+) -> Result<Start<JournalSink>, ExitCode>
+    ensures system { IfOk result (λ begun. begun.system ≡ system) }
+    ensures named { IfOk result (λ begun. is_some begun.journal ≡ is_some path.entry) }
+    ensures works { IfOk result (λ begun. IfSome begun.journal (λ sink. sink.failed ≡ false)) }
 {
-    match path {
-        Some(path) => Ok(Some(journal_file(host, rt, path, sync)?)),
-        None => Ok(None),
+    let Some(path) = path else {
+        return Ok(Start {
+            system,
+            journal: None,
+            syncer: None,
+        });
+    };
+    match journal_file(host, rt, path, sync) {
+        Ok(journal) => Ok(started(system, journal)),
+        Err(status) => {
+            // The process ends here, and its memory goes back as a whole.
+            forget(system);
+            Err(status)
+        }
+    }
+}
+
+/// What a program begins with that goes on with this journal.
+fn started(system: System, journal: Journal) -> Start<JournalSink>
+    ensures system { result.system ≡ system }
+    ensures journal { result.journal ≡ Some journal.sink }
+{
+    let Journal { sink, syncer } = journal;
+    Start {
+        system,
+        journal: Some(sink),
+        syncer,
     }
 }
 
@@ -176,12 +205,9 @@ fn going_on<R: Threads>(
     ensures named { IfOk result (λ begun. is_some begun.journal ≡ true) }
     ensures works { IfOk result (λ begun. IfSome begun.journal (λ sink. sink.failed ≡ false)) }
 {
-    let sink = journal_gone_on(host, rt, path, sync)?;
+    let journal = journal_gone_on(host, rt, path, sync)?;
     let system = told(host, loaded_and_mended(host, path, chunk, limits)?)?;
-    Ok(Start {
-        system,
-        journal: Some(sink),
-    })
+    Ok(started(system, journal))
 }
 
 /// What a program begins with. A file is loaded before another one is opened to write to, so that
@@ -208,12 +234,5 @@ pub fn begun<R: Threads>(
         return going_on(host, rt, path, chunk, limits, sync);
     }
     let system = loaded_and_told(host, named.load, chunk, limits)?;
-    match journal_of(host, rt, named.journal, sync) {
-        Ok(journal) => Ok(Start { system, journal }),
-        Err(status) => {
-            // The process ends here, and its memory goes back as a whole.
-            forget(system);
-            Err(status)
-        }
-    }
+    with_journal(host, rt, system, named.journal, sync)
 }

@@ -31,7 +31,11 @@ fn kept<S: Source, R: Sink, W: Sink + Resume + Drop>(
         (traffic_of (S.left reader.old) (S.left reader.new)
         (R.taken writer.old) (R.taken writer.new))) }
 {
-    let Start { system, journal } = begun;
+    let Start {
+        system,
+        journal,
+        ..
+    } = begun;
     let Some(sink) = journal else {
         let left = answered(rt, reader, writer, NoKeeper, system)?;
         return Ok(Kept::Nowhere(left));

@@ -1,13 +1,16 @@
-//! A journal that is put on its disk once a second, by a thread of its own. While nothing is written it
-//! sleeps.
+//! A journal that is put on its disk: once a second by a thread of its own, which sleeps while nothing is
+//! written; or whenever a client is told of it.
+ghost use Rattle.std.specs.Prelude.{true};
 
 use crate::files::tell_of;
-use base_core::NoMemory;
+use base_core::{Broken, NoMemory};
+use journal_core::Syncs;
 use lines_core::Steady;
 use std::alloc::Global;
 use std::fs::File;
 use std::io::{Error, ErrorKind, Read, Result, Write};
 use std::os::unix::net::UnixStream;
+use std::snapshot::Snapshot;
 use std::sync::Arc;
 use std::sync::atomic::{AtomicBool, Ordering};
 use std::thread;
@@ -65,11 +68,17 @@ struct Shared {
 }
 
 impl Shared {
-    /// Has the system put the file on its disk. Whether it could; what is no file of a disk is as it is.
-    fn sync(&self) -> bool {
+    /// Has the system put the file on its disk. Whether it could: else the file takes nothing more, which is
+    /// told. What is no file of a disk is as it is.
+    fn sync(&self, rt: &HostRuntime, path: &str) -> bool {
         match self.file.sync_data() {
             Ok(()) => true,
-            Err(error) => error.kind() == ErrorKind::InvalidInput,
+            Err(error) if error.kind() == ErrorKind::InvalidInput => true,
+            Err(_) => {
+                self.is_lost.store(true, Ordering::SeqCst);
+                tell_of(rt, path, b"cannot be synced");
+                false
+            }
         }
     }
 }
@@ -123,6 +132,20 @@ impl JournalFile {
         }
     }
 
+    /// Who puts it on its disk whenever a client is told of it. `NoMemory` where a request for memory was
+    /// refused.
+    pub fn syncer(
+        &self,
+        host: &HostRuntime,
+        path: &str,
+    ) -> std::result::Result<JournalSyncer, NoMemory> {
+        Ok(JournalSyncer {
+            host: *host,
+            shared: Arc::try_clone(&self.shared)?,
+            path: path.to_string(host.alloc())?,
+        })
+    }
+
     /// Whether a thread could be started that puts what is written on its disk.
     fn keep_synced<R: Threads>(&self, host: &HostRuntime, rt: &R, path: &str) -> bool {
         let Ok(shared) = Arc::try_clone(&self.shared) else {
@@ -141,6 +164,33 @@ impl JournalFile {
     }
 }
 
+/// Who puts a journal on its disk whenever a client is told of it.
+#[derive(Drop)]
+pub struct JournalSyncer {
+    host: HostRuntime,
+    shared: Arc<Shared>,
+    path: String,
+}
+
+impl<K> Syncs<K> for JournalSyncer {
+    ghost asks = { true };
+
+    // Of a disk nothing is known but that it was asked.
+    ghost durable = { λ k. Unit {0} };
+
+    fn is_asked(&self) -> bool {
+        true
+    }
+
+    fn sync(&self, _kept: &Snapshot<K>) -> std::result::Result<(), Broken> {
+        if self.shared.sync(&self.host, self.path.as_str()) {
+            Ok(())
+        } else {
+            Err(Broken)
+        }
+    }
+}
+
 /// Puts what is written on its disk, a second behind the first of it, until it cannot be put there, which
 /// is told.
 fn sync_repeatedly(rt: &HostRuntime, shared: &Shared, path: &str) {
@@ -154,9 +204,7 @@ fn sync_repeatedly(rt: &HostRuntime, shared: &Shared, path: &str) {
         thread::sleep(rt, Duration::from_secs(PAUSE_SECONDS));
         // Before the call: what comes meanwhile may not be on the disk behind it.
         waker.sleep();
-        if !shared.sync() {
-            shared.is_lost.store(true, Ordering::SeqCst);
-            tell_of(rt, path, b"cannot be synced");
+        if !shared.sync(rt, path) {
             return;
         }
     }

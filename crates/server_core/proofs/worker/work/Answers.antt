@@ -1,7 +1,7 @@
 use Rattle.std.proofs.Common.{◌≡◌, Some, ◌∙◌, sym, subst}
 use Rattle.door_core.specs.Entrance.{Admittance}
-use Rattle.server_core.specs.Sessions.{Working, ServesPieces, nobody}
-use Rattle.server_core.proofs.SamePass.{pieces_same, attended_pieces, attended_count}
+use Rattle.server_core.specs.Sessions.{Working, ServesPieces, nobody, watched}
+use Rattle.server_core.proofs.SamePass.{pieces_same, looked_own, attended_pieces, attended_count}
 use Rattle.server_core.proofs.worker.work.Goals as goal
 
 pub loop-init : goal.loop-init
@@ -38,4 +38,14 @@ loop-preserved-in-Session g c =
       part = c.loop.invariant.part;
       nothing = c.attend.ensures.handed_on;
       served = attended_pieces protocol by desk old between c.attend.new.pass c.loop.invariant.served served;
+    }
+
+pub loop-preserved : goal.loop-preserved
+loop-preserved g c =
+    let between : Working g.row.K.Denot = record { pass = c.loop.pass; sessions = c.loop.token.amount } in
+    record {
+      own = looked_own c.args.desk.now c.loop.pass c.tell_all.new.pass c.tell_all.ensures.watched c.loop.invariant.own;
+      part = c.loop.invariant.part;
+      nothing = c.tell_all.ensures.handed_on;
+      served = watched between c.tell_all.new.pass c.loop.invariant.served c.tell_all.ensures.watched;
     }

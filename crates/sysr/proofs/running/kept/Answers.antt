@@ -1,4 +1,4 @@
 use Rattle.sysr.proofs.running.kept.Goals as goal
 
-pub returns-in_ok-left-in-Ok : goal.returns-in_ok-left-in-Ok
-returns-in_ok-left-in-Ok g c = (c.in-Some.sink, c.in-Some.is, rw c.in-Ok.ensures at c.in_ok-left-in-Ok.ensures)
+pub returns-in-Ok : goal.returns-in-Ok
+returns-in-Ok g c = (c.in-Some.sink, c.in-Some.is, rw c.in-Ok.ensures at c.in_ok-left-in-Ok.ensures)

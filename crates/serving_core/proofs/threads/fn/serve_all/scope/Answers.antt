@@ -21,8 +21,8 @@ spawn_with-requires-send-F g c κs within =
     let core = core_send (param 0 g.row.K) g.K.Keeper k in
     let desk = desk_sync (param 0 g.row.K) g.K.Keeper k in
     let machine = c.requires.crosses.4 in
-    let site = at_site_send (param 2 g.row.S) (param 3 g.row.M) c.requires.crosses.3 machine in
-    let service = service_sync (param 0 g.row.K) (AtSite.the_row (param 2 g.row.S) (param 3 g.row.M)) (param 3 g.row.M) g.K.Keeper k site machine in
+    let site = at_site_send (param 2 g.row.S) (param 3 g.row.M) (param 4 g.row.Y) c.requires.crosses.3 machine c.requires.crosses.5 in
+    let service = service_sync (param 0 g.row.K) (AtSite.the_row (param 2 g.row.S) (param 3 g.row.M) (param 4 g.row.Y)) (param 3 g.row.M) (param 4 g.row.Y) g.K.Keeper k site machine c.requires.crosses.6 in
     search (param_send, arg_send, sendable, crosses, pass.the_send) depth 40 fits 20000
 
 pub spawn_with-requires-send-T : goal.spawn_with-requires-send-T
@@ -39,8 +39,8 @@ spawn_with-requires-in-loop-worker-send-F g c κs within =
     let own = worker_send (param 0 g.row.K) (param 1 g.row.L) g.K.Keeper g.L.Ledger k in
     let door = door_send (param 1 g.row.L) g.L.Ledger in
     let machine = c.requires.crosses.4 in
-    let site = at_site_send (param 2 g.row.S) (param 3 g.row.M) c.requires.crosses.3 machine in
-    let service = service_sync (param 0 g.row.K) (AtSite.the_row (param 2 g.row.S) (param 3 g.row.M)) (param 3 g.row.M) g.K.Keeper k site machine in
+    let site = at_site_send (param 2 g.row.S) (param 3 g.row.M) (param 4 g.row.Y) c.requires.crosses.3 machine c.requires.crosses.5 in
+    let service = service_sync (param 0 g.row.K) (AtSite.the_row (param 2 g.row.S) (param 3 g.row.M) (param 4 g.row.Y)) (param 3 g.row.M) (param 4 g.row.Y) g.K.Keeper k site machine c.requires.crosses.6 in
     search (param_send, arg_send, sendable, crosses) depth 40 fits 20000
 
 pub spawn_with-requires-in-loop-worker-send-T : goal.spawn_with-requires-in-loop-worker-send-T
