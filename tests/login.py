@@ -55,6 +55,8 @@ def verifiers(logins):
         status, out, err = logins.ends("verifier", "ann", given=given)
         good = (status, out) == (1, "") and re.fullmatch(r"sysr: a password is .+\n", err)
         logins.check(f"no verifier of {given[:10]}, {len(given)} bytes", good, (status, out, err))
+    out = logins.ends("verifier", "ANN", given=b"pencil\n")[1]
+    logins.check("users are named in any case", out.startswith("ann:SCRAM-SHA-256$4096:"), out)
     for user in ("1bad", "table", "", "a b", 31 * "x", "p\xe4"):
         status, out, err = logins.ends("verifier", user, given=b"pencil\n")
         logins.check(f"no verifier for {user}", status in (1, 2) and out == "" and len(err) > 10, (status, out, err))

@@ -31,6 +31,17 @@ LONGEST_NAME = 30 * "u"
 COLUMNS = "(a TEXT, b TEXT, c TEXT, d TEXT)"
 MANY = 60_000
 QUERIES = ("SELECT", "CHECKPOINT", "EXPORT")
+# What no command takes: words of a reading where statements are answered, other words than are known, numbers out of their
+# range, one port for both protocols, and no name of a user.
+REFUSED = (
+    *(f"{command} {flag}" for command in ("run", "serve --port 7878")
+        for flag in ("--script", "--strict", "--cut-line drop", "--changes 0", "--changes 1000000001")),
+    *(f"{command} --cut-line keep" for command in ("journal", "dump", "explain rights")),
+    "dump --cut-line", "run --chunk 0", "run --chunk 65", "serve --pg-port 0", "serve --pg-port 65536",
+    "serve --port 7878 --pg-port 7878", "serve --port 7878 --workers 17", "serve --port 7878 --idle 86401",
+    "explain rights --at 1000000001", "verifier", "verifier select", "verifier 1ann", "reload",
+    "serve --user-socket =path", "serve --user-socket select=path",
+)
 OF_MEMORY = re.compile(r"sysr: (line \d+: refused( @\d+)?: )?no memory\n")
 
 
@@ -213,11 +224,17 @@ def behind_a_file(reading, folder):
 
 
 def command_lines(reading):
-    """These words are refused."""
-    for words in (["dump", "--cut-line"], ["dump", "--cut-line", "keep"], ["journal", "--cut-line", "keep"],
-            ["explain", "--cut-line", "keep", "rights"], ["run", "--script"], ["run", "--cut-line", "drop"]):
+    """These words are refused, and a reading may be told behind a question too."""
+    for line in REFUSED:
+        words = line.split()
         status, out, err = reading.run(words, b"")
         reading.check(f"refused: {words}", (status, out) == (2, b"") and err != b"", (status, out, err))
+    told = ["left out 1 line: line 3: denied @2: a lacks DELETE on t"]
+    given = as_bytes([*LINES, "a: DELETE FROM t"])
+    for words in (["explain", "--strict", "rights"], ["explain", "rights", "--strict"]):
+        seen = reading.run([*words, "--format", "csv"], given)
+        wanted = 1, as_bytes([FIELDS, "t,o,OWNER,yes,1,"]), as_bytes(f"sysr: {line}" for line in told)
+        reading.check(f"told beside the question: {words}", seen == wanted, seen)
 
 
 def full_disks(reading):

@@ -7,8 +7,6 @@
 #[cfg(test)]
 mod calls;
 #[cfg(test)]
-mod command_lines;
-#[cfg(test)]
 mod desk;
 #[cfg(test)]
 mod exports;

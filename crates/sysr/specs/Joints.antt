@@ -2,7 +2,7 @@
 -- writer, `taken` is what was given to it.
 use Rattle.std.specs.Prelude.{◌≡◌, ℕ, Bool, true, false, ◌&&◌, ◌||◌, List, [], Option, None, Ok}
 use Rattle.std.specs.Option.{is_some}
-use Rattle.command_core.specs.declared.reading.Reading.{Reading}
+use Rattle.sysr.specs.declared.command.reading.Reading.{Reading}
 use Rattle.dump_core.specs.Ending.{EndsDump}
 use Rattle.journal_core.specs.Keeping.{EndsJournal}
 use Rattle.load_core.specs.Replaying.{EndsReplay, ReplayedState}

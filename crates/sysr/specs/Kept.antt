@@ -11,10 +11,18 @@ use Rattle.desk_core.specs.Kept.{HasKept}
 use Rattle.door_core.specs.Entrance.{Admittance}
 use Rattle.server_core.specs.Sessions.{Leaves}
 use Rattle.serving_core.specs.Protocols.{SpeaksServed}
-use Rattle.command_core.specs.declared.users.UserSocketWord.{UserSocketWord}
+use Rattle.sysr.specs.declared.command.command_line.JournalSync.{JournalSync}
+use Rattle.sysr.specs.declared.command.command_line.JournalSync.TheVariants as asked
+use Rattle.sysr.specs.declared.command.users.UserSocketWord.{UserSocketWord}
 use Rattle.sysr.specs.declared.loading.Start.{Start}
 use Rattle.sysr.specs.declared.keeping.Kept.{Kept}
 use Rattle.sysr.specs.declared.keeping.Kept.TheVariants as places
+
+-- whether clients are told of no change before it is on the disk
+abbrev pub is_each : JournalSync → Bool
+is_each asked.Each = true
+is_each asked.Never = false
+is_each asked.Second = false
 
 -- whether the changes are kept as lines, in a journal
 abbrev pub is_in_lines : {W : Type 0} → Kept W → Bool

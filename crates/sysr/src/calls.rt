@@ -1,6 +1,6 @@
 //! What is asked at a control socket.
 
-use command_core::StatusForm;
+use crate::command::StatusForm;
 use std::io::Read;
 use std::os::unix::net::UnixStream;
 use std::time::Duration;

@@ -4,13 +4,13 @@ ghost use Rattle.std.specs.Prelude.{◌≡◌, IfErr};
 ghost use Rattle.std.specs.Process.{exit_status};
 
 use crate::calls::{Call, line_of, read_call};
+use crate::command::Serving;
 use crate::end_of_input::ends_with;
 use crate::figures::{Facts, seconds_now, tell_status};
 use crate::files::give_up_on;
 use crate::reloading::{tell_no_file, tell_taken, tell_untaken};
 use crate::socket_files::{OWNERS, connected, listener_at};
 use crate::users::{Untaken, read_user_file};
-use command_core::Serving;
 use door_core::wait_for_any;
 use lines_core::{NO_MEMORY, give_up};
 use login_core::{UserFile, UsersFault};

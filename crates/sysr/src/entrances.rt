@@ -3,10 +3,10 @@ ghost use Rattle.std.specs.Prelude.{◌≡◌, IfOk, map};
 ghost use Rattle.std.specs.Option.{is_some};
 ghost use Rattle.sysr.specs.Kept.{admittance_of};
 
+use crate::command::{Serving, UserSocketWord};
 use crate::lent::{Listeners, lent_listeners};
 use crate::places::{Place, Places, places_of, refuse};
 use crate::socket_files;
-use command_core::{Serving, UserSocketWord};
 use door_core::{Entrance, Login, UserSocket};
 use lines_core::{NO_MEMORY, SessionFault, fault_text, give_up};
 use std::fs;

@@ -1,10 +1,10 @@
 //! The rights that lines make, explained.
 ghost use Rattle.std.specs.Prelude.{◌≡◌, false};
 
+use crate::command::Explaining;
 use crate::loading::loaded_or_empty;
 use crate::replaying::{manner_of, replayed, status_of, tell_left_out};
 use base_core::Sink;
-use command_core::Explaining;
 use explain_text::{Answered, ExplainFault, Question, explain, explain_fault_text, history_asked};
 use lines_core::{NO_MEMORY, give_up};
 use load_core::Replayed;

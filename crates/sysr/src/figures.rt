@@ -2,10 +2,10 @@
 ghost use Rattle.std.specs.Prelude.{◌≡◌};
 
 use crate::calls::{Call, line_of};
+use crate::command::{StatusForm, VERSION};
 use crate::files::give_up_on;
 use crate::report::{Growth, Report};
 use crate::socket_files::connected;
-use command_core::{StatusForm, VERSION};
 use lines_core::{SessionFault, fault_text, give_up};
 use server_core::{Counters, KINDS};
 use std::fs;

@@ -1,10 +1,12 @@
 //! The files that are read and written.
 ghost use Rattle.std.specs.Prelude.{◌≡◌, false, IfOk, IfErr};
+ghost use Rattle.std.specs.Option.{is_some};
 ghost use Rattle.std.specs.Process.{exit_status};
+ghost use Rattle.sysr.specs.Kept.{is_each};
 
+use crate::command::JournalSync;
 use crate::syncing::{JournalFile, JournalSyncer};
 use base_core::{NoMemory, StdSink, StdSource, Unbuffered};
-use command_core::JournalSync;
 use lines_core::{NO_MEMORY, Steady, give_up};
 use std::fs;
 use std::fs::{File, OpenOptions, TryLockError};
@@ -143,7 +145,9 @@ fn opened_journal<R: Threads>(
     path: &str,
     file: File,
     sync: JournalSync,
-) -> Result<(JournalFile, Option<JournalSyncer>), NoMemory> {
+) -> Result<(JournalFile, Option<JournalSyncer>), NoMemory>
+    ensures { IfOk result (λ b. is_some b.1 ≡ is_each sync) }
+{
     match sync {
         JournalSync::Never => Ok((JournalFile::new(host.alloc(), file)?, None)),
         JournalSync::Second => Ok((JournalFile::synced(host, rt, path, file)?, None)),
@@ -164,7 +168,8 @@ fn journal_to<R: Threads>(
     file: File,
     sync: JournalSync,
 ) -> Result<Journal, ExitCode>
-    ensures { IfOk result (λ journal. journal.sink.failed ≡ false) }
+    ensures works { IfOk result (λ journal. journal.sink.failed ≡ false) }
+    ensures each { IfOk result (λ journal. is_some journal.syncer ≡ is_each sync) }
 {
     match opened_journal(host, rt, path, file, sync) {
         Ok((file, syncer)) => Ok(Journal {
@@ -182,7 +187,8 @@ pub fn journal_gone_on<R: Threads>(
     path: &str,
     sync: JournalSync,
 ) -> Result<Journal, ExitCode>
-    ensures { IfOk result (λ journal. journal.sink.failed ≡ false) }
+    ensures works { IfOk result (λ journal. journal.sink.failed ≡ false) }
+    ensures each { IfOk result (λ journal. is_some journal.syncer ≡ is_each sync) }
 {
     let file = opened(host, path, false)?;
     journal_to(host, rt, path, file, sync)
@@ -196,7 +202,8 @@ pub fn journal_file<R: Threads>(
     path: &str,
     sync: JournalSync,
 ) -> Result<Journal, ExitCode>
-    ensures { IfOk result (λ journal. journal.sink.failed ≡ false) }
+    ensures works { IfOk result (λ journal. journal.sink.failed ≡ false) }
+    ensures each { IfOk result (λ journal. is_some journal.syncer ≡ is_each sync) }
 {
     let file = fresh(host, path)?;
     if sync != JournalSync::Never {

@@ -1,7 +1,7 @@
 //! Sessions of clients.
 ghost use Rattle.std.specs.Prelude.{◌≡◌, false, IfOk, IfSome};
 ghost use Rattle.std.specs.Option.{is_some};
-ghost use Rattle.command_core.specs.Ranges.{ServesInRange};
+ghost use Rattle.sysr.specs.Ranges.{ServesInRange};
 ghost use Rattle.desk_core.specs.Guarded.{origin_at};
 ghost use Rattle.desk_core.specs.Kept.{HasKept};
 ghost use Rattle.server_core.specs.Sessions.{Leaves};
@@ -9,6 +9,7 @@ ghost use Rattle.load_core.specs.Ready.{IsReady};
 ghost use Rattle.serving_core.specs.Protocols.{SpeaksServed};
 ghost use Rattle.sysr.specs.Kept.{admittance_of, IsServed, ServesFrom};
 
+use crate::command::{Serving, UserSocketWord};
 use crate::controls::{Controls, controls_of};
 use crate::entrances;
 use crate::entrances::{Opened, entrance_of};
@@ -21,9 +22,8 @@ use crate::recording::dump_to;
 use crate::syncing::JournalSyncer;
 use crate::users::login_of;
 use base_core::{Resume, Sink};
-use command_core::{Serving, UserSocketWord};
 use door_core::{Entrance, Login, Manners, ServeFault, Taken};
-use journal_core::{Keeper, NoKeeper, NoSync, Syncs};
+use journal_core::{Keeper, NoKeeper, NoSync};
 use lines_core::{NO_MEMORY, SessionFault, fault_text, give_up};
 use run_core::{Left, status_of};
 use script_core::{ScriptFault, script_fault_text};
@@ -44,69 +44,10 @@ fn serve_fault_text(fault: ServeFault) -> &'static str {
 }
 
 /// Serves the sessions that are asked for at the entrance, from this core on, whose changes are
-/// kept, or until it is told to stop, and gives what they left, and how many they were. The error
-/// is the status, where the server ended by a fault, which is told.
-fn served<R, K, Y>(
-    host: &HostRuntime,
-    rt: &R,
-    asked: Serving<'_>,
-    entrance: &Entrance,
-    controls: &Controls<'_>,
-    system: System,
-    keeper: K,
-    syncer: Y,
-) -> Result<(Left<K>, Taken), ExitCode>
-where
-    R: Threads + Wait + Clock + Sync,
-    K: Keeper + Drop + Send,
-    Y: Syncs<K> + Send + Sync,
-    requires range { ServesInRange asked }
-    requires ready { IsReady system }
-    requires settled { K.owing keeper ≡ false }
-    ensures count { IfOk result
-        (λ b. b.1.stopped ≡ false → b.1.sessions ≡ asked.entry.sessions) }
-    ensures leaves { IfOk result
-        (λ b. Leaves SpeaksServed entrance.now asked.entry.workers b.1.sessions keeper system
-        b.0.system) }
-    ensures kept { IfOk result (λ b. HasKept K.Keeper (origin_at system keeper)
-        b.0.system.journal b.0.keeper) }
-{
-    let manners = Manners {
-        idle: asked.idle.map(Duration::from_secs),
-        max_sessions: asked.max_sessions,
-        log: asked.log,
-        denials: asked.log_denials,
-        times: asked.log_time,
-    };
-    let mut err = host.stderr();
-    let served = serve_on(
-        rt,
-        host.alloc(),
-        entrance,
-        asked.workers,
-        asked.sessions,
-        system,
-        keeper,
-        syncer,
-        manners,
-        &mut err,
-        controls,
-    );
-    match served {
-        Ok(served) => {
-            let Served {
-                taken,
-                system,
-                keeper,
-            } = served;
-            Ok((Left { system, keeper }, taken))
-        }
-        Err(fault) => Err(give_up(host, serve_fault_text(fault))),
-    }
-}
-
-/// The same, where what clients are told is durable, if there is one who makes it so.
-fn served_synced<R, K>(
+/// kept, or until it is told to stop, and gives what they left, and how many they were. What clients
+/// are told is durable, if there is one who makes it so. The error is the status, where the server
+/// ended by a fault, which is told.
+fn served<R, K>(
     host: &HostRuntime,
     rt: &R,
     asked: Serving<'_>,
@@ -130,9 +71,35 @@ where
     ensures kept { IfOk result (λ b. HasKept K.Keeper (origin_at system keeper)
         b.0.system.journal b.0.keeper) }
 {
-    match syncer {
-        Some(syncer) => served(host, rt, asked, entrance, controls, system, keeper, syncer),
-        None => served(host, rt, asked, entrance, controls, system, keeper, NoSync),
+    let manners = Manners {
+        idle: asked.idle.map(Duration::from_secs),
+        max_sessions: asked.max_sessions,
+        log: asked.log,
+        denials: asked.log_denials,
+        times: asked.log_time,
+    };
+    let mut err = host.stderr();
+    let (alloc, workers, sessions) = (host.alloc(), asked.workers, asked.sessions);
+    let served = match syncer {
+        Some(syncer) => serve_on(
+            rt, alloc, entrance, workers, sessions, system, keeper, syncer, manners, &mut err,
+            controls,
+        ),
+        None => serve_on(
+            rt, alloc, entrance, workers, sessions, system, keeper, NoSync, manners, &mut err,
+            controls,
+        ),
+    };
+    match served {
+        Ok(served) => {
+            let Served {
+                taken,
+                system,
+                keeper,
+            } = served;
+            Ok((Left { system, keeper }, taken))
+        }
+        Err(fault) => Err(give_up(host, serve_fault_text(fault))),
     }
 }
 
@@ -164,13 +131,13 @@ where
     } = begun;
     let Some(sink) = journal else {
         let (left, taken) = served(
-            host, rt, asked, entrance, controls, system, NoKeeper, NoSync,
+            host, rt, asked, entrance, controls, system, NoKeeper, syncer,
         )?;
         return Ok((Kept::Nowhere(left), taken));
     };
     match line_keeper(host, sink) {
         Ok(keeper) => {
-            let (left, taken) = served_synced(
+            let (left, taken) = served(
                 host, rt, asked, entrance, controls, system, keeper, syncer,
             )?;
             Ok((Kept::Lines(left), taken))

@@ -1,17 +1,18 @@
 //! What a program begins with: a core, and the file of a journal.
-ghost use Rattle.std.specs.Prelude.{◌≡◌, ◌<◌, ◌≤◌, true, false, [], None, Some, IfOk, IfErr, IfSome};
+ghost use Rattle.std.specs.Prelude.{◌≡◌, ◌<◌, ◌≤◌, ◌&&◌, true, false, [], None, Some, IfOk, IfErr, IfSome};
 ghost use Rattle.std.specs.Option.{is_some};
 ghost use Rattle.std.specs.List.{AllByRecursion};
 ghost use Rattle.std.specs.Process.{exit_status};
 ghost use Rattle.journal_core.specs.Text.{WasRead};
 ghost use Rattle.load_core.specs.Ready.{IsReady};
+ghost use Rattle.sysr.specs.Kept.{is_each};
 
+use crate::command::JournalSync;
 use crate::files::{Journal, JournalSink, give_up_on, journal_file, journal_gone_on, reader_of};
 use crate::mending::mend;
 use crate::naming::Named;
 use crate::syncing::JournalSyncer;
 use base_core::{Limits, NoMemory};
-use command_core::JournalSync;
 use lines_core::{NO_MEMORY, SessionFault, fault_text, give_up};
 use load_core::{Loaded, load_or_text, load_whole_or_text};
 use std::mem::forget;
@@ -154,6 +155,8 @@ fn with_journal<R: Threads>(
 ) -> Result<Start<JournalSink>, ExitCode>
     ensures system { IfOk result (λ begun. begun.system ≡ system) }
     ensures named { IfOk result (λ begun. is_some begun.journal ≡ is_some path.entry) }
+    ensures each { IfOk result
+        (λ begun. is_some begun.syncer ≡ (is_some path.entry && is_each sync)) }
     ensures works { IfOk result (λ begun. IfSome begun.journal (λ sink. sink.failed ≡ false)) }
 {
     let Some(path) = path else {
@@ -177,6 +180,7 @@ fn with_journal<R: Threads>(
 fn started(system: System, journal: Journal) -> Start<JournalSink>
     ensures system { result.system ≡ system }
     ensures journal { result.journal ≡ Some journal.sink }
+    ensures syncer { result.syncer ≡ journal.syncer }
 {
     let Journal { sink, syncer } = journal;
     Start {
@@ -203,6 +207,7 @@ fn going_on<R: Threads>(
     ensures asked { IfOk result (λ begun. (begun.system.chunk ≡ chunk)
         × (begun.system.limits ≡ limits)) }
     ensures named { IfOk result (λ begun. is_some begun.journal ≡ true) }
+    ensures each { IfOk result (λ begun. is_some begun.syncer ≡ is_each sync) }
     ensures works { IfOk result (λ begun. IfSome begun.journal (λ sink. sink.failed ≡ false)) }
 {
     let journal = journal_gone_on(host, rt, path, sync)?;
@@ -211,8 +216,9 @@ fn going_on<R: Threads>(
 }
 
 /// What a program begins with. A file is loaded before another one is opened to write to, so that
-/// none is made where it cannot be loaded. What is written to it is put on its disk as is asked. The
-/// error is the status, and the reason is told.
+/// none is made where it cannot be loaded. What is written to it is put on its disk as is asked: there
+/// is one who does it for clients exactly where that is asked for. The error is the status, and the
+/// reason is told.
 pub fn begun<R: Threads>(
     host: &HostRuntime,
     rt: &R,
@@ -228,6 +234,8 @@ pub fn begun<R: Threads>(
         × (begun.system.limits ≡ limits)) }
     ensures empty { named.entry.load ≡ None → IfOk result (λ begun. begun.system.journal ≡ []) }
     ensures named { IfOk result (λ begun. is_some begun.journal ≡ is_some named.entry.journal) }
+    ensures each { IfOk result
+        (λ begun. is_some begun.syncer ≡ (is_some named.entry.journal && is_each sync)) }
     ensures works { IfOk result (λ begun. IfSome begun.journal (λ sink. sink.failed ≡ false)) }
 {
     if let Some(path) = named.gone_on() {

@@ -36,16 +36,17 @@
 //! that of [`load`](load_core::load), and standard input that of [`replay`](load_core::replay); what
 //! a dump says that of [`write_dump`](dump_core::write_dump); what is explained that of
 //! [`explain`](explain_text::explain); what the command line may say that of
-//! [`options`](command_core::options); and what the threads of a server do to its core that of
+//! [`options`](crate::command::options); and what the threads of a server do to its core that of
 //! [`serve_on`](serving_core::serve_on).
 //!
 //! A command costs what the calls cost that it joins; a verifier 4,096 HMACs. At its end the memory
 //! of tables and rights goes back with the process, and is not taken apart.
 #![tactic(auto)]
 
-ghost use Rattle.command_core.specs.Ranges.{IsInRange};
+ghost use Rattle.sysr.specs.Ranges.{IsInRange};
 
 mod calls;
+mod command;
 mod controls;
 mod end_of_input;
 mod entrances;
@@ -73,6 +74,7 @@ mod users;
 mod verifying;
 mod whole;
 
+use crate::command::{CommandLine, Reading, options, refuse};
 use crate::controls::stop;
 use crate::explaining::explained;
 use crate::figures::status;
@@ -81,7 +83,6 @@ use crate::recording::{dump, journal};
 use crate::reloading::reload;
 use crate::running::run;
 use crate::verifying::verifier;
-use command_core::{CommandLine, Reading, options, refuse};
 use lines_core::{NO_MEMORY, give_up};
 use run_core::{fill_closed_streams, input, output};
 use std::mem::forget;

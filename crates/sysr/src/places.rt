@@ -2,7 +2,7 @@
 ghost use Rattle.std.specs.Prelude.{◌≡◌, None, option_map, IfOk, IfSome};
 ghost use Rattle.sysr.specs.declared.places.TheConstants.{HERE};
 
-use command_core::Serving;
+use crate::command::Serving;
 use std::fmt;
 use std::fmt::{Display, Formatter};
 use std::net::{IpAddr, Ipv4Addr, SocketAddr};

@@ -7,10 +7,10 @@ ghost use Rattle.journal_core.specs.Keeping.{EndsJournal};
 ghost use Rattle.journal_core.specs.Text.{WasRead};
 ghost use Rattle.sysr.specs.Joints.{WritesJournal, WritesDump};
 
+use crate::command::Reading;
 use crate::loading::loaded_or_empty;
 use crate::replaying::{manner_of, replayed, status_of, tell_left_out};
 use base_core::{Name, Sink, Source};
-use command_core::Reading;
 use dump_core::{DumpFault, write_dump};
 use journal_core::{JournalFault, write_journal};
 use lines_core::{NO_MEMORY, SessionFault, fault_text, give_up};

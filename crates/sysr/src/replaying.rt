@@ -6,8 +6,8 @@ ghost use Rattle.journal_core.specs.Text.{WasRead};
 ghost use Rattle.load_core.specs.Replaying.{EndsReplay};
 ghost use Rattle.sysr.specs.Joints.{status_behind};
 
+use crate::command::Reading;
 use base_core::{NoMemory, Source};
-use command_core::Reading;
 use lines_core::{NO_MEMORY, give_up};
 use load_core::{
     Manner, ReplayFault, Replayed, dropped_text, left_out_text, replay, replay_fault_text,

@@ -1,6 +1,6 @@
 //! Figures, as text.
 
-use command_core::StatusForm;
+use crate::command::StatusForm;
 use std::fmt::Display;
 use std::io::{Result, Write};
 

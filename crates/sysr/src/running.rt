@@ -4,12 +4,12 @@ ghost use Rattle.std.specs.Option.{is_some};
 ghost use Rattle.lines_core.specs.Serving.{traffic_of};
 ghost use Rattle.sysr.specs.Kept.{is_in_lines, IsAnswered};
 
+use crate::command::{JournalSync, Running};
 use crate::files::JournalSink;
 use crate::keeping::{Ended, Kept, line_keeper};
 use crate::loading::{Start, begun};
 use crate::naming::{Named, apart_from_each_other};
 use base_core::{Resume, Sink, Source};
-use command_core::{JournalSync, Running};
 use journal_core::NoKeeper;
 use run_core::{answered, input, output, status_of};
 use std::mem::forget;

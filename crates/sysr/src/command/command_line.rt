@@ -1,11 +1,11 @@
 //! What the command line says.
 ghost use Rattle.std.specs.Prelude.{◌<◌, ◌≤◌, IfOk, IfSome};
-ghost use Rattle.command_core.specs.Ranges.{AreApart, AreAsked, IsChunk, IsIdle, IsMoment, IsMostSessions, IsPort, ServesInRange, IsInRange};
+ghost use Rattle.sysr.specs.Ranges.{AreApart, AreAsked, IsChunk, IsIdle, IsMoment, IsMostSessions, IsPort, ServesInRange, IsInRange};
 
-use crate::commands::program;
-use crate::reading::{Reading, limits_of, reading_of};
-use crate::users::{UserSocketWord, user_of, user_sockets_of};
-use crate::values::refused;
+use crate::command::commands::program;
+use crate::command::reading::{Reading, limits_of, reading_of};
+use crate::command::users::{UserSocketWord, user_of, user_sockets_of};
+use crate::command::values::refused;
 use base_core::{Limits, User};
 use clap::error::ErrorKind;
 use clap::{ArgMatches, Error};

@@ -1,5 +1,5 @@
 //! How a command reads standard input.
-ghost use Rattle.command_core.specs.Ranges.{AreAsked};
+ghost use Rattle.sysr.specs.Ranges.{AreAsked};
 
 use base_core::Limits;
 use clap::ArgMatches;

@@ -1,9 +1,9 @@
 //! Users, as the words of a command line name them.
 ghost use Rattle.std.specs.Prelude.{◌≡◌, Some, IfOk, IfSome};
 ghost use Rattle.base_core.specs.Words.{name_of};
-ghost use Rattle.command_core.specs.Words.{SaysUserSocket};
+ghost use Rattle.sysr.specs.Words.{SaysUserSocket};
 
-use crate::values::refused;
+use crate::command::values::refused;
 use base_core::{Name, User};
 use clap::{ArgMatches, Error};
 use std::alloc::{AllocError, Global};

@@ -1,6 +1,6 @@
 //! The flags of the commands that read a journal or a script.
 
-use crate::commands::{Made, changes_arg, flag_arg, value_arg, with};
+use crate::command::commands::{Made, changes_arg, flag_arg, value_arg, with};
 use clap::Arg;
 use std::alloc::Global;
 

@@ -1,6 +1,6 @@
 //! Values that clap would take, and that are refused.
 
-use crate::commands::program;
+use crate::command::commands::program;
 use clap::Error;
 use clap::error::ErrorKind;
 use std::alloc::{AllocError, Global};

@@ -1,7 +1,7 @@
 //! The commands of the program, and what each may be given.
 
-use crate::explain_commands::explain_command;
-use crate::reading_flags::with_reading;
+use crate::command::explain_commands::explain_command;
+use crate::command::reading_flags::with_reading;
 use clap::builder::ValueParser;
 use clap::{Arg, ArgAction, Command};
 use std::alloc::{AllocError, Global};

@@ -2,9 +2,9 @@
 use Rattle.std.specs.Prelude.{◌≢◌, ℕ, ◌<◌, ◌≤◌, Option, IfSome}
 use Rattle.base_core.specs.Full.{IsFullBut}
 use Rattle.base_core.specs.declared.limits.Limits.{Limits}
-use Rattle.command_core.specs.declared.command_line.CommandLine.{CommandLine}
-use Rattle.command_core.specs.declared.command_line.CommandLine.TheVariants as asked
-use Rattle.command_core.specs.declared.command_line.Serving.{Serving}
+use Rattle.sysr.specs.declared.command.command_line.CommandLine.{CommandLine}
+use Rattle.sysr.specs.declared.command.command_line.CommandLine.TheVariants as asked
+use Rattle.sysr.specs.declared.command.command_line.Serving.{Serving}
 
 -- as many records as a step of the checkpointer may take
 abbrev pub IsChunk : ℕ → Type 0

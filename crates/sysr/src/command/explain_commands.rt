@@ -1,7 +1,7 @@
 //! The command that explains rights, and its questions.
 
-use crate::commands::{Made, command, taking, value_arg, with, with_command, word_arg};
-use crate::reading_flags::with_reading;
+use crate::command::commands::{Made, command, taking, value_arg, with, with_command, word_arg};
+use crate::command::reading_flags::with_reading;
 use clap::{Arg, Command};
 use std::alloc::Global;
 
