@@ -38,7 +38,7 @@ module _ {L : Type 0} (disk : Disk L) (point : ℕ) where
         number = length disk.files;
         here = now_here;
         names = names_here none untold;
-        is = is_new (piece point) point disk;
+        is = is_new (new_file (piece point) point) disk;
       };
       lines_are = refl;
       told_is = (omega arith);
@@ -50,7 +50,7 @@ module _ {L : Type 0} (disk : Disk L) (point : ℕ) where
       number = p.number;
       here = now_elsewhere n other ∙ p.here;
       names = names_elsewhere n other (MayName disk told n p.number) p.names;
-      is = longer_has (piece point) point disk p.number file p.is;
+      is = longer_has (new_file (piece point) point) disk p.number file p.is;
     }
 
     -- behind a last piece that has lines there is then an empty one

@@ -1,11 +1,11 @@
 -- Which calls leave the pieces of a journal as they stand.
-use Rattle.std.proofs.Common.{◌≡◌, ◌≢◌, ℕ, Option, List, [], ◌∷◌, Contains, refl, sym, ap, ◌∙◌, subst, arith, ne_eqb}
+use Rattle.std.proofs.Common.{◌≡◌, ◌≢◌, ℕ, ◌≤◌, Option, List, [], ◌∷◌, length, Contains, refl, sym, ap, ◌∙◌, subst, ⊎_elim, arith, ne_eqb}
 use lib.ListN.{get_elem?}
 use Rattle.std.proofs.lemmas.List.Elements.{Contains-append_left}
 use native.Mathlib.Decide.{ℕ_discrete}
 use mathlib.Core.Option.{some-injective}
-use Rattle.folder_core.specs.FileNames.{dump, unfinished, piece}
-use Rattle.folder_core.specs.Disk.{File, Disk, Is, made, renamed, name_removed, folder_synced, Changes, SyncsFile}
+use Rattle.folder_core.specs.FileNames.{FileName, dump, piece}
+use Rattle.folder_core.specs.Disk.{File, Disk, Is, named, whole_file, put, name_removed, Changes, MaySync, SyncsSome}
 use Rattle.folder_core.proofs.Births.{longer_has}
 use Rattle.folder_core.proofs.Steps.{Stays, IsNoLess, no_less_itself}
 
@@ -29,9 +29,6 @@ module _ {L : Type 0} where
     files = λ p number file here named is. (file, files number file is, no_less_itself file);
   }
 
-  pub removed_unfinished_stays : (p : ℕ) (disk : Disk L) → Stays Anywhere disk (name_removed (unfinished p) disk)
-  removed_unfinished_stays p disk = elsewhere Anywhere disk (name_removed (unfinished p) disk) (λ q _. refl) (λ q _. refl) (λ number f is. is)
-
   pub removed_dump_stays : (p : ℕ) (disk : Disk L) → Stays Anywhere disk (name_removed (dump p) disk)
   removed_dump_stays p disk = elsewhere Anywhere disk (name_removed (dump p) disk) (λ q _. refl) (λ q _. refl) (λ number f is. is)
 
@@ -39,17 +36,32 @@ module _ {L : Type 0} where
   removed_piece_stays p disk =
       elsewhere (λ q. q ≢ p) disk (name_removed (piece p) disk) (λ q other. rw (ne_eqb q p other)) (λ q other. rw (ne_eqb q p other)) (λ number f is. is)
 
-  pub renamed_stays : (p : ℕ) (disk : Disk L) → Stays Anywhere disk (renamed (unfinished p) (dump p) disk)
-  renamed_stays p disk = elsewhere Anywhere disk (renamed (unfinished p) (dump p) disk) (λ q _. refl) (λ q _. refl) (λ number f is. is)
+  pub put_stays : (p resumes : ℕ) (lines : List L) (disk : Disk L) → Stays Anywhere disk (put (dump p) resumes lines disk)
+  put_stays p resumes lines disk = elsewhere Anywhere disk (put (dump p) resumes lines disk) (λ q _. refl) (λ q _. refl) (longer_has (whole_file (dump p) resumes lines) disk)
 
-  pub made_unfinished_stays : (p resumes : ℕ) (disk : Disk L) → Stays Anywhere disk (made (unfinished p) resumes disk)
-  made_unfinished_stays p resumes disk = elsewhere Anywhere disk (made (unfinished p) resumes disk) (λ q _. refl) (λ q _. refl) (longer_has (unfinished p) resumes disk)
+  -- a file of which more is synced has no less
+  more_synced : (file : File L) (count : ℕ) → MaySync file count → IsNoLess file (record file { synced = count })
+  more_synced file count may =
+      let bounds : (file.synced ≤ count) × (file.synced ≡ length file.lines → count ≡ length file.lines) =
+      ⊎_elim (λ (same : count ≡ file.synced). (omega arith, λ e. same ∙ e)) (λ (m : (file.synced ≤ count) × (count ≤ length file.lines)). (m.0, λ e. let a = m.0 in let b = m.1 in omega arith)) may in
+      record { lines = refl; synced = bounds.0; whole = bounds.1; resumes = refl }
 
-  pub folder_synced_stays : (disk : Disk L) → Stays Anywhere disk (folder_synced disk)
-  folder_synced_stays disk = record {
-    now = λ p _. refl;
-    names = λ p _ file has. head_only (disk.now (piece p)) (disk.earlier (piece p)) file has;
-    files = λ p number file _ named is. (file, is, no_less_itself file);
+  pub synced_files : (before after : Disk L) → SyncsSome before after → (number : ℕ) (file : File L) → Is before number file → (later : File L) × Is after number later × IsNoLess file later
+  synced_files before after s number file is = let f = s.files number file is in (record file { synced = f.0 }, f.2, more_synced file f.0 f.1)
+
+  -- what names named later they named before
+  pub synced_names : (before after : Disk L) → SyncsSome before after → (name : FileName) (file : Option ℕ) → Contains (named after name) file → Contains (named before name) file
+  synced_names before after s name file has =
+      ⊎_elim
+      (λ (same : after.earlier name ≡ before.earlier name). subst (λ (names : List (Option ℕ)). Contains names file) (λ i. s.now name i ∷ same i) has)
+      (λ (none : after.earlier name ≡ []). head_only (before.now name) (before.earlier name) file (subst (λ (names : List (Option ℕ)). Contains names file) (λ i. s.now name i ∷ none i) has))
+      (s.earlier name)
+
+  pub synced_stays : (before after : Disk L) → SyncsSome before after → Stays Anywhere before after
+  synced_stays before after s = record {
+    now = λ p _. s.now (piece p);
+    names = λ p _ file has. synced_names before after s (piece p) file has;
+    files = λ p number file _ named is. synced_files before after s number file is;
   }
 
   -- where one file has become another that has no less
@@ -68,18 +80,3 @@ module _ {L : Type 0} where
     names = λ p _ file has. subst (λ (names : List (Option ℕ)). Contains names file) (λ i. c.now (piece p) i ∷ c.earlier (piece p) i) has;
     files = λ p other file _ named is. changed_files number old new before after c alike other file is;
   }
-
-  -- a file that is synced has no less
-  pub synced_alike : (number : ℕ) (before after : Disk L) → (s : SyncsFile number before after) → IsNoLess s.file (record s.file { synced = s.count })
-  synced_alike number before after s = record {
-    lines = refl;
-    synced = s.no_fewer;
-    whole = λ e. (let h = s.no_fewer in let k = s.within in omega arith);
-    resumes = refl;
-  }
-
-  pub synced_files : (number : ℕ) (before after : Disk L) → SyncsFile number before after → (other : ℕ) (file : File L) → Is before other file → (later : File L) × Is after other later × IsNoLess file later
-  synced_files number before after s = changed_files number s.file (record s.file { synced = s.count }) before after s.synced (synced_alike number before after s)
-
-  pub syncs_stays : (number : ℕ) (before after : Disk L) → SyncsFile number before after → Stays Anywhere before after
-  syncs_stays number before after s = changed_stays number s.file (record s.file { synced = s.count }) before after s.synced (synced_alike number before after s)

@@ -3,13 +3,12 @@ use Rattle.std.proofs.Common.{◌≡◌, ℕ, ◌+◌, ◌≤◌, ◌<◌, Optio
 use Rattle.std.proofs.lemmas.List.Elements.{All-nil, All-cons, All-contains}
 use native.Mathlib.Decide.{ℕ_discrete}
 use mathlib.Core.Option.{some-injective}
-use Rattle.folder_core.specs.FileNames.{FileName, dump, unfinished, piece}
-use Rattle.folder_core.specs.Disk.{File, Disk, Is, named, made, WritesLine}
+use Rattle.folder_core.specs.FileNames.{FileName, dump, piece}
+use Rattle.folder_core.specs.Disk.{File, Disk, Is, named, new_file, made, WritesLines}
 use Rattle.folder_core.specs.Serving.{NamesNone}
 use Rattle.folder_core.proofs.Chains.{Unnamed, IsLast, Chain, ends, goes_on}
-use Rattle.folder_core.proofs.Births.{AreBorn, MayBe, birth, longer_has}
-use Rattle.folder_core.proofs.Steps.{Stays, IsNoLess, no_less_itself, is_first, number_of}
-use Rattle.folder_core.proofs.Calls.{Anywhere}
+use Rattle.folder_core.proofs.Births.{AreBorn, MayBe, longer_has}
+use Rattle.folder_core.proofs.Steps.{IsNoLess, no_less_itself}
 
 module _ {L : Type 0} where
   -- What a call leaves of the dumps from n on.
@@ -33,10 +32,10 @@ module _ {L : Type 0} where
   all_there before after files number file is = (file, files number file is, no_less_itself file)
 
   -- a line to a file of which no dump's is
-  pub written_dumps : (n number : ℕ) (line : L) (before after : Disk L) → AreBorn before → (w : WritesLine number line before after)
+  pub written_dumps : (n number : ℕ) (lines : List L) (part : Option L) (before after : Disk L) → AreBorn before → (w : WritesLines number lines part before after)
       → ((p : ℕ) → n ≤ p → Contains (named before (dump p)) (Some number) → ⊥)
       → DumpsStay n before after
-  written_dumps n number line before after born w never = record {
+  written_dumps n number lines part before after born w never = record {
     names = λ p le file has. subst (λ (names : List (Option ℕ)). Contains names file) (λ i. w.wrote.now (dump p) i ∷ w.wrote.earlier (dump p) i) has;
     files = λ p other file le had is. elim (ℕ_discrete other number) [
       | yes same ↦ absurd (never p le (subst (λ k. Contains (named before (dump p)) (Some k)) same had))
@@ -45,7 +44,7 @@ module _ {L : Type 0} where
   }
 
   -- files of different births are different
-  pub births_differ : (disk : Disk L) → AreBorn disk → (name other : FileName) (number : ℕ) → Contains (named disk name) (Some number) → Contains (named disk other) (Some number) → birth name ≡ birth other
+  pub births_differ : (disk : Disk L) → AreBorn disk → (name other : FileName) (number : ℕ) → Contains (named disk name) (Some number) → Contains (named disk other) (Some number) → name ≡ other
   births_differ disk born name other number has has' =
       let b = All-contains (MayBe disk name) (named disk name) (Some number) (born name) has number refl in
       let c = All-contains (MayBe disk other) (named disk other) (Some number) (born other) has' number refl in
@@ -57,29 +56,9 @@ module _ {L : Type 0} where
   later_unnamed disk told first' n _ (goes_on _ file lines q full told_is between more) p above = later_unnamed disk told first' (n + length file.lines) lines more p above
 
   pub made_piece_dumps : (n point : ℕ) (disk : Disk L) → DumpsStay n disk (made (piece point) point disk)
-  made_piece_dumps n point disk = dumps_elsewhere n disk (made (piece point) point disk) (λ p le. refl) (λ p le. refl) (all_there disk (made (piece point) point disk) (longer_has (piece point) point disk))
+  made_piece_dumps n point disk = dumps_elsewhere n disk (made (piece point) point disk) (λ p le. refl) (λ p le. refl) (all_there disk (made (piece point) point disk) (longer_has (new_file (piece point) point) disk))
 
   pub none_named : (disk : Disk L) (name : FileName) → NamesNone disk name → All (λ (file : Option ℕ). file ≡ None) (named disk name)
   none_named disk name n =
       subst (λ (earlier : List (Option ℕ)). All (λ (file : Option ℕ). file ≡ None) (disk.now name ∷ earlier)) (sym n.1)
       (All-cons (λ (file : Option ℕ). file ≡ None) (disk.now name) [] n.0 (All-nil (λ (file : Option ℕ). file ≡ None)))
-
-  -- ---- a dump is written
-  pub written_pieces : (number : ℕ) (line : L) (before after : Disk L) → AreBorn before → (w : WritesLine number line before after) → (point : ℕ) → before.now (unfinished point) ≡ Some number → Stays Anywhere before after
-  written_pieces number line before after born w point here = record {
-    now = λ p _. w.wrote.now (piece p);
-    names = λ p _ file has. subst (λ (names : List (Option ℕ)). Contains names file) (λ i. w.wrote.now (piece p) i ∷ w.wrote.earlier (piece p) i) has;
-    files = λ p other file _ had is. elim (ℕ_discrete other number) [
-      | yes same ↦ absurd (let clash : piece p ≡ unfinished point = births_differ before born (piece p) (unfinished point) number (subst (λ k. Contains (named before (piece p)) (Some k)) same had)
-          (is_first (before.now (unfinished point)) (before.earlier (unfinished point)) (Some number) here) in cc)
-      | no not ↦ (file, w.wrote.files other file not is, no_less_itself file)
-    ];
-  }
-
-  pub unwritten_dumps : (n number point : ℕ) (line : L) (before after : Disk L) → AreBorn before → WritesLine number line before after → before.now (unfinished point) ≡ Some number → NamesNone before (dump point) → DumpsStay n before after
-  unwritten_dumps n number point line before after born w here none =
-      written_dumps n number line before after born w
-      (λ p le had.
-      let same : unfinished p ≡ unfinished point = births_differ before born (dump p) (unfinished point) number had (is_first (before.now (unfinished point)) (before.earlier (unfinished point)) (Some number) here) in
-      let nothing : Some number ≡ None = All-contains (λ (file : Option ℕ). file ≡ None) (named before (dump point)) (Some number) (none_named before (dump point) none) (subst (λ k. Contains (named before (dump k)) (Some number)) (ap number_of same) had) in
-      absurd cc)

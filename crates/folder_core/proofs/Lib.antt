@@ -8,4 +8,5 @@ pub mod Standing
 pub mod Dumps
 pub mod Captures
 pub mod Outlives
+pub mod CallSteps
 pub mod WorkedExample

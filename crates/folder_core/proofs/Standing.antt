@@ -9,13 +9,13 @@ use Rattle.folder_core.specs.Serving.{ServerState, IsRestored}
 use Rattle.folder_core.proofs.Chains.{Chain, Leaves, Outlasts, chain_outlasts}
 use Rattle.folder_core.proofs.Births.{AreBorn, same_there}
 
-module _ {L : Type 0} (dumped : List L → List L) where
+module _ {L : Type 0} (IsDumpOf : List L → List L → Type 0) where
   -- this file is the dump of what the first p changes leave, all of it on the disk; r is the piece with which it
   -- resumes, and the changes are told
   pub record IsDump (disk : Disk L) (journal : List L) (told p r number : ℕ) : Type 0 where
     pub file : File L
     pub is : Is disk number file
-    pub lines : file.lines ≡ dumped (take p journal)
+    pub lines : IsDumpOf (take p journal) file.lines
     pub synced : file.synced ≡ length file.lines
     pub resumes : file.resumes ≡ r
     pub all_told : p ≤ told
@@ -52,7 +52,7 @@ module _ {L : Type 0} (dumped : List L → List L) where
     pub rest : List L
     pub restores : Restores s.disk point resumes base behind
     pub joins : Joins s.disk resumes (skipped ++ behind)
-    pub base_is : base ≡ dumped (take point s.journal)
+    pub base_is : IsDumpOf (take point s.journal) base
     pub point_is : resumes + length skipped ≡ point
     pub journal_is : drop resumes s.journal ≡ (skipped ++ behind) ++ rest
     pub within : point ≤ length s.journal
@@ -60,7 +60,7 @@ module _ {L : Type 0} (dumped : List L → List L) where
     pub all_told : s.told ≤ point + length behind
 
   -- what is found is restored
-  pub found_restored : (s : ServerState L) → IsFound s → IsRestored dumped s
+  pub found_restored : (s : ServerState L) → IsFound s → IsRestored IsDumpOf s
   found_restored s f =
       let parts : drop f.resumes s.journal ≡ f.skipped ++ (f.behind ++ f.rest) = f.journal_is ∙ append_assoc f.skipped f.behind f.rest in
       let past : drop f.point s.journal ≡ f.behind ++ f.rest =
@@ -85,16 +85,16 @@ module _ {L : Type 0} (dumped : List L → List L) where
   -- ---- a crash
   module _ (disk left : Disk L) (may : CrashLeaves disk left) (journal : List L) where
     -- a dump is there whole
-    dump_left : (told p r : ℕ) → Dumps disk journal told p r (left.now (dump p)) → (file : File L) × Has left (dump p) file × (file.lines ≡ dumped (take p journal)) × (file.resumes ≡ r)
+    dump_left : (told p r : ℕ) → Dumps disk journal told p r (left.now (dump p)) → (file : File L) × Has left (dump p) file × (IsDumpOf (take p journal) file.lines) × (file.resumes ≡ r)
     dump_left told p r d =
         let f = may.files d.0 d.2.file d.2.is in
         let c = f.2 in
         let synced = c.synced in
         let all = d.2.synced in
-        (f.0, record { number = d.0; named = d.1; is = f.1 }, c.lines ∙ (take_all c.count d.2.file.lines (omega arith) ∙ d.2.lines), c.resumes ∙ d.2.resumes)
+        (f.0, record { number = d.0; named = d.1; is = f.1 }, subst (IsDumpOf (take p journal)) (sym (c.lines ∙ take_all c.count d.2.file.lines (omega arith))) d.2.lines, c.resumes ∙ d.2.resumes)
 
     -- what is restored behind a point
-    restored_at : (told p r : ℕ) (base : List L) → r ≤ p → p ≤ length journal → p ≤ told → base ≡ dumped (take p journal)
+    restored_at : (told p r : ℕ) (base : List L) → r ≤ p → p ≤ length journal → p ≤ told → IsDumpOf (take p journal) base
         → (l : Leaves disk told left r (drop r journal))
         → ((skipped behind : List L) → Joins left r (skipped ++ behind) → r + length skipped ≡ p → Restores left p r base behind)
         → (s : ServerState L) → s.disk ≡ left → s.journal ≡ journal → s.told ≡ told → IsFound s
@@ -115,7 +115,7 @@ module _ {L : Type 0} (dumped : List L → List L) where
           rest = l.rest;
           restores = subst (λ d. Restores d p r base (drop (p - r) lines)) (sym on) (restores (take (p - r) lines) (drop (p - r) lines) joins (omega arith));
           joins = subst (λ d. Joins d r (take (p - r) lines ++ drop (p - r) lines)) (sym on) joins;
-          base_is = base_is ∙ ap (λ j. dumped (take p j)) (sym same);
+          base_is = subst (λ j. IsDumpOf (take p j) base) (sym same) base_is;
           point_is = omega arith;
           journal_is = ap (drop r) same ∙ (l.front ∙ ap (λ z. z ++ l.rest) parts);
           within = (let a = ap length same in omega arith);
@@ -124,7 +124,7 @@ module _ {L : Type 0} (dumped : List L → List L) where
         }
 
     -- where no later dump is there
-    at_base : (told base resumes first : ℕ) (capture : Option ℕ) (End : ℕ → List L → Type 0) → Outlasts disk told left End → dumped [] ≡ [] → Stands disk journal told base resumes capture first End
+    at_base : (told base resumes first : ℕ) (capture : Option ℕ) (End : ℕ → List L → Type 0) → Outlasts disk told left End → IsDumpOf [] [] → Stands disk journal told base resumes capture first End
         → IsNewest left base
         → (s : ServerState L) → s.disk ≡ left → s.journal ≡ journal → s.told ≡ told → IsFound s
     at_base told base resumes first capture End outlasts none_dumped st newest s on same told_is =
@@ -132,7 +132,7 @@ module _ {L : Type 0} (dumped : List L → List L) where
       where
         go : (b r : ℕ) → Base disk journal told b r → Leaves disk told left r (drop r journal) → r ≤ b → b ≤ length journal → IsNewest left b → IsFound s
         go _ _ (no_dump none) l r_within within newest' =
-            restored_at told 0 0 [] (omega arith) within (omega arith) (sym none_dumped) l
+            restored_at told 0 0 [] (omega arith) within (omega arith) none_dumped l
             (λ skipped behind joins size. subst (Restores left 0 0 []) (ap (λ z. z ++ behind) (no_lines skipped size))
             (from_first (skipped ++ behind) (All-contains (λ (file : Option ℕ). file ≡ None) (named disk (dump 0)) (left.now (dump 0)) none (may.names (dump 0))) newest' joins))
             s on same told_is
@@ -144,7 +144,7 @@ module _ {L : Type 0} (dumped : List L → List L) where
             (behind_dump p d.0 skipped behind d.1 newest' (subst (λ k. Joins left k (skipped ++ behind)) (sym d.3) joins) (ap (λ k. k + length skipped) d.3 ∙ size)))
             s on same told_is
 
-    pub crash_finds : (told base resumes first : ℕ) (capture : Option ℕ) (End : ℕ → List L → Type 0) → Outlasts disk told left End → dumped [] ≡ [] → Stands disk journal told base resumes capture first End
+    pub crash_finds : (told base resumes first : ℕ) (capture : Option ℕ) (End : ℕ → List L → Type 0) → Outlasts disk told left End → IsDumpOf [] [] → Stands disk journal told base resumes capture first End
         → (s : ServerState L) → s.disk ≡ left → s.journal ≡ journal → s.told ≡ told → IsFound s
     crash_finds told base resumes first None End outlasts none_dumped st s on same told_is =
         at_base told base resumes first None End outlasts none_dumped st

@@ -2,14 +2,13 @@
 use Rattle.std.proofs.Common.{◌≡◌, ◌≢◌, ℕ, ◌+◌, ◌≤◌, ◌<◌, ◌⊎◌, Option, Some, None, List, [], ◌∷◌, ◌++◌, length, All, Contains, refl, sym, ap, ◌∙◌, subst, inl, inr, ⊎_elim, leb, leb-true, leb-false, true, false, arith, append_assoc, length-append}
 use Rattle.std.proofs.lemmas.List.Elements.{All-nil, All-cons, All-contains, All-weaker, All-contains_itself}
 use mathlib.Core.Option.{some-injective}
-use Rattle.folder_core.specs.FileNames.{FileName, dump, unfinished, piece}
-use Rattle.folder_core.specs.Disk.{File, Disk, Is, named, WritesLine}
+use Rattle.folder_core.specs.FileNames.{FileName, dump, piece}
+use Rattle.folder_core.specs.Disk.{File, Disk, Is, named, WritesLines}
 use Rattle.folder_core.proofs.Chains.{Unnamed, MayName, IsPiece, IsLast, IsEnd, IsBlank, Chain, ends, goes_on}
 use Rattle.folder_core.proofs.Births.{AreBorn, now_born, same_there}
 
 abbrev pub number_of : FileName → ℕ
 number_of (dump p) = p
-number_of (unfinished p) = p
 number_of (piece p) = p
 
 pub piece_number : (n m : ℕ) → piece n ≡ piece m → n ≡ m
@@ -174,7 +173,7 @@ module _ {L : Type 0} where
       goes_on _ file lines h.0 full h.1 between
       (told_chain disk told told' first (n + length file.lines) lines (omega arith) (λ q number above. on q number (omega arith)) more)
 
-  -- ---- a line more
+  -- ---- lines more
   -- the number of a file says which it is
   is_one : (disk : Disk L) (number : ℕ) (a b : File L) → Is disk number a → Is disk number b → a ≡ b
   is_one disk number a b p q = some-injective a b (sym p ∙ q)
@@ -187,9 +186,9 @@ module _ {L : Type 0} where
       let one = is_one disk number b.file c.file b.is (subst (λ k. Is disk k c.file) (sym same) c.is) in
       differ (piece_number n m (sym b.born ∙ (ap (λ (f : File L). f.born) one ∙ c.born)))
 
-  entered_last : (before after : Disk L) (told first number : ℕ) (line : L) → before.now (piece first) ≡ Some number → (w : WritesLine number line before after)
-      → (n : ℕ) (lines : List L) → IsLast before told first n lines → IsLast after told first n (lines ++ line ∷ [])
-  entered_last before after told first number line here w n lines e =
+  entered_last : (before after : Disk L) (told first number : ℕ) (more_lines : List L) (part : Option L) → before.now (piece first) ≡ Some number → (w : WritesLines number more_lines part before after)
+      → (n : ℕ) (lines : List L) → IsLast before told first n lines → IsLast after told first n (lines ++ more_lines)
+  entered_last before after told first number more_lines part here w n lines e =
       let p = e.is_piece in
       let same : p.number ≡ number = same_there p.number number (sym p.here ∙ (ap (λ k. before.now (piece k)) e.is_first ∙ here)) in
       let one : e.file ≡ w.file = is_one before number e.file w.file (subst (λ k. Is before k e.file) same p.is) w.wrote.was in
@@ -197,7 +196,7 @@ module _ {L : Type 0} where
       let was = e.told_is in
       record {
         is_first = e.is_first;
-        file = record w.file { lines = w.file.lines ++ line ∷ []; part = None };
+        file = record w.file { lines = w.file.lines ++ more_lines; part = part };
         is_piece = record {
           number = number;
           here = w.wrote.now (piece n) ∙ (ap (λ k. before.now (piece k)) e.is_first ∙ here);
@@ -205,19 +204,19 @@ module _ {L : Type 0} where
               (subst (λ k. All (MayName before told n k) (named before (piece n))) same p.names);
           is = w.wrote.is;
         };
-        lines_are = ap (λ z. z ++ line ∷ []) (e.lines_are ∙ ap (λ (f : File L). f.lines) one);
+        lines_are = ap (λ z. z ++ more_lines) (e.lines_are ∙ ap (λ (f : File L). f.lines) one);
         told_is = (omega arith);
         no_later = λ q above. subst (All (λ (file : Option ℕ). file ≡ None)) (λ i. sym (w.wrote.now (piece q)) i ∷ sym (w.wrote.earlier (piece q)) i) (e.no_later q above);
       }
 
-  pub entered_chain : (before after : Disk L) (told first number : ℕ) (line : L) → AreBorn before → before.now (piece first) ≡ Some number → (w : WritesLine number line before after)
-      → (n : ℕ) (lines : List L) → Chain before told (IsLast before told first) n lines → Chain after told (IsLast after told first) n (lines ++ line ∷ [])
-  entered_chain before after told first number line born here w n _ (ends _ lines e) = ends _ (lines ++ line ∷ []) (entered_last before after told first number line here w n lines e)
-  entered_chain before after told first number line born here w n _ (goes_on _ file lines p full told_is between more) =
+  pub entered_chain : (before after : Disk L) (told first number : ℕ) (more_lines : List L) (part : Option L) → AreBorn before → before.now (piece first) ≡ Some number → (w : WritesLines number more_lines part before after)
+      → (n : ℕ) (lines : List L) → Chain before told (IsLast before told first) n lines → Chain after told (IsLast after told first) n (lines ++ more_lines)
+  entered_chain before after told first number more_lines part born here w n _ (ends _ lines e) = ends _ (lines ++ more_lines) (entered_last before after told first number more_lines part here w n lines e)
+  entered_chain before after told first number more_lines part born here w n _ (goes_on _ file lines p full told_is between more) =
       let le = chain_first before told first (n + length file.lines) lines more in
       let other = pieces_differ before born n first p.number number p.here here (λ e. omega arith) in
-      subst (Chain after told (IsLast after told first) n) (sym (append_assoc file.lines lines (line ∷ [])))
-      (goes_on _ file (lines ++ line ∷ [])
+      subst (Chain after told (IsLast after told first) n) (sym (append_assoc file.lines lines (more_lines)))
+      (goes_on _ file (lines ++ more_lines)
       (record {
         number = p.number;
         here = w.wrote.now (piece n) ∙ p.here;
@@ -227,4 +226,4 @@ module _ {L : Type 0} where
       full told_is
       (⊎_elim (λ (b : (q : ℕ) → n < q → q < n + length file.lines → Unnamed before told (piece q)).
       inl (λ q above below. subst (All (λ (f : Option ℕ). f ≡ None)) (λ i. sym (w.wrote.now (piece q)) i ∷ sym (w.wrote.earlier (piece q)) i) (b q above below))) inr between)
-      (entered_chain before after told first number line born here w (n + length file.lines) lines more))
+      (entered_chain before after told first number more_lines part born here w (n + length file.lines) lines more))

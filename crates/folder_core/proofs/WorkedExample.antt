@@ -2,7 +2,7 @@
 -- first piece; the crash leaves a part of the last line.
 use Rattle.std.proofs.Common.{◌≡◌, ◌<◌, ℕ, if◌then◌else◌, Option, Some, None, List, [], ◌∷◌, refl, arith, ne_eqb, subst, zero, suc}
 use mathlib.Core.Option.{some-injective}
-use Rattle.folder_core.specs.FileNames.{FileName, dump, unfinished, piece, is_same_file_name}
+use Rattle.folder_core.specs.FileNames.{FileName, dump, piece, is_same_file_name}
 use Rattle.folder_core.specs.Disk.{File, Disk, Is, IsLeftOf, CrashLeaves}
 use Rattle.folder_core.specs.Restoring.{no_piece, next_piece, Restores, behind_dump}
 
@@ -11,7 +11,7 @@ abbrev pub piece_of : List ℕ → ℕ → File ℕ
 piece_of lines synced = record { born = piece 0; resumes = 0; lines = lines; synced = synced; part = None }
 
 abbrev pub dump_of_three : File ℕ
-dump_of_three = record { born = unfinished 3; resumes = 0; lines = 6 ∷ []; synced = 1; part = None }
+dump_of_three = record { born = dump 3; resumes = 0; lines = 6 ∷ []; synced = 1; part = None }
 
 abbrev pub two_names : FileName → Option ℕ
 two_names name = if is_same_file_name name (piece 0) then Some 0 else (if is_same_file_name name (dump 3) then Some 1 else None)

@@ -56,9 +56,16 @@ module _ {L : Type 0} where
       naming name (Some (length disk.files))
       (record disk { files = disk.files ++ new_file name resumes ∷ [] })
 
-  -- a file is renamed, in the place of another, if there is one
-  abbrev pub renamed : FileName → FileName → Disk L → Disk L
-  renamed name other disk = naming name None (naming other (disk.now name) disk)
+  -- a file whose lines are all on the disk, which is made under no name
+  abbrev pub whole_file : FileName → ℕ → List L → File L
+  whole_file name resumes lines =
+      record { born = name; resumes = resumes; lines = lines; synced = length lines; part = None }
+
+  -- such a file gets the name
+  abbrev pub put : FileName → ℕ → List L → Disk L → Disk L
+  put name resumes lines disk =
+      naming name (Some (length disk.files))
+      (record disk { files = disk.files ++ whole_file name resumes lines ∷ [] })
 
   -- a name is removed
   abbrev pub name_removed : FileName → Disk L → Disk L
@@ -79,27 +86,28 @@ module _ {L : Type 0} where
     pub now : (name : FileName) → after.now name ≡ before.now name
     pub earlier : (name : FileName) → after.earlier name ≡ before.earlier name
 
-  -- a part of a line is written to a file that ends with a whole one
-  pub record BeginsLine (number : ℕ) (line : L) (before after : Disk L) : Type 0 where
+  -- lines are written, of which the first may go on with the part that stood there, and a part of one more
+  pub record WritesLines (number : ℕ) (lines : List L) (part : Option L) (before after : Disk L)
+      : Type 0 where
     pub file : File L
-    pub whole : file.part ≡ None
-    pub wrote : Changes number file (record file { part = Some line }) before after
-
-  -- a line is written, or the rest of one of which a part stands there
-  pub record WritesLine (number : ℕ) (line : L) (before after : Disk L) : Type 0 where
-    pub file : File L
-    pub goes_on : (file.part ≡ None) ⊎ (file.part ≡ Some line)
-    pub wrote : Changes number file (record file { lines = file.lines ++ line ∷ []; part = None })
+    pub wrote : Changes number file (record file { lines = file.lines ++ lines; part = part })
         before after
 
-  -- A file is synced: so many of its lines are on the disk, no fewer than before. Lines that were
-  -- written while the call went on may be among them or not.
-  pub record SyncsFile (number : ℕ) (before after : Disk L) : Type 0 where
-    pub file : File L
-    pub count : ℕ
-    pub no_fewer : file.synced ≤ count
-    pub within : count ≤ length file.lines
-    pub synced : Changes number file (record file { synced = count }) before after
+  -- so many of the file's lines are on the disk: as many as before, or more
+  abbrev pub MaySync : File L → ℕ → Type 0
+  MaySync file count =
+      (count ≡ file.synced) ⊎ ((file.synced ≤ count) × (count ≤ length file.lines))
+
+  -- Of files some lines more are on the disk, and of names some. Lines that were written while a call went on
+  -- may be among them or not.
+  pub record SyncsSome (before after : Disk L) : Type 0 where
+    pub files : (number : ℕ) (file : File L)
+        → Is before number file
+        → (count : ℕ) × MaySync file count × Is after number (record file { synced = count })
+    pub no_more : length after.files ≡ length before.files
+    pub now : (name : FileName) → after.now name ≡ before.now name
+    pub earlier : (name : FileName)
+        → (after.earlier name ≡ before.earlier name) ⊎ (after.earlier name ≡ [])
 
   -- ---- crashes
   -- what a crash leaves of a file

@@ -1,12 +1,13 @@
 -- What a server does to its folder, from its first start on and through every crash: and that
 -- what was told is restored.
-use Rattle.std.specs.Prelude.{◌≡◌, ◌≤◌, ◌<◌, ◌⊎◌, ℕ, ◌+◌, List, [], ◌∷◌, ◌++◌, length, take, Option, Some, None}
-use Rattle.folder_core.specs.FileNames.{FileName, dump, unfinished, piece}
-use Rattle.folder_core.specs.Disk.{File, Disk, empty_disk, Is, made, renamed, name_removed, folder_synced, BeginsLine, WritesLine, SyncsFile, CrashLeaves}
+use Rattle.std.specs.Prelude.{◌≡◌, ◌≤◌, ◌<◌, ◌⊎◌, ℕ, ◌+◌, List, [], ◌++◌, length, take, Option, Some, None}
+use Rattle.folder_core.specs.FileNames.{FileName, dump, piece}
+use Rattle.folder_core.specs.Disk.{File, Disk, empty_disk, Is, made, put, name_removed, WritesLines, SyncsSome, CrashLeaves}
 use Rattle.folder_core.specs.Restoring.{Restores}
 
--- How far it is: a crash has ended it; it starts; or it serves, and writes to the piece that
--- begins here, while a dump is made of what the first so many changes leave, if one is.
+-- How far it is: a crash has ended it; it starts; or it serves, and writes to the piece that begins
+-- here, while the dump of what the first so many changes leave has its name, which may not be on the disk, if
+-- one has.
 pub data Phase : Type 0 where
   crashed : Phase
   starting : Phase
@@ -61,26 +62,22 @@ module _ {L : Type 0} where
   abbrev pub NamesNone : Disk L → FileName → Type 0
   NamesNone disk name = (disk.now name ≡ None) × (disk.earlier name ≡ [])
 
-  -- One step: a call, or a crash. The dump of a journal has these lines.
-  pub data ServerStep (dumped : List L → List L) (s : ServerState L) : ServerState L → Type 0 where
+  -- One step: a call, or a crash. It is known which lines are a dump of what changes leave.
+  pub data ServerStep (IsDumpOf : List L → List L → Type 0) (s : ServerState L) : ServerState L → Type 0 where
     -- ---- while it runs
     crashes : (left : Disk L)
         → IsUp s.phase
         → CrashLeaves s.disk left
-        → ServerStep dumped s (record (on left s) { phase = crashed })
-    syncs : (number : ℕ) (after : Disk L)
+        → ServerStep IsDumpOf s (record (on left s) { phase = crashed })
+    syncs : (after : Disk L)
         → IsUp s.phase
-        → SyncsFile number s.disk after
-        → ServerStep dumped s (on after s)
-    syncs_folder : IsUp s.phase → ServerStep dumped s (on (folder_synced s.disk) s)
-    forgets : (point : ℕ)
-        → IsUp s.phase
-        → ServerStep dumped s (on (name_removed (unfinished point) s.disk) s)
+        → SyncsSome s.disk after
+        → ServerStep IsDumpOf s (on after s)
     -- ---- while it starts
     finds : (point resumes : ℕ) (base behind : List L)
         → s.phase ≡ crashed
         → Restores s.disk point resumes base behind
-        → ServerStep dumped s (record s {
+        → ServerStep IsDumpOf s (record s {
           phase = starting;
           base = point;
           resumes = resumes;
@@ -89,21 +86,16 @@ module _ {L : Type 0} where
     clears : (point : ℕ)
         → s.phase ≡ starting
         → length s.journal ≤ point
-        → ServerStep dumped s (on (name_removed (piece point) s.disk) s)
+        → ServerStep IsDumpOf s (on (name_removed (piece point) s.disk) s)
     is_ready : s.phase ≡ starting
         → ((point : ℕ) → length s.journal ≤ point → NamesNone s.disk (piece point))
-        → ServerStep dumped s (begun s)
+        → ServerStep IsDumpOf s (begun s)
     -- ---- while it serves
-    enters : (first number : ℕ) (capture : Option ℕ) (line : L) (after : Disk L)
+    enters : (first number : ℕ) (capture : Option ℕ) (lines : List L) (part : Option L) (after : Disk L)
         → s.phase ≡ serving first capture
         → s.disk.now (piece first) ≡ Some number
-        → WritesLine number line s.disk after
-        → ServerStep dumped s (record (on after s) { journal = s.journal ++ line ∷ [] })
-    falls_short : (first number : ℕ) (capture : Option ℕ) (line : L) (after : Disk L)
-        → s.phase ≡ serving first capture
-        → s.disk.now (piece first) ≡ Some number
-        → BeginsLine number line s.disk after
-        → ServerStep dumped s (on after s)
+        → WritesLines number lines part s.disk after
+        → ServerStep IsDumpOf s (record (on after s) { journal = s.journal ++ lines })
     tells : (first count : ℕ) (capture : Option ℕ)
         → s.phase ≡ serving first capture
         → s.told ≤ count
@@ -111,79 +103,61 @@ module _ {L : Type 0} where
         → ((point number : ℕ) → s.resumes ≤ point → point < count
         → s.disk.now (piece point) ≡ Some number
         → HoldsUpTo count s.disk point number)
-        → ServerStep dumped s (record s { told = count })
+        → ServerStep IsDumpOf s (record s { told = count })
     begins : (first : ℕ)
         → s.phase ≡ serving first None
         → first < length s.journal
-        → ServerStep dumped s (begun s)
-    captures : (first : ℕ)
+        → ServerStep IsDumpOf s (begun s)
+    puts : (first point : ℕ) (lines : List L)
         → s.phase ≡ serving first None
-        → s.base < length s.journal
-        → ServerStep dumped s (record s { phase = serving first (Some (length s.journal)) })
-    makes : (first point : ℕ)
-        → s.phase ≡ serving first (Some point)
-        → NamesNone s.disk (dump point)
-        → ServerStep dumped s (on (made (unfinished point) first s.disk) s)
-    writes : (first point number : ℕ) (line : L) (after : Disk L)
-        → s.phase ≡ serving first (Some point)
-        → NamesNone s.disk (dump point)
-        → s.disk.now (unfinished point) ≡ Some number
-        → WritesLine number line s.disk after
-        → ServerStep dumped s (on after s)
-    renames : (first point number : ℕ) (file : File L)
-        → s.phase ≡ serving first (Some point)
-        → s.disk.now (unfinished point) ≡ Some number
-        → Is s.disk number file
-        → file.lines ≡ dumped (take point s.journal)
-        → file.synced ≡ length file.lines
-        → file.resumes ≡ first
+        → s.base < point
+        → first ≤ point
         → point ≤ s.told
-        → ServerStep dumped s (on (renamed (unfinished point) (dump point) s.disk) s)
+        → IsDumpOf (take point s.journal) lines
+        → ServerStep IsDumpOf s (record (on (put (dump point) first lines s.disk) s) {
+          phase = serving first (Some point);
+        })
     settles : (first point number : ℕ)
         → s.phase ≡ serving first (Some point)
         → s.disk.now (dump point) ≡ Some number
         → s.disk.earlier (dump point) ≡ []
-        → ServerStep dumped s (record s { phase = serving first None; base = point; resumes = first })
-    gives_up : (first point : ℕ)
-        → s.phase ≡ serving first (Some point)
-        → NamesNone s.disk (dump point)
-        → ServerStep dumped s (record s { phase = serving first None })
+        → ServerStep IsDumpOf s (record s { phase = serving first None; base = point; resumes = first })
     removes_piece : (first point : ℕ) (capture : Option ℕ)
         → s.phase ≡ serving first capture
         → point < s.resumes
-        → ServerStep dumped s (on (name_removed (piece point) s.disk) s)
+        → ServerStep IsDumpOf s (on (name_removed (piece point) s.disk) s)
     removes_dump : (first point : ℕ) (capture : Option ℕ)
         → s.phase ≡ serving first capture
         → point < s.base
-        → ServerStep dumped s (on (name_removed (dump point) s.disk) s)
+        → ServerStep IsDumpOf s (on (name_removed (dump point) s.disk) s)
 
   -- steps, one after another, from a folder without files on
-  pub data Reaches (dumped : List L → List L) : ServerState L → Type 0 where
-    at_first : Reaches dumped nothing_served
+  pub data Reaches (IsDumpOf : List L → List L → Type 0) : ServerState L → Type 0 where
+    at_first : Reaches IsDumpOf nothing_served
     next_step : (before after : ServerState L)
-        → Reaches dumped before
-        → ServerStep dumped before after
-        → Reaches dumped after
+        → Reaches IsDumpOf before
+        → ServerStep IsDumpOf before after
+        → Reaches IsDumpOf after
 
   -- What a start restores is a front of the journal with all that was told: a dump of what its
   -- first changes leave, or without a dump nothing, and behind it the lines of the others.
-  pub record IsRestored (dumped : List L → List L) (s : ServerState L) : Type 0 where
+  pub record IsRestored (IsDumpOf : List L → List L → Type 0) (s : ServerState L) : Type 0 where
     pub point : ℕ
     pub resumes : ℕ
     pub base : List L
     pub behind : List L
     pub rest : List L
     pub restores : Restores s.disk point resumes base behind
-    pub base_is : base ≡ dumped (take point s.journal)
+    pub base_is : IsDumpOf (take point s.journal) base
     pub journal_is : s.journal ≡ take point s.journal ++ (behind ++ rest)
     pub within : point ≤ length s.journal
     pub all_told : s.told ≤ point + length behind
 
   -- **what was told outlives every crash**
-  abbrev pub ToldOutlives : (List L → List L) → Type 0
-  ToldOutlives dumped =
-      dumped [] ≡ []
+  abbrev pub ToldOutlives : (List L → List L → Type 0) → Type 0
+  ToldOutlives IsDumpOf =
+      IsDumpOf [] []
       → (s : ServerState L)
-      → Reaches dumped s
+      → Reaches IsDumpOf s
       → s.phase ≡ crashed
-      → IsRestored dumped s
+      → IsRestored IsDumpOf s

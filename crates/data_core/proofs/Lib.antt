@@ -1,0 +1,4 @@
+pub mod WrittenMore
+pub mod TextStays
+pub mod PutLemmas
+pub mod AtLemmas
