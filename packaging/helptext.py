@@ -18,7 +18,7 @@ class Entry:
         self.text = text.replace(listed[0], "") if listed else text
 
     def is_file(self):
-        return self.value == "FILE"
+        return self.value in ("FILE", "DIR")
 
 
 class Command:

@@ -3,7 +3,8 @@ ghost use Rattle.std.specs.Prelude.{◌≡◌, Some, false};
 
 use base_core::{Broken, Name, Resume, Sink, User};
 use desk_core::{Desk, Pass};
-use journal_core::LineKeeper;
+use folder_core::Errand;
+use journal_core::{Errands, LineKeeper};
 use reader_core::read;
 use std::alloc::Global;
 use std::cell::Cell;
@@ -78,6 +79,24 @@ impl Resume for Paper {
     fn resume(&mut self) {
         self.failed = false;
     }
+}
+
+/// There are none.
+impl Errands for Paper {
+    ghost use Rattle.std.proofs.Common.{inr, refl};
+    ghost use Rattle.std.specs.Prelude.{false};
+
+    ghost may_run = { λ taken errand. Unit {0} };
+
+    ghost knows = { false };
+
+    fn run(&mut self, _errand: Errand) -> bool {
+        true
+    }
+
+    ghost unknown = { λ sink. inr refl };
+
+    ghost unasked = { λ errand. tt };
 }
 
 type Lines = LineKeeper<Paper>;

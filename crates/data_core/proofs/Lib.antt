@@ -1,4 +1,5 @@
 pub mod WrittenMore
+pub mod Placed
 pub mod TextStays
-pub mod PutLemmas
-pub mod AtLemmas
+pub mod Allowed
+pub mod DumpOfText

@@ -1,2 +1,3 @@
 pub mod Written
-pub mod Dumped
+pub mod Tending
+pub mod Errands

@@ -1,53 +1,48 @@
--- What was written to the journal in a folder, from some change on.
-use Rattle.std.specs.Prelude.{◌≡◌, ◌≤◌, ℕ, Bool, List, [], ◌++◌, length, take, drop, Option, Some, None, IfSome}
-use lib.ListN.{get_elem?}
-use mathlib.Core.Option.{Option as Found, some, none}
-use Rattle.folder_core.specs.FileNames.{dump, piece}
-use Rattle.folder_core.specs.Disk.{File, Disk}
-use Rattle.folder_core.specs.Serving.{Phase, serving}
-use Rattle.folder_core.specs.Texts.{lines_text, part_text}
-use Rattle.folder_core.specs.Calls.{TextState}
+-- What was written to the journal in a folder, and what its writer knows.
+use Rattle.std.specs.Prelude.{◌≡◌, ◌≤◌, ℕ, Bool, true, false, List, [], ◌∷◌, ◌++◌, Option, Some, None, IfSome}
+use Rattle.folder_core.specs.FileNames.{dump}
+use Rattle.folder_core.specs.Serving.{serving}
+use Rattle.folder_core.specs.Texts.{lines_text}
+use Rattle.folder_core.specs.Calls.{TextState, part_at}
+use Rattle.data_core.specs.declared.place.Place.{Place}
 
--- What is seen of the pieces: whether a write failed; where that is known, which lines the journal had when
--- the writing began, and what was written since.
-pub record PiecesState : Type 0 where
+-- What is seen of the pieces: the folder, how many changes were told to be on the disk since the writing
+-- began, and whether a write failed.
+pub record PiecesState (F : Type 0) : Type 0 where
+  pub folder : F
+  pub told : ℕ
   pub failed : Bool
-  pub before : Option (List (List ℕ))
-  pub taken : Option (List ℕ)
 
--- the part of a line that stands in the file, if there is one
-abbrev pub part_in : Found (File (List ℕ)) → List ℕ
-part_in none = []
-part_in (some file) = part_text file.part
+-- the text of the journal: the lines since the first, and the part of one more
+abbrev pub text_of : TextState → List ℕ
+text_of s = lines_text s.journal ++ part_at s.phase s.disk
 
--- the same of the file of this number
-abbrev pub part_of : Disk (List ℕ) → Option ℕ → List ℕ
-part_of disk None = []
-part_of disk (Some number) = part_in (get_elem? disk.files number)
+-- the same, where the state is known
+abbrev pub text_written : Option TextState → Option (List ℕ)
+text_written None = None
+text_written (Some s) = Some (text_of s)
 
--- the part of a line that stands at the end of the piece that is written to
-abbrev pub part_at : Phase → Disk (List ℕ) → List ℕ
-part_at (serving first capture) disk = part_of disk (disk.now (piece first))
-part_at phase disk = []
+-- ---- what a writer knows
+-- whether there is something
+abbrev pub is_some_text : List ℕ → Bool
+is_some_text [] = false
+is_some_text (byte ∷ text) = true
 
--- the lines behind the first so many, and the part of one more
-abbrev pub text_since : ℕ → TextState → List ℕ
-text_since start s = lines_text (drop start s.journal) ++ part_at s.phase s.disk
+-- The state has come to this place: it serves, and writes to this piece; this dump is the newest, and
+-- resumes with this piece; at least so many changes were told; where a dump was put, that has its name; and it is
+-- noted whether a part of a line stands at the end.
+pub record IsAt (place : Place) (s : TextState) : Type 0 where
+  pub serves : s.phase ≡ serving place.first place.put
+  pub base_is : s.base ≡ place.base
+  pub resumes_is : s.resumes ≡ place.resumes
+  pub told : place.told ≤ s.told
+  pub named : IfSome place.put (λ point. (number : ℕ) × (s.disk.now (dump point) ≡ Some number))
+  pub in_line : place.is_in_line ≡ is_some_text (part_at s.phase s.disk)
 
-abbrev pub lines_before : ℕ → Option TextState → Option (List (List ℕ))
-lines_before start None = None
-lines_before start (Some s) = Some (take start s.journal)
-
-abbrev pub written_since : ℕ → Option TextState → Option (List ℕ)
-written_since start None = None
-written_since start (Some s) = Some (text_since start s)
-
--- what a writer knows of the state: to which piece it writes, the point of the newest dump, how many changes
--- were told, and the point of a dump whose name may not be on the disk, if there is one; and the journal has so
--- many changes at least
-pub record IsAt (start first base told : ℕ) (put : Option ℕ) (s : TextState) : Type 0 where
-  pub serves : s.phase ≡ serving first put
+-- the writing begins here: in the piece behind so many changes, in which nothing stands; this dump is the
+-- newest, and resumes with this piece
+pub record BeginsAt (at base resumes : ℕ) (s : TextState) : Type 0 where
+  pub serves : s.phase ≡ serving at None
   pub base_is : s.base ≡ base
-  pub told_is : s.told ≡ told
-  pub long : start ≤ length s.journal
-  pub named : IfSome put (λ point. (number : ℕ) × (s.disk.now (dump point) ≡ Some number))
+  pub resumes_is : s.resumes ≡ resumes
+  pub no_part : part_at s.phase s.disk ≡ []

@@ -1,6 +1,8 @@
 -- A turn of the turn lock, with the core as its object, is a turn at the desk.
-use Rattle.std.proofs.Common.{◌≡◌, ◌≤◌, ◌<◌, ◌+◌, ◌^◌, ℕ, Bool, true, false, List, [], ◌++◌, length, drop, refl, sym, ap, ◌∙◌, subst, arith, append-nil, length-append}
-use Rattle.std.specs.Prelude.{Result, Ok, Err, IfOk, OnErr, MatchResult}
+use Rattle.std.proofs.Common.{◌≡◌, ◌≤◌, ◌<◌, ◌+◌, ◌^◌, ℕ, Bool, true, false, List, [], ◌++◌, length, drop, refl, sym, ap, ◌∙◌, subst, arith, append-nil, length-append, Global}
+use Rattle.std.specs.Prelude.{Option, option_map, Result, Ok, Err, IfOk, OnErr, MatchResult}
+use Rattle.std.specs.Arc.{arc_value}
+use Rattle.std.specs.declared.sync.Arc.{Arc}
 use Rattle.std.proofs.lemmas.List.{drop_at}
 use Rattle.std.proofs.lemmas.List.Elements.{All-weaker}
 use Rattle.turnstile.specs.Logs.{StartsWith, gained}
@@ -13,7 +15,11 @@ use Rattle.system_core.specs.declared.machine.event.Entry.{Entry}
 use Rattle.system_core.specs.declared.machine.event.Event.{Event}
 use Rattle.system_core.specs.declared.machine.event.Reply.{Reply}
 use Rattle.system_core.specs.Entering.{entered}
+use Rattle.base_core.specs.declared.memory.NoMemory.{NoMemory}
+use Rattle.folder_core.specs.declared.errand.Errand.{Errand}
+use Rattle.capture_core.specs.declared.image.Image.{Image}
 use Rattle.system_core.specs.World.{World, IsLawfulWorld}
+use Rattle.system_core.specs.Imaging.{IsKeptImage}
 use Rattle.system_core.proofs.Entered.{step_enters}
 use Rattle.journal_core.specs.Keeping.{KeepsOrOwes}
 use Rattle.journal_core.specs.Recorder.{with_keeper, says_change, StepsKept}
@@ -23,8 +29,9 @@ use Rattle.journal_core.specs.declared.recorder.Unkept.{Unkept}
 use Rattle.journal_core.proofs.Entering.{done_enters, one-told}
 use Rattle.desk_core.specs.Guarded.{Origin, CoreState, DeskLock, DeskPass, origin_of, snapshot}
 use Rattle.desk_core.specs.Kept.{HasKept, IsKept}
+use Rattle.desk_core.specs.declared.object.Purpose.{Purpose}
 use Rattle.desk_core.specs.declared.object.Purpose.TheVariants as purposes
-use Rattle.desk_core.specs.Acting.{event_of, basis, Acts, Answering, ActsFor}
+use Rattle.desk_core.specs.Acting.{event_of, basis, images_of, Acts, Answering, MayBeAsked, ActsFor}
 use Rattle.desk_core.specs.Turns.{asked_by, journal_of, begun_of, basis_of, Took, Answered, took, Ended}
 use Rattle.desk_core.proofs.Entering.{keeps_on}
 
@@ -108,31 +115,66 @@ module _ {K : Type 0} (rules : Ghosts K) where
     mine_after = t.mine_after;
   }
 
-  module _ (desk : DeskLock K) (answer : Answering K) (old new : DeskPass K)
-      (t : Turned {O = CoreState K} (λ c. c.world.journal) asked_by (λ c. c.world.begun) basis (ActsFor rules) desk purposes.Look answer old new) where
+  -- a turn that leaves the core as it is
+  module _ (desk : DeskLock K) (purpose : Purpose) (answer : Answering K) (old new : DeskPass K)
+      (t : Turned {O = CoreState K} (λ c. c.world.journal) asked_by (λ c. c.world.begun) basis (ActsFor rules) desk purpose answer old new) (same : t.after ≡ t.before) where
     -- the pass has then seen the core as it was found
-    look_found : new.seen ≡ t.before.world.journal
-    look_found = t.seen_after ∙ ap (λ (c : CoreState K). c.world.journal) t.acted.same
+    pub idle_found : new.seen ≡ t.before.world.journal
+    idle_found = t.seen_after ∙ ap (λ (c : CoreState K). c.world.journal) same
 
-    pub look_seen : StartsWith new.seen old.seen
-    look_seen = subst (λ (s : List Entry). StartsWith s old.seen) (sym look_found) t.seen_before
+    pub idle_seen : StartsWith new.seen old.seen
+    idle_seen = subst (λ (s : List Entry). StartsWith s old.seen) (sym idle_found) t.seen_before
 
-    pub look_mark : old.mark ≤ new.mark
-    look_mark = subst (λ (m : ℕ). old.mark ≤ m) (sym (t.mark_after ∙ ap (λ (c : CoreState K). c.world.begun) t.acted.same)) t.mark_before
+    pub idle_mark : old.mark ≤ new.mark
+    idle_mark = subst (λ (m : ℕ). old.mark ≤ m) (sym (t.mark_after ∙ ap (λ (c : CoreState K). c.world.begun) same)) t.mark_before
 
-    pub look_made : mine asked_by new ≡ mine asked_by old
-    look_made =
-        let none = ap (λ (c : CoreState K). c.world.journal) t.acted.same ∙ sym (append-nil t.before.world.journal) in
+    pub idle_made : mine asked_by new ≡ mine asked_by old
+    idle_made =
+        let none = ap (λ (c : CoreState K). c.world.journal) same ∙ sym (append-nil t.before.world.journal) in
         t.mine_after ∙ ap (λ es. mine asked_by old ++ es) (gained-is t.before.world.journal t.after.world.journal [] none) ∙ append-nil (mine asked_by old)
 
+  module _ (desk : DeskLock K) (answer : Answering K) (old new : DeskPass K)
+      (t : Turned {O = CoreState K} (λ c. c.world.journal) asked_by (λ c. c.world.begun) basis (ActsFor rules) desk purposes.Look answer old new) where
+    found : new.seen ≡ t.before.world.journal
+    found = idle_found desk purposes.Look answer old new t t.acted.same
+
     pub look_count : answer.count ≡ length new.seen
-    look_count = t.acted.count_is ∙ ap length (sym look_found)
+    look_count = t.acted.count_is ∙ ap length (sym found)
 
     pub look_kept : HasKept rules (origin_of desk) new.seen answer.keeper
     look_kept =
         let keeper = ap (λ (s : Snapshot (Origin K)). s.value.keeper) t.fixed_is in
         let front = ap (λ (s : Snapshot (Origin K)). s.value.front) t.fixed_is in
-        subst (λ (z : K × ℕ × List Entry × K). KeepsOrOwes rules z.0 (drop z.1 z.2) z.3) (λ i. (keeper i, front i, sym look_found i, sym t.acted.keeper_is i)) t.acted.has_kept
+        subst (λ (z : K × ℕ × List Entry × K). KeepsOrOwes rules z.0 (drop z.1 z.2) z.3) (λ i. (keeper i, front i, sym found i, sym t.acted.keeper_is i)) t.acted.has_kept
+
+  -- the image is one of the world that the pass has then seen
+  pub found_image : (desk : DeskLock K) (number : ℕ) (answer : Answering K) (old new : DeskPass K)
+      → Turned {O = CoreState K} (λ c. c.world.journal) asked_by (λ c. c.world.begun) basis (ActsFor rules) desk (purposes.Find number) answer old new
+      → IfOk answer.found (λ found. (w : World) × IsLawfulWorld w × (w.journal ≡ new.seen) × IsKeptImage w number found)
+  found_image desk number answer old new t = by answer.found t.acted.image
+    where
+      by : (found : Result (Option Image) NoMemory) → IfOk found (IsKeptImage t.before.world number) → IfOk found (λ i. (w : World) × IsLawfulWorld w × (w.journal ≡ new.seen) × IsKeptImage w number i)
+      by (Ok i) kept = (t.before.world, t.acted.lawful, sym (idle_found desk (purposes.Find number) answer old new t t.acted.same), kept)
+      by (Err e) kept = tt
+
+  -- and the keeper has kept it
+  pub found_kept : (desk : DeskLock K) (number : ℕ) (answer : Answering K) (old new : DeskPass K)
+      → Turned {O = CoreState K} (λ c. c.world.journal) asked_by (λ c. c.world.begun) basis (ActsFor rules) desk (purposes.Find number) answer old new
+      → (keeper : K) × HasKept rules (origin_of desk) new.seen keeper
+  found_kept desk number answer old new t =
+      let keeper = ap (λ (s : Snapshot (Origin K)). s.value.keeper) t.fixed_is in
+      let front = ap (λ (s : Snapshot (Origin K)). s.value.front) t.fixed_is in
+      let seen = idle_found desk (purposes.Find number) answer old new t t.acted.same in
+      (t.before.keeper, subst (λ (z : K × ℕ × List Entry). KeepsOrOwes rules z.0 (drop z.1 z.2) t.before.keeper) (λ i. (keeper i, front i, sym seen i)) t.acted.has_kept)
+
+  -- what the keeper may run that has kept all that the pass has seen may be asked of the core
+  pub may_tend : (desk : DeskLock K) (old : DeskPass K) (errand : Errand)
+      → ((journal : List Entry) (keeper : K) → StartsWith journal old.seen → HasKept rules (origin_of desk) journal keeper → rules.may_run keeper errand)
+      → (c : CoreState K) → StartsWith c.world.journal old.seen → basis c ≡ desk.fixed → MayBeAsked rules c (purposes.Tend errand)
+  may_tend desk old errand may c seen fixed has =
+      let keeper = ap (λ (s : Snapshot (Origin K)). s.value.keeper) fixed in
+      let front = ap (λ (s : Snapshot (Origin K)). s.value.front) fixed in
+      may c.world.journal c.keeper seen (subst (λ (z : K × ℕ). KeepsOrOwes rules z.0 (drop z.1 c.world.journal) c.keeper) (λ i. (keeper i, front i)) has)
 
   -- the core that comes out of the turn lock
   pub closed_ended : (desk : DeskLock K) (passes : List (DeskPass K)) (core : CoreState K) (w : World) → core.world ≡ w → IsLawfulWorld w
@@ -175,3 +217,12 @@ module _ {K : Type 0} (desk : DeskLock K) (ask : Ask) (said : Reply) (told : Boo
   pub withheld_if : (r : Result Reply Unkept) → MatchResult r (λ reply. (told ≡ true) × (reply ≡ said)) (λ _. told ≡ false) → Took desk ask said old new → OnErr r ((reply : Reply) × Took desk ask reply old new)
   withheld_if (Ok reply) h t = tt
   withheld_if (Err e) h t = (said, t)
+
+-- the same of the image as it is shared
+pub shared_image : (P : Option Image → Type 0) (r : Result (Option (Arc Image Global)) NoMemory) → IfOk (images_of r) P → IfOk r (λ image. P (option_map arc_value image))
+shared_image P (Ok image) p = p
+shared_image P (Err e) p = tt
+
+pub images_are : (P : Option Image → Type 0) (r : Result (Option (Arc Image Global)) NoMemory) → IfOk r (λ image. P (option_map arc_value image)) → IfOk (images_of r) P
+images_are P (Ok image) p = p
+images_are P (Err e) p = tt

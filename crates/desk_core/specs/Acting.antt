@@ -1,7 +1,11 @@
 -- The core as what threads take turns at: what is asked through a pass, and what comes of it.
-use Rattle.std.specs.Prelude.{ℕ, ◌≡◌, ◌≤◌, length}
-use Rattle.std.proofs.Common.{inl, ◌∙◌, ap, sym, le_of_eq, append-nil}
+use Rattle.std.specs.Prelude.{ℕ, ◌≡◌, length, Option, option_map, Result, Ok, Err, IfOk}
+use Rattle.std.proofs.Common.{inl, ◌∙◌, ap, sym, le_of_eq, append-nil, Global}
+use Rattle.std.specs.Arc.{arc_value}
+use Rattle.std.specs.declared.sync.Arc.{Arc}
 use Rattle.std.specs.declared.snapshot.Snapshot.{Snapshot}
+use Rattle.base_core.specs.declared.memory.NoMemory.{NoMemory}
+use Rattle.capture_core.specs.declared.image.Image.{Image}
 use Rattle.turnstile.specs.Logs.{Grown}
 use Rattle.desk_core.specs.declared.object.Ask.{Ask}
 use Rattle.desk_core.specs.declared.object.Ask.TheVariants as asks
@@ -11,6 +15,7 @@ use Rattle.system_core.specs.declared.machine.event.Entry.{Entry}
 use Rattle.system_core.specs.declared.machine.event.Event.{Event}
 use Rattle.system_core.specs.declared.machine.event.Event.TheVariants as events
 use Rattle.system_core.specs.World.{IsLawfulWorld}
+use Rattle.system_core.specs.Imaging.{IsKeptImage}
 use Rattle.system_core.proofs.Entered.{step_enters, one_at_most}
 use Rattle.journal_core.specs.Recorder.{with_keeper, StepsKept}
 use Rattle.journal_core.specs.declared.keeper.Keeper.{Ghosts}
@@ -25,12 +30,18 @@ event_of pass (asks.Describe said) = events.Describe said.user said.statement
 event_of pass asks.Step = events.Step
 event_of pass asks.Abandon = events.Abandon
 
+-- the image that was found, as it is shared
+abbrev pub images_of : Result (Option (Arc Image Global)) NoMemory → Result (Option Image) NoMemory
+images_of (Ok found) = Ok (option_map arc_value found)
+images_of (Err e) = Err e
+
 -- what comes of a turn: a reply, and whether it may be told; how many entries the journal has behind it, and
--- what keeps them
+-- what keeps them; and the image that was found, if one was asked for
 pub record Answering (K : Type 0) : Type 0 where
   pub acted : Acted
   pub count : ℕ
   pub keeper : K
+  pub found : Result (Option Image) NoMemory
 
 -- what no act changes: what the desk was built on, whose chunk and limits the core still has
 abbrev pub basis : {K : Type 0} → CoreState K → Snapshot (Origin K)
@@ -98,21 +109,47 @@ module _ {K : Type 0} (rules : Ghosts K) where
     pub count_is : answer.count ≡ length old.world.journal
     pub keeper_is : answer.keeper ≡ old.keeper
 
+  -- The image of a checkpoint is found, if it is kept; the core stays as it is.
+  pub record Finds (old : CoreState K) (number : ℕ) (answer : Answering K) (new : CoreState K)
+      : Type 0 where
+    pub lawful : IsLawfulWorld old.world
+    pub same : new ≡ old
+    pub has_kept : HasKept rules old.origin old.world.journal old.keeper
+    pub image : IfOk answer.found (IsKeptImage old.world number)
+
+  -- an errand of the keeper may be asked for where it may run it, whatever it has kept
+  abbrev pub MayBeAsked : CoreState K → Purpose → Type 0
+  MayBeAsked c (purposes.Tend errand) =
+      HasKept rules c.origin c.world.journal c.keeper → rules.may_run c.keeper errand
+  MayBeAsked c purpose = Unit {0}
+
   -- what a turn does that is for this
   abbrev pub ActsFor : CoreState K → ℕ → Purpose → Answering K → CoreState K → Type 0
   ActsFor old pass (purposes.Act ask) answer new = Acts old pass ask answer.acted new
   ActsFor old pass purposes.Look answer new = LooksAt old answer new
+  ActsFor old pass (purposes.Find number) answer new = Finds old number answer new
+  ActsFor old pass (purposes.Tend errand) answer new = new ≡ old
+
+  -- a turn that leaves the core as it is
+  same_grown : (old new : CoreState K) (pass : ℕ)
+      → new ≡ old
+      → Grown {O = CoreState K} (λ c. c.world.journal) (λ (e : Entry). e.pass) (λ c. c.world.begun)
+      basis pass old new
+  same_grown old new pass same =
+      record {
+        adds = inl (ap (λ (c : CoreState K). c.world.journal) same);
+        rises = le_of_eq (ap (λ (c : CoreState K). c.world.begun) (sym same));
+        stays = ap basis same;
+      }
 
   -- it enters one entry of the pass at most, no checkpoint is unbegun, and the basis stays
   pub acts_for_grow :
-      (old : CoreState K) (pass : ℕ) (purpose : Purpose) (answer : Answering K) (new : CoreState K)
+      (old : CoreState K) (pass : ℕ) (purpose : Purpose) (answer : Answering K)
+      (new : CoreState K)
       → ActsFor old pass purpose answer new
       → Grown {O = CoreState K} (λ c. c.world.journal) (λ (e : Entry). e.pass) (λ c. c.world.begun)
       basis pass old new
   acts_for_grow old pass (purposes.Act ask) answer new h = acts_grow old pass ask answer.acted new h
-  acts_for_grow old pass purposes.Look answer new h =
-      record {
-        adds = inl (ap (λ (c : CoreState K). c.world.journal) h.same);
-        rises = le_of_eq (ap (λ (c : CoreState K). c.world.begun) (sym h.same));
-        stays = ap basis h.same;
-      }
+  acts_for_grow old pass purposes.Look answer new h = same_grown old new pass h.same
+  acts_for_grow old pass (purposes.Find number) answer new h = same_grown old new pass h.same
+  acts_for_grow old pass (purposes.Tend errand) answer new h = same_grown old new pass h

@@ -1,5 +1,10 @@
 //! The core behind a turn lock.
-ghost use Rattle.std.specs.Prelude.{◌≡◌, ◌≢◌, ◌+◌, ◌<◌, ◌≤◌, ◌^◌, ℕ, List, length, All, Some, true, false, IfOk, IfErr, IfSome, OnOk, OnErr};
+ghost use Rattle.std.specs.Prelude.{◌≡◌, ◌≢◌, ◌+◌, ◌<◌, ◌≤◌, ◌^◌, ℕ, List, length, All, Some, true, false, option_map, IfOk, IfErr, IfSome, OnOk, OnErr};
+ghost use Rattle.std.specs.Arc.{arc_value};
+ghost use Rattle.capture_core.specs.declared.image.Image.{Image};
+ghost use Rattle.system_core.specs.World.{World, IsLawfulWorld};
+ghost use Rattle.system_core.specs.Imaging.{IsKeptImage};
+ghost use Rattle.system_core.specs.declared.machine.event.Entry.{Entry};
 ghost use Rattle.turnstile.specs.Logs.{StartsWith};
 ghost use Rattle.turnstile.specs.Passes.{IsSamePass, mine, new_passes};
 ghost use Rattle.turnstile.specs.Closed.{AreAll};
@@ -15,11 +20,13 @@ ghost use Rattle.desk_core.specs.Turns.{asked_by, Took, Answered, Ended};
 use crate::last_size::LastSize;
 use crate::object::{Ask, Core, Look, Purpose, Said};
 use base_core::{Lack, Moment, NoMemory, User};
+use capture_core::Image;
+use folder_core::Errand;
 use journal_core::{Keeper, Unkept, settle_owed};
 use reader_core::Statement;
 use std::alloc::Global;
 use std::marker::Model;
-use std::sync::Wait;
+use std::sync::{Arc, Wait};
 use system_core::{Reply, Size, System};
 use turnstile::{Turnstile, Worn};
 
@@ -206,6 +213,51 @@ impl<K: Keeper + Drop> Desk<K> {
         match self.turnstile.turn(rt, pass, Purpose::Look) {
             Ok(answer) => Some(answer.into_look()),
             Err(Worn) => None,
+        }
+    }
+
+    /// Finds the image of a checkpoint, if it is kept, in a turn of the pass, which has then seen all that was
+    /// entered. It is shared, and nothing is copied. None where all turns are drawn; `NoMemory` where it could not
+    /// be shared once more.
+    pub fn image<R: Wait>(
+        &self,
+        rt: &R,
+        pass: &mut Pass<K>,
+        number: u64,
+    ) -> Option<Result<Option<Arc<Image>>, NoMemory>>
+        requires { pass.old.lock ≡ Some self.now }
+        ensures same { IsSamePass pass.old pass.new }
+        ensures made { mine asked_by pass.new ≡ mine asked_by pass.old }
+        ensures seen { StartsWith pass.new.seen pass.old.seen }
+        ensures mark { pass.old.mark ≤ pass.new.mark }
+        ensures image { IfSome result (λ found. IfOk found (λ image. (w : World)
+            × IsLawfulWorld w × (w.journal ≡ pass.new.seen)
+            × IsKeptImage w number (option_map (arc_value {X = Image}) image))) }
+        ensures kept { IfSome result (λ _. (keeper : K)
+            × HasKept K.Keeper (origin_of self.now) pass.new.seen keeper) }
+    {
+        match self.turnstile.turn(rt, pass, Purpose::Find(number)) {
+            Ok(answer) => Some(answer.into_found()),
+            Err(Worn) => None,
+        }
+    }
+
+    /// Has the keeper run an errand, in a turn of the pass, and says whether all of it was done. The keeper has to
+    /// be one that may run it, whatever it has kept behind what the pass has seen. No where all turns are drawn.
+    pub fn tend<R: Wait>(&self, rt: &R, pass: &mut Pass<K>, errand: Errand) -> bool
+        requires pass { pass.old.lock ≡ Some self.now }
+        requires may { (journal : List Entry) (keeper : K)
+            → StartsWith journal pass.old.seen
+            → HasKept K.Keeper (origin_of self.now) journal keeper
+            → K.may_run keeper errand }
+        ensures same { IsSamePass pass.old pass.new }
+        ensures made { mine asked_by pass.new ≡ mine asked_by pass.old }
+        ensures seen { StartsWith pass.new.seen pass.old.seen }
+        ensures mark { pass.old.mark ≤ pass.new.mark }
+    {
+        match self.turnstile.turn(rt, pass, Purpose::Tend(errand)) {
+            Ok(answer) => answer.is_run(),
+            Err(Worn) => false,
         }
     }
 

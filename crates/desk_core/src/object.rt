@@ -2,17 +2,20 @@
 ghost use Rattle.std.specs.Prelude.{◌≡◌, ℕ, List, length, true, false, IfOk, MatchResult};
 ghost use Rattle.reader_core.specs.Language.{Spells};
 ghost use Rattle.journal_core.specs.Recorder.{IsSpelledEvent};
-ghost use Rattle.desk_core.specs.Acting.{event_of, Acts, LooksAt};
+ghost use Rattle.desk_core.specs.Acting.{event_of, images_of, Acts, LooksAt, Finds};
 ghost use Rattle.desk_core.specs.Guarded.{origin_at};
 ghost use Rattle.desk_core.specs.Kept.{HasKept};
 
 use crate::last_size::LastSize;
 use base_core::{NoMemory, User};
+use capture_core::Image;
+use folder_core::Errand;
 use journal_core::{Acted, Keeper, Unkept, act};
 use reader_core::Statement;
 use std::alloc::Global;
 use std::marker::Model;
 use std::snapshot::Snapshot;
+use std::sync::Arc;
 use system_core::{Entry, Event, Parting, Reply, Size, System};
 use turnstile::Object;
 
@@ -64,6 +67,10 @@ pub enum Purpose {
     Act(Ask),
     /// To look at what is kept.
     Look,
+    /// To find the image of a checkpoint.
+    Find(u64),
+    /// To have the keeper run an errand.
+    Tend(Errand),
 }
 
 impl Ask {
@@ -100,18 +107,20 @@ pub struct Look<K> {
 }
 
 /// A reply, whether it may be told, what is freed behind the turn, behind a step of the checkpointer how
-/// large the core is, and what was seen of it. Contracts see the reply, whether it may be told, and what
-/// was seen.
+/// large the core is, what was seen of it, the image that was found, and whether an errand was run. Contracts
+/// see the reply, whether it may be told, what was seen, and what was found.
 #[derive(Drop)]
 pub struct Answer<K> {
     acted: Acted,
     parting: Parting,
     size: Option<Size>,
     look: Look<K>,
+    found: Result<Option<Arc<Image>>, NoMemory>,
+    is_run: bool,
 }
 
 impl<K> Model for Answer<K> {
-    ghost use Rattle.desk_core.specs.Acting.{Answering};
+    ghost use Rattle.desk_core.specs.Acting.{Answering, images_of};
 
     ghost Value = { Answering K };
 
@@ -119,6 +128,7 @@ impl<K> Model for Answer<K> {
       acted = a.acted;
       count = a.look.count;
       keeper = a.look.keeper.value;
+      found = images_of a.found;
     } };
 }
 
@@ -133,7 +143,7 @@ impl<K> Answer<K> {
             acted,
             parting,
             size,
-            look: _,
+            ..
         } = self;
         parting.free();
         last.note(size);
@@ -146,15 +156,21 @@ impl<K> Answer<K> {
         ensures count { result.count ≡ self.count }
         ensures keeper { result.keeper.value ≡ self.keeper }
     {
-        let Answer {
-            acted,
-            parting,
-            size: _,
-            look,
-        } = self;
-        parting.free();
-        drop(acted);
+        let Answer { look, .. } = self;
         look
+    }
+
+    /// Whether an errand was run.
+    pub fn is_run(&self) -> bool {
+        self.is_run
+    }
+
+    /// What was found.
+    pub fn into_found(self) -> Result<Option<Arc<Image>>, NoMemory>
+        ensures { images_of result ≡ self.found }
+    {
+        let Answer { found, .. } = self;
+        found
     }
 }
 
@@ -261,12 +277,41 @@ impl<K: Keeper + Drop> Core<K> {
             parting,
             size,
             look,
+            found: Ok(None),
+            is_run: false,
         }
     }
 
     /// Looks at what is kept.
     fn looked_at(&self) -> Answer<K>
         ensures { LooksAt K.Keeper self.now result self.now }
+    {
+        self.idle_answer(Ok(None), false)
+    }
+
+    /// Finds the image of a checkpoint.
+    fn found(&self, number: u64) -> Answer<K>
+        ensures { Finds K.Keeper self.now number result self.now }
+    {
+        // The journal says that the world is lawful.
+        let _ = self.system.journal();
+        self.idle_answer(self.system.image(number), false)
+    }
+
+    /// Has the keeper run an errand.
+    fn tended(&mut self, errand: Errand) -> Answer<K>
+        requires { HasKept K.Keeper self.old.origin self.old.world.journal self.old.keeper
+            → K.may_run self.old.keeper errand }
+        ensures { self.new ≡ self.old }
+    {
+        let is_run = self.keeper.run(errand);
+        self.idle_answer(Ok(None), is_run)
+    }
+
+    /// The answer of a turn that is no event.
+    fn idle_answer(&self, found: Result<Option<Arc<Image>>, NoMemory>, is_run: bool) -> Answer<K>
+        ensures looks { LooksAt K.Keeper self.now result self.now }
+        ensures found { result.found ≡ images_of found }
     {
         Answer {
             acted: Acted {
@@ -276,12 +321,14 @@ impl<K: Keeper + Drop> Core<K> {
             parting: Parting::nothing(),
             size: None,
             look: self.seen(),
+            found,
+            is_run,
         }
     }
 }
 
 impl<K: Keeper + Drop> Object for Core<K> {
-    ghost use Rattle.desk_core.specs.Acting.{ActsFor, acts_for_grow, basis};
+    ghost use Rattle.desk_core.specs.Acting.{MayBeAsked, ActsFor, acts_for_grow, basis};
 
     type Ask = Purpose;
 
@@ -299,12 +346,16 @@ impl<K: Keeper + Drop> Object for Core<K> {
 
     ghost fixed = { basis };
 
+    ghost may = { MayBeAsked K.Keeper };
+
     ghost acts = { ActsFor K.Keeper };
 
     fn act(&mut self, pass: u64, purpose: Purpose) -> Answer<K> {
         match purpose {
             Purpose::Act(ask) => self.carry_out(pass, ask),
             Purpose::Look => self.looked_at(),
+            Purpose::Find(number) => self.found(number),
+            Purpose::Tend(errand) => self.tended(errand),
         }
     }
 

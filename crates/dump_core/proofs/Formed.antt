@@ -75,10 +75,10 @@ module _ (l : Limits) where
       formed-insertions ts (columns-formed journal lawful formed) fit
 
   -- **each is as a statement may be**
-  pub dump-formed : (journal : List Entry) → MayBeDumped l journal → AreWellFormed (dump journal)
-  dump-formed journal h =
+  pub dump-formed : (journal : List Entry) → IsLawful l journal → AreWellFormed journal → AreWellFormed (dump journal)
+  dump-formed journal lawful formed =
       let ts : List (Name × Table) = tables_at journal in
       let groups : List (Group (Group Grant)) = grants_together (rights_at journal).in_force in
       let Formed : Entry → Type 0 = λ e. IsWellFormed e.statement in
-      AllByRecursion-append Formed (map creation ts) (flat_map insertions ts ++ map granting groups) (creations-formed journal h.lawful h.well_formed)
-      (AllByRecursion-append Formed (flat_map insertions ts) (map granting groups) (insertions-formed journal h.lawful h.well_formed) (formed-grants groups (together-each (rights_at journal).in_force)))
+      AllByRecursion-append Formed (map creation ts) (flat_map insertions ts ++ map granting groups) (creations-formed journal lawful formed)
+      (AllByRecursion-append Formed (flat_map insertions ts) (map granting groups) (insertions-formed journal lawful formed) (formed-grants groups (together-each (rights_at journal).in_force)))

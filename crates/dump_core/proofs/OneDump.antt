@@ -43,7 +43,7 @@ dump-plain ts gs =
     ∙ ap (λ k. map creation ts ++ (k ++ map granting (grants_together (plain_grants gs)))) (insertions-plain ts)
     ∙ ap (λ k. map creation ts ++ (flat_map insertions ts ++ k)) (together-plain gs)
 
-same-dump : (a b : List Entry) → AreAlike a b → dump a ≡ dump b
+pub same-dump : (a b : List Entry) → AreAlike a b → dump a ≡ dump b
 same-dump a b h =
     sym (dump-plain (tables_at a) (rights_at a).in_force)
     ∙ ap (λ ts. dump_of ts (plain_grants (rights_at a).in_force)) h.tables

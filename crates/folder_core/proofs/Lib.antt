@@ -8,5 +8,7 @@ pub mod Standing
 pub mod Dumps
 pub mod Captures
 pub mod Outlives
+pub mod Moving
+pub mod EndOfJournal
 pub mod CallSteps
 pub mod WorkedExample

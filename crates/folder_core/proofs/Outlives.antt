@@ -398,3 +398,11 @@ module _ {L : Type 0} (IsDumpOf : List L → List L → Type 0) where
     -- it begins behind what a dump resumes with, and no later than the journal's end
     pub resumes_before : s.resumes ≤ first'
     resumes_before = chain_first s.disk s.told first' s.resumes (drop s.resumes s.journal) stands.chain
+
+    -- what was told is within the journal
+    pub told_within : s.told ≤ length s.journal
+    told_within = stands.within
+
+    -- the newest dump is older than one that is put
+    pub put_behind : (p : ℕ) → capture ≡ Some p → s.base < p
+    put_behind p e = (stands.captured p e).0

@@ -1,9 +1,11 @@
 -- What the calls of a server do to its folder, whose lines are texts.
 use Rattle.std.specs.Prelude.{◌≡◌, ◌≤◌, ◌<◌, ◌↔◌, ℕ, ◌+◌, List, [], ◌++◌, length, take, Option, Some, None, Result, MatchResult, Contains}
+use lib.ListN.{get_elem?}
+use mathlib.Core.Option.{Option as Found, some, none}
 use Rattle.folder_core.specs.FileNames.{FileName, dump, piece}
-use Rattle.folder_core.specs.Disk.{File, Changes, put, name_removed, folder_synced, SyncsSome}
+use Rattle.folder_core.specs.Disk.{File, Disk, Changes, put, name_removed, folder_synced, SyncsSome}
 use Rattle.folder_core.specs.Restoring.{Has, Restores}
-use Rattle.folder_core.specs.Serving.{ServerState, crashed, starting, serving, IsUp, on, begun, HoldsUpTo, NamesNone, Reaches}
+use Rattle.folder_core.specs.Serving.{ServerState, Phase, crashed, starting, serving, IsUp, on, begun, HoldsUpTo, NamesNone, Reaches}
 use Rattle.std.specs.List.{AllByRecursion}
 use Rattle.folder_core.specs.Texts.{file_text, lines_text, part_text, IsInOneLine, AreLines, HasTexts}
 
@@ -15,6 +17,22 @@ TextState = ServerState (List ℕ)
 pub record AreTexts (s : TextState) : Type 0 where
   pub files : HasTexts s.disk
   pub journal : AllByRecursion IsInOneLine s.journal
+
+-- ---- the end of the journal
+-- the part of a line that stands in the file, if there is one
+abbrev pub part_in : Found (File (List ℕ)) → List ℕ
+part_in none = []
+part_in (some file) = part_text file.part
+
+-- the same of the file of this number
+abbrev pub part_of : Disk (List ℕ) → Option ℕ → List ℕ
+part_of disk None = []
+part_of disk (Some number) = part_in (get_elem? disk.files number)
+
+-- the part of a line that stands at the end of the piece that is written to
+abbrev pub part_at : Phase → Disk (List ℕ) → List ℕ
+part_at (serving first capture) disk = part_of disk (disk.now (piece first))
+part_at phase disk = []
 
 -- ---- where the state is known
 -- the calls have come from the one state to the other

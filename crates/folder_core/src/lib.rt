@@ -36,8 +36,10 @@
 //! of the chain reaches its point.
 #![tactic(auto)]
 
+mod errand;
 mod folder;
 mod laws;
 
+pub use errand::{Errand, NamesSynced, Synced, Written};
 pub use folder::{Dumping, Folder, FolderFault};
 pub use laws::{calls_are_steps, told_outlives};

@@ -26,20 +26,20 @@ none_is (Some rest) h = cc
 slice_is : (owed : Option (List ℕ)) (slice rest : List ℕ) → owed ≡ Some rest → IfSome owed (λ r. slice ≡ r) → slice ≡ rest
 slice_is owed slice rest e h = subst (λ (o : Option (List ℕ)). IfSome o (λ r. slice ≡ r)) e h
 
-module _ {W : Type 0} (taken handed_on : W → Option (List ℕ)) (start : LineKeeperState W) (e : Entry) (old resumed new : W) (owed owed' : Option (List ℕ)) (slice : List ℕ)
-    (o : OwesLine taken start e (line_keeper_state old owed)) (s : IfSome owed (λ rest. slice ≡ rest)) (same : Keeps (taken old) (taken resumed)) where
+module _ (start : LineKeeperState) (e : Entry) (old old_handed_on resumed new handed_on owed owed' : Option (List ℕ)) (slice : List ℕ)
+    (o : OwesLine start e (line_keeper_state old old_handed_on owed)) (s : IfSome owed (λ rest. slice ≡ rest)) (same : Keeps old resumed) where
   -- the rest of a line was written
-  pub rest_kept : Appends (taken resumed) (taken new) slice → handed_on new ≡ taken new → owed' ≡ None → KeepsLine taken handed_on start e (line_keeper_state new owed')
+  pub rest_kept : Appends resumed new slice → handed_on ≡ new → owed' ≡ None → KeepsLine start e (line_keeper_state new handed_on owed')
   rest_kept wrote flushed none =
-      let both = Appends-trans (taken start.sink) (taken resumed) (taken new) o.part slice (Appends-kept (taken start.sink) (taken old) (taken resumed) o.part o.wrote same) wrote in
+      let both = Appends-trans start.taken resumed new o.part slice (Appends-kept start.taken old resumed o.part o.wrote same) wrote in
       let whole : o.part ++ slice ≡ entry_text e = ap (λ t. o.part ++ t) (slice_is owed slice o.rest o.after s) ∙ sym o.line in
-      record { read = o.read; before = o.before; line = subst (λ (t : List ℕ). Appends (taken start.sink) (taken new) t) whole both; handed_on_all = flushed; after = none }
+      record { read = o.read; before = o.before; line = subst (λ (t : List ℕ). Appends start.taken new t) whole both; handed_on_all = flushed; after = none }
 
   -- a front of the rest was written
-  pub rest_owed : (count : ℕ) → Appends (taken resumed) (taken new) (take count slice) → owed' ≡ option_map (drop count) owed → OwesLine taken start e (line_keeper_state new owed')
+  pub rest_owed : (count : ℕ) → Appends resumed new (take count slice) → owed' ≡ option_map (drop count) owed → OwesLine start e (line_keeper_state new handed_on owed')
   rest_owed count wrote left =
       let rest : slice ≡ o.rest = slice_is owed slice o.rest o.after s in
-      let both = Appends-trans (taken start.sink) (taken resumed) (taken new) o.part (take count slice) (Appends-kept (taken start.sink) (taken old) (taken resumed) o.part o.wrote same) wrote in record {
+      let both = Appends-trans start.taken resumed new o.part (take count slice) (Appends-kept start.taken old resumed o.part o.wrote same) wrote in record {
         part = o.part ++ take count slice;
         rest = drop count slice;
         read = o.read;

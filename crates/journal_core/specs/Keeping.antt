@@ -2,9 +2,10 @@
 -- Of a keeper, `keeps old e new`: from the state old the entry e may be kept, and new is the next;
 -- `owes old e new`: from old it was begun, and new owes what is left of it; `owing k`: what is left of an
 -- entry is owed.
-use Rattle.std.specs.Prelude.{◌≡◌, ℕ, true, false, List, [], ◌∷◌, ◌++◌, Option, Some, None, is_some, Result, Ok, Err}
+use Rattle.std.specs.Prelude.{◌≡◌, ℕ, Bool, true, false, List, [], ◌∷◌, ◌++◌, Option, Some, None, is_some, Result, Ok, Err}
 use Rattle.std.specs.Io.KnownBytes.{Appends, Keeps}
 use Rattle.base_core.specs.Streams.{WritesFront}
+use Rattle.folder_core.specs.declared.errand.Errand.{Errand}
 use Rattle.system_core.specs.declared.machine.event.Entry.{Entry}
 use Rattle.journal_core.specs.Text.{entry_text, journal_text, WasRead}
 use Rattle.journal_core.specs.declared.keeper.Keeper.{Ghosts}
@@ -32,52 +33,58 @@ module _ {K : Type 0} (rules : Ghosts K) where
         → KeepsOrOwes old entries new
 
 -- ---- keepers of lines
--- what is seen of a keeper of lines: its sink; and of the last line what is still to be written, which may
--- be nothing but to hand it on, or None where nothing is owed
-pub record LineKeeperState (W : Type 0) : Type 0 where
-  pub sink : W
+-- what is seen of a keeper of lines: what its sink took, where that is known, and what of it was handed on;
+-- and of the last line what is still to be written, which may be nothing but to hand it on, or None where
+-- nothing is owed
+pub record LineKeeperState : Type 0 where
+  pub taken : Option (List ℕ)
+  pub handed_on : Option (List ℕ)
   pub owed : Option (List ℕ)
 
-abbrev pub line_keeper_state : {W : Type 0} → W → Option (List ℕ) → LineKeeperState W
-line_keeper_state sink owed = record { sink = sink; owed = owed }
+abbrev pub line_keeper_state : (taken handed_on owed : Option (List ℕ)) → LineKeeperState
+line_keeper_state taken handed_on owed =
+    record { taken = taken; handed_on = handed_on; owed = owed }
 
--- one that owes nothing
-abbrev pub owing_nothing : {W : Type 0} → W → LineKeeperState W
-owing_nothing sink = line_keeper_state sink None
+-- one that owes nothing, whose sink took so much and handed on so much of it
+abbrev pub owing_nothing : (taken handed_on : Option (List ℕ)) → LineKeeperState
+owing_nothing taken handed_on = line_keeper_state taken handed_on None
 
--- Of a sink, `taken` and `handed_on` are those of base_core's `Sink`.
-module _ {W : Type 0} (taken handed_on : W → Option (List ℕ)) where
-  -- the sink took the line of the entry, which a line can say, and has handed on all that it took
-  pub record KeepsLine (old : LineKeeperState W) (e : Entry) (new : LineKeeperState W) : Type 0 where
-    pub read : WasRead e
-    pub before : old.owed ≡ None
-    pub line : Appends (taken old.sink) (taken new.sink) (entry_text e)
-    pub handed_on_all : handed_on new.sink ≡ taken new.sink
-    pub after : new.owed ≡ None
+-- the sink took the line of the entry, which a line can say, and has handed on all that it took
+pub record KeepsLine (old : LineKeeperState) (e : Entry) (new : LineKeeperState) : Type 0 where
+  pub read : WasRead e
+  pub before : old.owed ≡ None
+  pub line : Appends old.taken new.taken (entry_text e)
+  pub handed_on_all : new.handed_on ≡ new.taken
+  pub after : new.owed ≡ None
 
-module _ {W : Type 0} (taken : W → Option (List ℕ)) where
-  -- the sink took a part of the line of the entry, which a line can say, and the rest is owed
-  pub record OwesLine (old : LineKeeperState W) (e : Entry) (new : LineKeeperState W) : Type 0 where
-    pub part : List ℕ
-    pub rest : List ℕ
-    pub read : WasRead e
-    pub before : old.owed ≡ None
-    pub line : entry_text e ≡ part ++ rest
-    pub wrote : Appends (taken old.sink) (taken new.sink) part
-    pub after : new.owed ≡ Some rest
+-- the sink took a part of the line of the entry, which a line can say, and the rest is owed
+pub record OwesLine (old : LineKeeperState) (e : Entry) (new : LineKeeperState) : Type 0 where
+  pub part : List ℕ
+  pub rest : List ℕ
+  pub read : WasRead e
+  pub before : old.owed ≡ None
+  pub line : entry_text e ≡ part ++ rest
+  pub wrote : Appends old.taken new.taken part
+  pub after : new.owed ≡ Some rest
 
--- the rules of lines that a sink takes
-abbrev pub line_rules : {W : Type 0} → (taken handed_on : W → Option (List ℕ))
-    → Ghosts (LineKeeperState W)
-line_rules taken handed_on = record {
-  keeps = KeepsLine taken handed_on;
-  owes = OwesLine taken;
+-- The rules of lines that a sink takes. Of an errand the sink's rule is asked where it is known what it took.
+abbrev pub line_rules : (Option (List ℕ) → Errand → Type 0) → Bool
+    → Ghosts LineKeeperState
+line_rules may_run knows = record {
+  keeps = KeepsLine;
+  owes = OwesLine;
   owing = λ k. is_some k.owed;
+  may_run = λ k errand. knows ≡ true → may_run k.taken errand;
 }
 
 -- the rules of who keeps nothing
 abbrev pub no_rules : Ghosts NoKeeper
-no_rules = record { keeps = λ old e new. Unit {0}; owes = λ old e new. ⊥; owing = λ k. false }
+no_rules = record {
+  keeps = λ old e new. Unit {0};
+  owes = λ old e new. ⊥;
+  owing = λ k. false;
+  may_run = λ k errand. Unit {0};
+}
 
 -- ---- whole journals
 -- how the writing of a whole journal ends: its text was written, or a front of it, or nothing

@@ -1,9 +1,11 @@
 //! What keeps accepted changes.
 ghost use Rattle.std.specs.Prelude.{◌≡◌, ℕ, List, Bool, true, false, OnOk, OnErr, MatchResult};
 ghost use Rattle.reader_core.specs.Language.{Spells};
+ghost use Rattle.folder_core.specs.declared.errand.Errand.{Errand};
 ghost use Rattle.system_core.specs.declared.machine.event.Entry.{Entry};
 
 use base_core::Broken;
+use folder_core::Errand;
 use system_core::Entry;
 
 /// What keeps accepted changes, one after another. Each is kept before its reply is written, so
@@ -16,6 +18,8 @@ pub trait Keeper {
     ghost owes: { Self → Entry → Self → Type 0 };
     // What is left of an entry is owed.
     ghost owing: { Self → Bool };
+    // It may be asked to run this errand between changes.
+    ghost may_run: { Self → Errand → Type 0 };
 
     /// Whether what is left of an entry is owed.
     fn is_owing(&self) -> bool
@@ -40,6 +44,11 @@ pub trait Keeper {
             → owes start entry self.old → keeps start entry self.new) }
         ensures err { OnErr result ((start : Self) (entry : Entry)
             → owes start entry self.old → owes start entry self.new) };
+
+    /// Runs an errand, which leaves what was kept as it is, and says whether all of it was done.
+    fn run(&mut self, errand: Errand) -> bool
+        requires { may_run self.old errand }
+        ensures { self.new ≡ self.old };
 }
 
 /// Keeps nothing, and costs nothing.
@@ -52,6 +61,8 @@ impl Keeper for NoKeeper {
     ghost owes = { λ old e new. ⊥ };
 
     ghost owing = { λ k. false };
+
+    ghost may_run = { λ k errand. Unit {0} };
 
     #[inline(always)]
     fn is_owing(&self) -> bool {
@@ -66,5 +77,10 @@ impl Keeper for NoKeeper {
     #[inline(always)]
     fn settle(&mut self) -> Result<(), Broken> {
         Ok(())
+    }
+
+    #[inline(always)]
+    fn run(&mut self, _errand: Errand) -> bool {
+        true
     }
 }

@@ -4,6 +4,8 @@
 //! of each change before the change is acknowledged. [`LineKeeper`] writes its line to a sink and
 //! has the sink hand it on; [`NoKeeper`] does nothing. What a keeper could not keep of a change it
 //! owes, as where the disk was full: it is told of no further change before it has settled that.
+//! Between changes a keeper may be asked to run an errand, as where a journal goes on in another file, which
+//! leaves what was kept as it is: [`LineKeeper`] has its sink run it ([`Errands`]).
 //!
 //! ```text
 //! let mut keeper = LineKeeper::new(alloc, sink)?;
@@ -28,6 +30,7 @@
 //! it. It is one write and one flush of the sink.
 #![tactic(auto)]
 
+mod errands;
 mod keeper;
 mod laws;
 mod line_keeper;
@@ -36,6 +39,7 @@ mod syncs;
 mod unwritten;
 mod writing;
 
+pub use errands::Errands;
 pub use keeper::{Keeper, NoKeeper};
 pub use laws::kept_lines_are_the_text;
 pub use line_keeper::LineKeeper;

@@ -5,17 +5,19 @@ ghost use Rattle.reader_core.specs.Language.{Spells};
 ghost use Rattle.system_core.specs.declared.machine.event.Entry.{Entry};
 ghost use Rattle.journal_core.specs.Keeping.{LineKeeperState, line_keeper_state, owing_nothing, KeepsLine, OwesLine};
 
+use crate::errands::Errands;
 use crate::keeper::Keeper;
 use crate::unwritten::Unwritten;
 use base_core::{Broken, NoMemory, Resume, Sink};
+use folder_core::Errand;
 use printer_core::{Page, journal_line_is_short};
 use std::alloc::Global;
 use std::marker::Model;
 use system_core::Entry;
 
 /// Writes the line of each change, `user: statement` with its line feed, and has the sink hand it
-/// on before the next. What the sink could not take of a line it tries again. Contracts see the
-/// sink, and what is still to be written of the last line.
+/// on before the next. What the sink could not take of a line it tries again. Contracts see what the
+/// sink took and what of it was handed on, and what is still to be written of the last line.
 #[derive(Drop)]
 pub struct LineKeeper<W: Sink + Drop> {
     page: Page,
@@ -27,9 +29,13 @@ impl<W: Sink + Drop> Model for LineKeeper<W> {
     ghost use Rattle.std.specs.Prelude.{◌≡◌, is_some};
     ghost use Rattle.journal_core.specs.Keeping.{LineKeeperState};
 
-    ghost Value = { LineKeeperState W };
+    ghost Value = { LineKeeperState };
 
-    ghost view = { λ k. record { sink = k.sink; owed = k.unwritten } };
+    ghost view = { λ k. record {
+      taken = W.taken k.sink;
+      handed_on = W.handed_on k.sink;
+      owed = k.unwritten;
+    } };
 
     ghost invariant = { λ k. W.failed k.sink ≡ is_some k.unwritten };
 }
@@ -39,7 +45,8 @@ impl<W: Sink + Drop> LineKeeper<W> {
     /// refused.
     pub fn new(alloc: Global, sink: W) -> Result<LineKeeper<W>, NoMemory>
         requires { W.failed sink ≡ false }
-        ensures { IfOk result (λ keeper. keeper ≡ owing_nothing sink) }
+        ensures { IfOk result
+            (λ keeper. keeper ≡ owing_nothing (W.taken sink) (W.handed_on sink)) }
     {
         let page = Page::new(alloc)?;
         let unwritten = Unwritten::new(alloc)?;
@@ -104,12 +111,12 @@ fn write_entry<W: Sink>(
     ensures failed { W.failed sink.new ≡ is_some unwritten.new }
     ensures owing { MatchResult result (λ _. is_some unwritten.new ≡ false)
         (λ _. is_some unwritten.new ≡ true) }
-    ensures ok { OnOk result (KeepsLine W.taken W.handed_on
-        (line_keeper_state sink.old unwritten.old) entry.now
-        (line_keeper_state sink.new unwritten.new)) }
-    ensures err { OnErr result (OwesLine W.taken
-        (line_keeper_state sink.old unwritten.old) entry.now
-        (line_keeper_state sink.new unwritten.new)) }
+    ensures ok { OnOk result (KeepsLine
+        (line_keeper_state (W.taken sink.old) (W.handed_on sink.old) unwritten.old) entry.now
+        (line_keeper_state (W.taken sink.new) (W.handed_on sink.new) unwritten.new)) }
+    ensures err { OnErr result (OwesLine
+        (line_keeper_state (W.taken sink.old) (W.handed_on sink.old) unwritten.old) entry.now
+        (line_keeper_state (W.taken sink.new) (W.handed_on sink.new) unwritten.new)) }
 {
     // A user's name is one, as its type keeps it, and so the line has room.
     let _ = entry.user.0.as_bytes();
@@ -130,13 +137,16 @@ fn write_rest<W: Sink + Resume>(sink: &mut W, unwritten: &mut Unwritten) -> Resu
     ensures failed { W.failed sink.new ≡ is_some unwritten.new }
     ensures owing { MatchResult result (λ _. is_some unwritten.new ≡ false)
         (λ _. is_some unwritten.new ≡ true) }
-    ensures ok { OnOk result ((start : LineKeeperState W) (entry : Entry)
-        → OwesLine W.taken start entry (line_keeper_state sink.old unwritten.old)
-        → KeepsLine W.taken W.handed_on start entry
-        (line_keeper_state sink.new unwritten.new)) }
-    ensures err { OnErr result ((start : LineKeeperState W) (entry : Entry)
-        → OwesLine W.taken start entry (line_keeper_state sink.old unwritten.old)
-        → OwesLine W.taken start entry (line_keeper_state sink.new unwritten.new)) }
+    ensures ok { OnOk result ((start : LineKeeperState) (entry : Entry)
+        → OwesLine start entry
+        (line_keeper_state (W.taken sink.old) (W.handed_on sink.old) unwritten.old)
+        → KeepsLine start entry
+        (line_keeper_state (W.taken sink.new) (W.handed_on sink.new) unwritten.new)) }
+    ensures err { OnErr result ((start : LineKeeperState) (entry : Entry)
+        → OwesLine start entry
+        (line_keeper_state (W.taken sink.old) (W.handed_on sink.old) unwritten.old)
+        → OwesLine start entry
+        (line_keeper_state (W.taken sink.new) (W.handed_on sink.new) unwritten.new)) }
 {
     sink.resume();
     match write_through(sink, unwritten.as_slice()) {
@@ -151,15 +161,17 @@ fn write_rest<W: Sink + Resume>(sink: &mut W, unwritten: &mut Unwritten) -> Resu
     }
 }
 
-impl<W: Sink + Resume + Drop> Keeper for LineKeeper<W> {
-    ghost use Rattle.std.specs.Prelude.{is_some};
+impl<W: Resume + Errands + Drop> Keeper for LineKeeper<W> {
+    ghost use Rattle.std.specs.Prelude.{◌≡◌, is_some, true};
     ghost use Rattle.journal_core.specs.Keeping.{KeepsLine, OwesLine};
 
-    ghost keeps = { KeepsLine W.taken W.handed_on };
+    ghost keeps = { KeepsLine };
 
-    ghost owes = { OwesLine W.taken };
+    ghost owes = { OwesLine };
 
     ghost owing = { λ k. is_some k.owed };
+
+    ghost may_run = { λ k errand. W.knows ≡ true → W.may_run k.taken errand };
 
     fn is_owing(&self) -> bool {
         self.unwritten.is_owed()
@@ -174,5 +186,9 @@ impl<W: Sink + Resume + Drop> Keeper for LineKeeper<W> {
             return Ok(());
         }
         write_rest(&mut self.sink, &mut self.unwritten)
+    }
+
+    fn run(&mut self, errand: Errand) -> bool {
+        self.sink.run(errand)
     }
 }

@@ -1,10 +1,11 @@
 -- The journal of a script, kept as lines, loads it.
-use Rattle.std.proofs.Common.{◌≡◌, ℕ, List, [], ◌∷◌, ◌++◌, All, IfOk, Option, Result, Ok, Err, map, drop, refl, sym, ap, subst, ◌∙◌, append_assoc, append-nil, arith, inl, inr}
+use Rattle.std.proofs.Common.{◌≡◌, ℕ, Bool, List, [], ◌∷◌, ◌++◌, All, IfOk, Option, Result, Ok, Err, map, drop, refl, sym, ap, subst, ◌∙◌, append_assoc, append-nil, arith, inl, inr}
 use Rattle.std.specs.Prelude.{None, is_some}
 use Rattle.std.specs.List.{AllByRecursion}
 use Rattle.std.specs.Str.Lines.{lines}
 use Rattle.std.proofs.lemmas.List.Elements.{All-from_recursion}
 use Rattle.base_core.specs.declared.limits.Limits.{Limits}
+use Rattle.folder_core.specs.declared.errand.Errand.{Errand}
 use Rattle.printer_core.specs.Printing.{journal_line}
 use Rattle.grants_core.proofs.OwnersLemmas.{AllByRecursion-append}
 use Rattle.lines_core.specs.Serving.{Traffic}
@@ -40,19 +41,19 @@ opening_said chunk limits =
     let sound : AreSound (opening chunk limits) = record { within = omega arith; few = omega arith; rising = tt; begun = tt; past = tt; active = tt } in
     (record { journal = tt; checkpoints = sound }, tt, refl)
 
-module _ {W : Type 0} (taken handed_on : W → Option (List ℕ)) where
-  pub kept_again : (chunk : ℕ) (new : World) (keeper keeper' : LineKeeperState W) (traffic : Traffic) → keeper.owed ≡ None
-      → EndsKept (line_rules taken handed_on) chunk (Ok new) keeper keeper' traffic
-      → CanBeLoaded new.limits (taken keeper.sink) (taken keeper'.sink) new.journal
+module _ (may_run : Option (List ℕ) → Errand → Type 0) (knows : Bool) where
+  pub kept_again : (chunk : ℕ) (new : World) (keeper keeper' : LineKeeperState) (traffic : Traffic) → keeper.owed ≡ None
+      → EndsKept (line_rules may_run knows) chunk (Ok new) keeper keeper' traffic
+      → CanBeLoaded new.limits keeper.taken keeper'.taken new.journal
   kept_again chunk new keeper keeper' traffic nothing ends =
       let start = opening chunk ends.0 in
-      let said : Said ends.0 new = ends-said (line_rules taken handed_on) ends.0 (Ok tt) (with_keeper start keeper) (with_keeper new keeper') traffic (opening_said chunk ends.0) ends.2.1 in
+      let said : Said ends.0 new = ends-said (line_rules may_run knows) ends.0 (Ok tt) (with_keeper start keeper) (with_keeper new keeper') traffic (opening_said chunk ends.0) ends.2.1 in
       let read = were_read new.journal said.1 in
       let as_lines : lines_unmarked (lines (journal_text new.journal)) ≡ journal_lines new.journal = ap lines_unmarked (lines_are new.journal read) ∙ lines_unmarked_is new.journal read in
       let loaded : Loads new.limits [] (journal_lines new.journal) (map without_pass new.journal) = loads new.limits [] new.journal said.0.journal read in
       record {
         text = journal_text new.journal;
-        wrote = kept-text taken handed_on keeper keeper' new.journal (journal-kept (line_rules taken handed_on) chunk new keeper keeper' traffic (ap is_some nothing) ends);
+        wrote = kept-text keeper keeper' new.journal (journal-kept (line_rules may_run knows) chunk new keeper keeper' traffic (ap is_some nothing) ends);
         whole = whole_text new.journal;
         loads = subst (λ (ls : List (List ℕ)). Loads new.limits [] ls new.journal) (sym as_lines) (subst (λ (j : List Entry). Loads new.limits [] (journal_lines new.journal) j) (no_pass new.journal said.1) loaded);
       }

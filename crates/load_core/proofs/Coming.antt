@@ -6,8 +6,8 @@ use Rattle.system_core.specs.World.{World, with_entry}
 use Rattle.system_core.specs.declared.machine.event.Entry.{Entry}
 use Rattle.load_core.specs.declared.fault.Undone.{Undone}
 use Rattle.load_core.specs.Loading.{Loads, SaysChange, IsUndone}
-use Rattle.load_core.specs.Loader.{LoaderState, GoesOn, EntersOrPasses, line_at}
-use Rattle.load_core.proofs.Lines.{lines_at, lines_at-nil, lines_at-cons, lines_at-more}
+use Rattle.load_core.specs.Loader.{LoaderState, GoesOn, EntersOrPasses, line_at, lines_at}
+use Rattle.load_core.proofs.Lines.{lines_at-nil, lines_at-cons, lines_at-more}
 
 -- it has nothing more than this journal
 abbrev pub with_journal : World → List Entry → World

@@ -81,17 +81,16 @@ cut_end limits old front (b ∷ missing) start entries e whole first read lawful
     (sym (lines_before (old ++ journal_text entries) front (whole_both old (journal_text entries) whole (whole_text entries)) open_front)) loaded
 
 -- ---- by a keeper of lines that owes what is left of one
-module _ {W : Type 0} (taken handed_on : W → Option (List ℕ)) where
-  pub told_on : (limits : Limits) (old : List ℕ) (start kept : List Entry) (e : Entry) (begun mid keeper : LineKeeperState W) → KeepsAll (KeepsLine taken handed_on) begun kept mid → OwesLine taken mid e keeper → IsLawful limits (start ++ kept ++ e ∷ [])
-      → IsWhole old → Loads limits [] (lines_unmarked (lines old)) start → CanBeLoadedCut limits old (taken begun.sink) (taken keeper.sink) start kept e
-  told_on limits old start kept e begun mid keeper keeps owes lawful whole first =
-      let known : AllByRecursion WasRead (kept ++ e ∷ []) = AllByRecursion-append WasRead kept (e ∷ []) (kept_were_read taken handed_on begun mid kept keeps) (owes.read, tt) in
-      let behind : IsLawfulFrom limits start (kept ++ e ∷ []) = lawful_behind limits [] start (kept ++ e ∷ []) (subst (IsLawful limits) (append_assoc start kept (e ∷ [])) lawful) in
-      record {
-        front = owes.part;
-        missing = owes.rest;
-        line = owes.line;
-        wrote = Appends-trans (taken begun.sink) (taken mid.sink) (taken keeper.sink) (journal_text kept) owes.part (kept-text taken handed_on begun mid kept keeps) owes.wrote;
-        loads = subst (λ (bytes : List ℕ). LoadsCutEnd limits bytes (start ++ map without_pass kept) e owes.rest) (append_assoc old (journal_text kept) owes.part)
-            (cut_end limits old owes.part owes.rest start kept e whole first known behind owes.line);
-      }
+pub told_on : (limits : Limits) (old : List ℕ) (start kept : List Entry) (e : Entry) (begun mid keeper : LineKeeperState) → KeepsAll KeepsLine begun kept mid → OwesLine mid e keeper → IsLawful limits (start ++ kept ++ e ∷ [])
+    → IsWhole old → Loads limits [] (lines_unmarked (lines old)) start → CanBeLoadedCut limits old begun.taken keeper.taken start kept e
+told_on limits old start kept e begun mid keeper keeps owes lawful whole first =
+    let known : AllByRecursion WasRead (kept ++ e ∷ []) = AllByRecursion-append WasRead kept (e ∷ []) (kept_were_read begun mid kept keeps) (owes.read, tt) in
+    let behind : IsLawfulFrom limits start (kept ++ e ∷ []) = lawful_behind limits [] start (kept ++ e ∷ []) (subst (IsLawful limits) (append_assoc start kept (e ∷ [])) lawful) in
+    record {
+      front = owes.part;
+      missing = owes.rest;
+      line = owes.line;
+      wrote = Appends-trans begun.taken mid.taken keeper.taken (journal_text kept) owes.part (kept-text begun mid kept keeps) owes.wrote;
+      loads = subst (λ (bytes : List ℕ). LoadsCutEnd limits bytes (start ++ map without_pass kept) e owes.rest) (append_assoc old (journal_text kept) owes.part)
+          (cut_end limits old owes.part owes.rest start kept e whole first known behind owes.line);
+    }

@@ -5,6 +5,7 @@ use Rattle.std.specs.List.{AllByRecursion}
 use Rattle.std.specs.Str.Lines.{lines, strip_carriage_return}
 use Rattle.std.proofs.lemmas.List.{map-append}
 use Rattle.base_core.specs.declared.limits.Limits.{Limits}
+use Rattle.folder_core.specs.declared.errand.Errand.{Errand}
 use Rattle.lines_core.specs.Serving.{Traffic}
 use Rattle.lines_core.specs.Lines.{Cut, NoFeed, IsWhole}
 use Rattle.lines_core.proofs.LineLemmas.{Cut-nil, Cut-append, Cut-open, Cut-feed, lines-Cut, last_line}
@@ -84,7 +85,7 @@ lawful_behind limits before [] rest lawful = subst (λ (j : List Entry). IsLawfu
 lawful_behind limits before (e ∷ front) rest lawful =
     subst (λ (j : List Entry). IsLawfulFrom limits j rest) (append_assoc before (e ∷ []) front) (lawful_behind limits (before ++ e ∷ []) front rest lawful.2)
 
-bare : (es : List Entry) → AllByRecursion (λ e. e.pass ≡ 0) es → map without_pass es ≡ es
+pub bare : (es : List Entry) → AllByRecursion (λ e. e.pass ≡ 0) es → map without_pass es ≡ es
 bare [] all = refl
 bare (e ∷ es) all =
     ap (λ (p : ℕ). record e { pass = p } ∷ map without_pass es) (sym all.0) ∙ ap (λ (xs : List Entry). e ∷ xs) (bare es all.1)
@@ -109,43 +110,42 @@ drop-behind : {A : Type 0} (front rest : List A) → drop (length front) (front 
 drop-behind [] rest = refl
 drop-behind (x ∷ front) rest = drop-behind front rest
 
-module _ {W : Type 0} (taken handed_on : W → Option (List ℕ)) where
-  pub kept_were_read : (begun keeper : LineKeeperState W) (es : List Entry) → KeepsAll (KeepsLine taken handed_on) begun es keeper → AllByRecursion WasRead es
-  kept_were_read begun keeper [] kept = tt
-  kept_were_read begun keeper (e ∷ es) (mid, one, more) = (one.read, kept_were_read mid keeper es more)
+pub kept_were_read : (begun keeper : LineKeeperState) (es : List Entry) → KeepsAll KeepsLine begun es keeper → AllByRecursion WasRead es
+kept_were_read begun keeper [] kept = tt
+kept_were_read begun keeper (e ∷ es) (mid, one, more) = (one.read, kept_were_read mid keeper es more)
 
-  kept_behind : (limits : Limits) (old : List ℕ) (start rest : List Entry) (begun keeper : LineKeeperState W) → KeepsAll (KeepsLine taken handed_on) begun rest keeper → IsLawfulFrom limits start rest → IsWhole old → Loads limits [] (lines_unmarked (lines old)) start
-      → CanBeLoadedBehind limits old (taken begun.sink) (taken keeper.sink) (start ++ map without_pass rest)
-  kept_behind limits old start rest begun keeper kept lawful whole first = record {
-    text = journal_text rest;
-    wrote = kept-text taken handed_on begun keeper rest kept;
-    whole = whole_text rest;
-    loads = gone_on limits old (journal_text rest) start rest whole first (kept_were_read begun keeper rest kept) lawful refl;
-  }
+kept_behind : (limits : Limits) (old : List ℕ) (start rest : List Entry) (begun keeper : LineKeeperState) → KeepsAll KeepsLine begun rest keeper → IsLawfulFrom limits start rest → IsWhole old → Loads limits [] (lines_unmarked (lines old)) start
+    → CanBeLoadedBehind limits old begun.taken keeper.taken (start ++ map without_pass rest)
+kept_behind limits old start rest begun keeper kept lawful whole first = record {
+  text = journal_text rest;
+  wrote = kept-text begun keeper rest kept;
+  whole = whole_text rest;
+  loads = gone_on limits old (journal_text rest) start rest whole first (kept_were_read begun keeper rest kept) lawful refl;
+}
 
-  -- **of a journal that was gone on with**
-  pub kept_on : (limits : Limits) (old : List ℕ) (start rest journal : List Entry) (begun keeper : LineKeeperState W) → KeepsAll (KeepsLine taken handed_on) begun (drop (length start) journal) keeper → journal ≡ start ++ rest → IsLawful limits journal → IsWhole old
-      → Loads limits [] (lines_unmarked (lines old)) start → CanBeLoadedBehind limits old (taken begun.sink) (taken keeper.sink) (start ++ map without_pass rest)
-  kept_on limits old start rest journal begun keeper kept is lawful whole first =
-      let behind : drop (length start) journal ≡ rest = ap (drop (length start)) is ∙ drop-behind start rest in
-      kept_behind limits old start rest begun keeper (subst (λ (es : List Entry). KeepsAll (KeepsLine taken handed_on) begun es keeper) behind kept)
-      (lawful_behind limits [] start rest (subst (IsLawful limits) is lawful)) whole first
+-- **of a journal that was gone on with**
+pub kept_on : (limits : Limits) (old : List ℕ) (start rest journal : List Entry) (begun keeper : LineKeeperState) → KeepsAll KeepsLine begun (drop (length start) journal) keeper → journal ≡ start ++ rest → IsLawful limits journal → IsWhole old
+    → Loads limits [] (lines_unmarked (lines old)) start → CanBeLoadedBehind limits old begun.taken keeper.taken (start ++ map without_pass rest)
+kept_on limits old start rest journal begun keeper kept is lawful whole first =
+    let behind : drop (length start) journal ≡ rest = ap (drop (length start)) is ∙ drop-behind start rest in
+    kept_behind limits old start rest begun keeper (subst (λ (es : List Entry). KeepsAll KeepsLine begun es keeper) behind kept)
+    (lawful_behind limits [] start rest (subst (IsLawful limits) is lawful)) whole first
 
-  -- ---- of a script that was gone on with
-  said_behind : (front rest : List Entry) → AllByRecursion WasSaid (front ++ rest) → AllByRecursion WasSaid rest
-  said_behind [] rest said = said
-  said_behind (e ∷ front) rest said = said_behind front rest said.1
+-- ---- of a script that was gone on with
+said_behind : (front rest : List Entry) → AllByRecursion WasSaid (front ++ rest) → AllByRecursion WasSaid rest
+said_behind [] rest said = said
+said_behind (e ∷ front) rest said = said_behind front rest said.1
 
-  pub script_on : (start new : World) (old : List ℕ) (keeper keeper' : LineKeeperState W) (traffic : Traffic) → keeper.owed ≡ None → IsLawfulWorld start → IsWhole old → Loads start.limits [] (lines_unmarked (lines old)) start.journal
-      → EndsKeptFrom (line_rules taken handed_on) start (Ok new) keeper keeper' traffic
-      → CanBeLoadedBehind start.limits old (taken keeper.sink) (taken keeper'.sink) new.journal
-  script_on start new old keeper keeper' traffic nothing lawful whole first ends =
-      let began : Said start.limits start = (lawful, loaded_said start.limits [] start.journal (lines_unmarked (lines old)) first tt, refl) in
-      let said : Said start.limits new = ends-said (line_rules taken handed_on) start.limits (Ok tt) (with_keeper start keeper) (with_keeper new keeper') traffic began ends.1 in
-      let k = grown-kept (line_rules taken handed_on) start new keeper keeper' traffic (ap is_some nothing) ends in
-      let rest = k.entries in
-      let all : AllByRecursion WasSaid (start.journal ++ rest) = subst (AllByRecursion WasSaid) k.journal said.1 in
-      let lawful_then : IsLawful start.limits (start.journal ++ rest) = subst (λ (l : Limits). IsLawful l (start.journal ++ rest)) said.2 (subst (IsLawful new.limits) k.journal said.0.journal) in
-      let loaded = kept_behind start.limits old start.journal rest keeper keeper' k.kept (lawful_behind start.limits [] start.journal rest lawful_then) whole first in
-      let same : start.journal ++ map without_pass rest ≡ new.journal = ap (λ (es : List Entry). start.journal ++ es) (no_pass rest (said_behind start.journal rest all)) ∙ sym k.journal in
-      subst (λ (j : List Entry). CanBeLoadedBehind start.limits old (taken keeper.sink) (taken keeper'.sink) j) same loaded
+pub script_on : (may_run : Option (List ℕ) → Errand → Type 0) (knows : Bool) (start new : World) (old : List ℕ) (keeper keeper' : LineKeeperState) (traffic : Traffic) → keeper.owed ≡ None → IsLawfulWorld start → IsWhole old → Loads start.limits [] (lines_unmarked (lines old)) start.journal
+    → EndsKeptFrom (line_rules may_run knows) start (Ok new) keeper keeper' traffic
+    → CanBeLoadedBehind start.limits old keeper.taken keeper'.taken new.journal
+script_on may_run knows start new old keeper keeper' traffic nothing lawful whole first ends =
+    let began : Said start.limits start = (lawful, loaded_said start.limits [] start.journal (lines_unmarked (lines old)) first tt, refl) in
+    let said : Said start.limits new = ends-said (line_rules may_run knows) start.limits (Ok tt) (with_keeper start keeper) (with_keeper new keeper') traffic began ends.1 in
+    let k = grown-kept (line_rules may_run knows) start new keeper keeper' traffic (ap is_some nothing) ends in
+    let rest = k.entries in
+    let all : AllByRecursion WasSaid (start.journal ++ rest) = subst (AllByRecursion WasSaid) k.journal said.1 in
+    let lawful_then : IsLawful start.limits (start.journal ++ rest) = subst (λ (l : Limits). IsLawful l (start.journal ++ rest)) said.2 (subst (IsLawful new.limits) k.journal said.0.journal) in
+    let loaded = kept_behind start.limits old start.journal rest keeper keeper' k.kept (lawful_behind start.limits [] start.journal rest lawful_then) whole first in
+    let same : start.journal ++ map without_pass rest ≡ new.journal = ap (λ (es : List Entry). start.journal ++ es) (no_pass rest (said_behind start.journal rest all)) ∙ sym k.journal in
+    subst (λ (j : List Entry). CanBeLoadedBehind start.limits old keeper.taken keeper'.taken j) same loaded

@@ -14,3 +14,4 @@ pub mod ReplayInput
 pub mod GoneOn
 pub mod CutEnd
 pub mod Once
+pub mod SkippedLines

@@ -2,18 +2,13 @@
 use Rattle.std.proofs.Common.{◌≡◌, ℕ, List, [], ◌∷◌, ◌++◌, length, refl, ap}
 use Rattle.system_core.specs.declared.machine.event.Entry.{Entry}
 use Rattle.load_core.specs.Loading.{lines_unmarked}
-use Rattle.load_core.specs.Loader.{line_at}
+use Rattle.load_core.specs.Loader.{line_at, lines_at}
 
 abbrev tail : List (List ℕ) → List (List ℕ)
 tail [] = []
 tail (line ∷ ls) = ls
 
 -- ---- the first line without its mark
--- the lines as they are read from a journal on
-abbrev pub lines_at : List Entry → List (List ℕ) → List (List ℕ)
-lines_at [] ls = lines_unmarked ls
-lines_at (e ∷ es) ls = ls
-
 pub lines_at-nil : (journal : List Entry) → lines_at journal [] ≡ []
 lines_at-nil [] = refl
 lines_at-nil (e ∷ es) = refl

@@ -39,7 +39,7 @@ each_open : (journal : List Entry) → AllByRecursion WasRead journal → AllByR
 each_open [] read = tt
 each_open (e ∷ es) read = (line_open e read.0, each_open es read.1)
 
-each_whole : (journal : List Entry) → AllByRecursion WasRead journal → map strip_carriage_return (journal_lines journal) ≡ journal_lines journal
+pub each_whole : (journal : List Entry) → AllByRecursion WasRead journal → map strip_carriage_return (journal_lines journal) ≡ journal_lines journal
 each_whole [] read = refl
 each_whole (e ∷ es) read =
     ap (λ (line : List ℕ). line ∷ map strip_carriage_return (journal_lines es)) (whole_line (journal_line e.user e.statement) (line_high e read.0))

@@ -52,11 +52,11 @@ lines_unmarked_is [] read = refl
 lines_unmarked_is (e ∷ es) read = ap (λ (line : List ℕ). line ∷ journal_lines es) (no_mark e.user e.statement (record { line = read.0.line; spelled = read.0.spelled; name = read.0.name }))
 
 -- ---- no verdict asks passes
-same_tables : (tables : List (Name × Table)) (journal : List Entry) → fold tables_with tables (map without_pass journal) ≡ fold tables_with tables journal
+pub same_tables : (tables : List (Name × Table)) (journal : List Entry) → fold tables_with tables (map without_pass journal) ≡ fold tables_with tables journal
 same_tables tables [] = refl
 same_tables tables (e ∷ es) = same_tables (tables_with tables e) es
 
-same_changes : (tables : List (Name × Table)) (journal : List Entry) → changes_from tables (map without_pass journal) ≡ changes_from tables journal
+pub same_changes : (tables : List (Name × Table)) (journal : List Entry) → changes_from tables (map without_pass journal) ≡ changes_from tables journal
 same_changes tables [] = refl
 same_changes tables (e ∷ es) = ap (λ (cs : List Change). change_of tables e.user e.statement ∷ cs) (same_changes (tables_with tables e) es)
 

@@ -3,6 +3,7 @@ pub mod Replaying
 pub mod Replayer
 pub mod Loader
 pub mod Whole
+pub mod Skipping
 pub mod FaultTexts
 pub mod Kept
 pub mod Ready

@@ -16,7 +16,7 @@ use Rattle.load_core.specs.declared.fault.Undone.TheVariants as reasons
 use Rattle.load_core.specs.declared.loading.Loaded.{Loaded}
 use Rattle.load_core.specs.declared.fault.LoadFault.{LoadFault}
 use Rattle.load_core.specs.declared.fault.LoadFault.TheVariants as faults
-use Rattle.load_core.specs.Loading.{SaysEntry, SaysChange, IsUndone, IsUndoneEntry, unmarked}
+use Rattle.load_core.specs.Loading.{SaysEntry, SaysChange, IsUndone, IsUndoneEntry, unmarked, lines_unmarked}
 
 -- what a loader has come to: the world, and why it stopped, if it did
 pub record LoaderState : Type 0 where
@@ -27,6 +27,11 @@ pub record LoaderState : Type 0 where
 abbrev pub line_at : List Entry → List ℕ → List ℕ
 line_at [] line = unmarked line
 line_at (e ∷ es) line = line
+
+-- the lines as they are read from a journal on
+abbrev pub lines_at : List Entry → List (List ℕ) → List (List ℕ)
+lines_at [] lines = lines_unmarked lines
+lines_at (e ∷ es) lines = lines
 
 -- what an entry comes to at a world: it is entered as an allowed change, or this is why it is not
 abbrev pub EntersEntry : World → Entry → Option Undone → World → Type 0

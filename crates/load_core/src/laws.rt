@@ -16,7 +16,7 @@ ghost use Rattle.load_core.specs.Loading.{Loads, SaysChange, IsUndone, lines_unm
 ghost use Rattle.load_core.specs.Replaying.{is_out_of_memory};
 ghost use Rattle.load_core.specs.declared.fault.Undone.{Undone};
 
-use base_core::Sink;
+use journal_core::Errands;
 
 /// The lines of a lawful journal load it, each entry but for its pass, which no line names, where
 /// the statement of each entry was read from some line, and its user's name is one. The text of the
@@ -41,11 +41,11 @@ pub fn lines_load_one_journal()
 
 /// A script whose changes are kept as lines is as good as its file: what the sink took is a text of
 /// whole lines, which load the journal that the script left, whatever else its lines said.
-pub fn script_is_kept<W: Sink>()
-    ensures { (chunk : ℕ) (new : World) (keeper keeper' : LineKeeperState W) (traffic : Traffic)
+pub fn script_is_kept<W: Errands>()
+    ensures { (chunk : ℕ) (new : World) (keeper keeper' : LineKeeperState) (traffic : Traffic)
         → keeper.owed ≡ None
-        → EndsKept (line_rules W.taken W.handed_on) chunk (Ok new) keeper keeper' traffic
-        → CanBeLoaded new.limits (W.taken keeper.sink) (W.taken keeper'.sink) new.journal }
+        → EndsKept (line_rules W.may_run W.knows) chunk (Ok new) keeper keeper' traffic
+        → CanBeLoaded new.limits keeper.taken keeper'.taken new.journal }
 {}
 
 /// No line that says a change which is allowed is left out: whatever a line came to that was not
@@ -74,29 +74,29 @@ pub fn gone_on_is_kept()
 /// So a core that goes on from what a file loaded, and whose changes are kept as lines behind that
 /// file, is as good as the file with them: what the sink took is a text of whole lines, and with it
 /// the file loads the core's journal, each of its new entries but for its pass.
-pub fn kept_goes_on<W: Sink>()
+pub fn kept_goes_on()
     ensures { (limits : Limits) (old : List ℕ) (start rest journal : List Entry)
-        (begun keeper : LineKeeperState W)
-        → KeepsAll (KeepsLine W.taken W.handed_on) begun (drop (length start) journal) keeper
+        (begun keeper : LineKeeperState)
+        → KeepsAll KeepsLine begun (drop (length start) journal) keeper
         → journal ≡ start ++ rest
         → IsLawful limits journal
         → IsWhole old
         → Loads limits [] (lines_unmarked (lines old)) start
-        → CanBeLoadedBehind limits old (W.taken begun.sink) (W.taken keeper.sink)
+        → CanBeLoadedBehind limits old begun.taken keeper.taken
         (start ++ map without_pass rest) }
 {}
 
 /// And so is a script that goes on from a core that was loaded, whose changes are kept as lines
 /// behind the file.
-pub fn gone_on_script_is_kept<W: Sink>()
-    ensures { (start new : World) (old : List ℕ) (keeper keeper' : LineKeeperState W)
+pub fn gone_on_script_is_kept<W: Errands>()
+    ensures { (start new : World) (old : List ℕ) (keeper keeper' : LineKeeperState)
         (traffic : Traffic)
         → keeper.owed ≡ None
         → IsLawfulWorld start
         → IsWhole old
         → Loads start.limits [] (lines_unmarked (lines old)) start.journal
-        → EndsKeptFrom (line_rules W.taken W.handed_on) start (Ok new) keeper keeper' traffic
-        → CanBeLoadedBehind start.limits old (W.taken keeper.sink) (W.taken keeper'.sink)
+        → EndsKeptFrom (line_rules W.may_run W.knows) start (Ok new) keeper keeper' traffic
+        → CanBeLoadedBehind start.limits old keeper.taken keeper'.taken
         new.journal }
 {}
 
@@ -120,13 +120,13 @@ pub fn cut_end_is_kept()
 /// And so does a file behind which a keeper kept changes as lines, and owes what is left of one more.
 /// With what its sink took, the file's whole lines load the journal that was kept; and only if it took
 /// all of that line, behind the journal the one change that is owed, of which nobody was told.
-pub fn told_is_loaded<W: Sink>()
+pub fn told_is_loaded()
     ensures { (limits : Limits) (old : List ℕ) (start kept : List Entry) (e : Entry)
-        (begun mid keeper : LineKeeperState W)
-        → KeepsAll (KeepsLine W.taken W.handed_on) begun kept mid
-        → OwesLine W.taken mid e keeper
+        (begun mid keeper : LineKeeperState)
+        → KeepsAll KeepsLine begun kept mid
+        → OwesLine mid e keeper
         → IsLawful limits (start ++ kept ++ e ∷ [])
         → IsWhole old
         → Loads limits [] (lines_unmarked (lines old)) start
-        → CanBeLoadedCut limits old (W.taken begun.sink) (W.taken keeper.sink) start kept e }
+        → CanBeLoadedCut limits old begun.taken keeper.taken start kept e }
 {}

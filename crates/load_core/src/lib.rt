@@ -17,6 +17,9 @@
 //!                                                // Err(Line { number: 2, why: NoChange })
 //! ```
 //!
+//! [`load_behind`] goes on from a core by the whole lines of a file behind its first so many, for a journal
+//! that stands in several files.
+//!
 //! [`replay`] goes on from a core by the lines of a journal or of a script, for the sake of their
 //! changes: a line that says no allowed change is left out, which is counted and told of the first
 //! ([`left_out_text`]); a journal's last line that was cut off is refused, or dropped and told
@@ -51,6 +54,7 @@
 //! core, of one piece of 65,536 bytes, and of the tokens of a line.
 #![tactic(auto)]
 
+mod behind;
 mod fault;
 mod fault_text;
 mod laws;
@@ -64,6 +68,7 @@ mod replaying;
 mod silence;
 mod whole;
 
+pub use behind::{LoadedBehind, load_behind};
 pub use fault::{LoadFault, Undone};
 pub use fault_text::load_fault_text;
 pub use laws::{

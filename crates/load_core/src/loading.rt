@@ -17,7 +17,7 @@ use std::alloc::Global;
 use system_core::System;
 
 /// The fault of a reader, or of what is made before the first read.
-fn load_fault(fault: SessionFault) -> LoadFault
+pub(crate) fn load_fault(fault: SessionFault) -> LoadFault
     requires { fault ≡ SessionFault.Write → ⊥ }
     ensures { IsToldOf fault result }
 {

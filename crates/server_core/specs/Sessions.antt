@@ -1,5 +1,6 @@
 -- What becomes of the passes of a server: workers go on with sessions through theirs, the checkpointer's
--- goes through looks at the active checkpoint, and nothing else is done through them.
+-- goes through looks at the active checkpoint, the tender's through looks at what is kept and CHECKPOINTs,
+-- and nothing else is done through them.
 use Rattle.std.specs.Prelude.{◌≡◌, ◌⊎◌, ℕ, ◌+◌, List, [], ◌∷◌, ◌++◌, map, sum_by, All, Option, Some, None}
 use Rattle.base_core.specs.declared.name.User.{User}
 use Rattle.lines_core.specs.Serving.{Traffic, traffic_of}
@@ -12,6 +13,7 @@ use Rattle.desk_core.specs.Guarded.{DeskLock, DeskPass, DeskNote, origin_of, ori
 use Rattle.desk_core.specs.Turns.{Ended}
 use Rattle.session_core.specs.Checking.{LooksRepeatedly}
 use Rattle.session_core.specs.Gains.{Watches}
+use Rattle.session_core.specs.Tending.{Tends}
 use Rattle.session_core.specs.declared.admission.Admission.{Admission}
 use Rattle.session_core.specs.Machines.{Protocol}
 use Rattle.session_core.specs.Parking.{GainsFor, pass_note}
@@ -69,6 +71,10 @@ abbrev pub IsCheckpointers : {K : Type 0} → List Entry → DeskLock K → Desk
 IsCheckpointers journal desk pass =
     LooksRepeatedly desk (new_pass journal desk pass.number) pass
 
+-- since the desk was built, what is kept of changes was tended through the pass, and nothing else was done
+abbrev pub IsTenders : {K : Type 0} → List Entry → DeskLock K → DeskPass K → Type 0
+IsTenders journal desk pass = Tends desk (new_pass journal desk pass.number) pass
+
 -- By which protocol sessions go, and how they come by their users.
 module _ {K : Type 0} (protocol : Protocol K) (by : Admittance) where
   -- Where they are answered at this desk.
@@ -124,25 +130,28 @@ module _ {K : Type 0} (protocol : Protocol K) (by : Admittance) where
   IsWorkers journal desk worker =
       Attended desk (new_worker journal desk worker.pass.number) worker
 
-  -- passes of workers, who served so many sessions of the entrance in all, and behind them the
-  -- checkpointer's
+  -- passes of workers, who served so many sessions of the entrance in all, and behind them the tender's
+  -- and the checkpointer's
   pub record AreServers (journal : List Entry) (desk : DeskLock K) (sessions : ℕ)
       (passes : List (DeskPass K)) : Type 0 where
     pub workers : List (Working K)
+    pub tender : DeskPass K
     pub checkpointer : DeskPass K
-    pub passes_are : passes ≡ map (λ (w : Working K). w.pass) workers ++ checkpointer ∷ []
+    pub passes_are : passes
+        ≡ map (λ (w : Working K). w.pass) workers ++ tender ∷ checkpointer ∷ []
     pub sessions_are : sum_by (λ (w : Working K). w.sessions) workers ≡ sessions
     pub served : All (IsWorkers journal desk) workers
+    pub tended : IsTenders journal desk tender
     pub checked : IsCheckpointers journal desk checkpointer
 
   -- The world that a server leaves which was built on the world start, and served so many sessions that came
-  -- in at the entrance: that of a desk with a pass for each of so many workers and one for the checkpointer,
-  -- which was closed with all its passes. So its journal begins with that of start, and each other entry was
+  -- in at the entrance: that of a desk with a pass for each of so many workers, one for the tender and one for
+  -- the checkpointer, which was closed with all its passes. So its journal begins with that of start, and each other entry was
   -- made in one of these sessions.
   pub record Leaves (workers sessions : ℕ) (keeper : K) (start world : World) : Type 0 where
     pub desk : DeskLock K
     pub passes : List (DeskPass K)
-    pub count_is : desk.count ≡ workers + 1
+    pub count_is : desk.count ≡ workers + 2
     pub start_is : desk.start ≡ 0
     pub origin_is : origin_of desk ≡ origin_at start keeper
     pub all : AreAll desk passes

@@ -1,14 +1,16 @@
-//! Who looks on at the checkpointer.
+//! Who looks on at the checkpointer and the tender.
 
 use crate::bell::Bell;
 use crate::counters::Counters;
-use base_core::Gate;
+use base_core::{Gate, User};
 use session_core::Witness;
 use std::cell::Cell;
 use std::sync::Wait;
 use std::time::Clock;
+use system_core::Reply;
 
-/// One who has the checkpointer rest until the bell is rung, and counts how often it looked.
+/// One who has the checkpointer rest until the bell is rung, and counts how often it looked. For a checkpoint that
+/// the tender has begun he rings it.
 #[derive(Drop)]
 pub struct Lookout<'a, R> {
     rt: &'a R,
@@ -36,6 +38,13 @@ impl<'a, R: Wait> Gate for Lookout<'a, R> {
 }
 
 impl<'a, R: Wait> Witness for Lookout<'a, R> {
+    fn replied(&self, _user: &User, reply: &Reply) {
+        match reply {
+            Reply::Begun { .. } => self.bell.ring(),
+            _ => {}
+        }
+    }
+
     fn rest<T: Clock>(&self, _clock: &T) {
         self.counters.looked();
         self.rings.set(self.bell.wait(self.rt, self.rings.get()));

@@ -1,5 +1,5 @@
 //! Nothing is told before it is durable, where that is asked for.
-ghost use Rattle.std.specs.Prelude.{◌≡◌, ◌≤◌, ℕ, length, Some, IfOk, OnOk};
+ghost use Rattle.std.specs.Prelude.{◌≡◌, ◌≤◌, ℕ, length, Some, true, false, IfOk, OnOk};
 ghost use Rattle.desk_core.specs.Guarded.{DeskLock, origin_of};
 ghost use Rattle.session_core.specs.Gains.{Watches};
 ghost use Rattle.server_core.specs.Sessions.{IsOf};
@@ -13,7 +13,7 @@ use lines_core::SessionFault;
 use session_core::SessionEnd;
 use std::marker::{Model, PhantomData};
 use std::sync::atomic::{AtomicBool, Ordering};
-use std::sync::{Mutex, Wait};
+use std::sync::{Condvar, Mutex, Wait};
 
 /// What a pass had seen, all of which is durable, where that is asked for: who has this may tell a client of
 /// it. Contracts see the entries.
@@ -69,12 +69,21 @@ impl<K: Keeper + Drop, I: Instance<K>> Progress<K, I> {
     }
 }
 
+/// How far the journal is durable, and whether somebody syncs it.
+#[derive(Drop)]
+struct Standing<K: Keeper + Drop, I: Instance<K>> {
+    progress: Option<Progress<K, I>>,
+    is_syncing: bool,
+}
+
 /// Sees to it that nothing is told before it is durable. Who waits for a sync waits for the one that runs,
-/// and for the next, which is of all that was kept by then: so one sync serves all who wait.
+/// and for the next, which is of all that was kept by then: so one sync serves all who wait. The first of
+/// them makes it.
 #[derive(Drop)]
 pub(crate) struct Syncing<K: Keeper + Drop, I: Instance<K>> {
     syncer: I::Syncer,
-    progress: Mutex<Option<Progress<K, I>>>,
+    standing: Mutex<Standing<K, I>>,
+    synced: Condvar,
     is_lost: AtomicBool,
 }
 
@@ -82,7 +91,11 @@ impl<K: Keeper + Drop, I: Instance<K>> Syncing<K, I> {
     pub(crate) fn new(syncer: I::Syncer) -> Syncing<K, I> {
         Syncing {
             syncer,
-            progress: Mutex::new(None),
+            standing: Mutex::new(Standing {
+                progress: None,
+                is_syncing: false,
+            }),
+            synced: Condvar::new(),
             is_lost: AtomicBool::new(false),
         }
     }
@@ -123,27 +136,53 @@ impl<K: Keeper + Drop, I: Instance<K>> Syncing<K, I> {
         })
     }
 
-    /// How far the journal is durable, once all is that the pass had seen, which are so many entries: as far as
-    /// it was before, if that is enough.
-    fn go_on<R: Wait>(
+    /// Waits until all is durable that the pass had seen, which are so many entries, or until nobody syncs. Whether
+    /// all of it is: else it is for the caller to sync now. `Broken` where a sync failed.
+    fn is_reached<R: Wait>(
         &self,
         rt: &R,
         desk: &Desk<K>,
         pass: &mut Pass<K>,
         count: u64,
-        before: Option<Progress<K, I>>,
-    ) -> Result<Progress<K, I>, Broken>
+    ) -> Result<bool, Broken>
         requires desk { I.desk ≡ Some desk.now }
         requires pass { IsOf desk.now pass.old }
         requires count { count ≡ length pass.old.seen }
         ensures watched { Watches pass.old pass.new }
-        ensures synced { OnOk result
-            (∥ IsDurable K.Keeper I.Syncer.durable (origin_of desk.now) pass.old.seen ∥₁) }
+        ensures same { IfOk result (λ reached. reached ≡ false → pass.new ≡ pass.old) }
+        ensures synced { IfOk result (λ reached. reached ≡ true
+            → ∥ IsDurable K.Keeper I.Syncer.durable (origin_of desk.now) pass.old.seen ∥₁) }
     {
-        match before {
-            Some(reached) if count <= reached.count => Ok(reached.meet(desk, pass)),
-            _ => self.sync(rt, desk, pass),
+        let mut standing = self.standing.lock(rt);
+        for _ in rt.forever() {
+            if self.is_lost.load(Ordering::SeqCst) {
+                return Err(Broken);
+            }
+            match standing.progress.take() {
+                Some(reached) if count <= reached.count => {
+                    standing.progress = Some(reached.meet(desk, pass));
+                    return Ok(true);
+                }
+                before => standing.progress = before,
+            }
+            if !standing.is_syncing {
+                standing.is_syncing = true;
+                return Ok(false);
+            }
+            standing = self.synced.wait(rt, standing);
         }
+        unreachable!()
+    }
+
+    /// Who synced has come so far, if he could, and others may sync.
+    fn let_others<R: Wait>(&self, rt: &R, reached: Option<Progress<K, I>>) {
+        let mut standing = self.standing.lock(rt);
+        standing.is_syncing = false;
+        if reached.is_some() {
+            standing.progress = reached;
+        }
+        drop(standing);
+        self.synced.notify_all();
     }
 
     /// Waits until all is durable that the pass had seen, which are so many entries. `Broken` where a sync
@@ -162,19 +201,18 @@ impl<K: Keeper + Drop, I: Instance<K>> Syncing<K, I> {
         ensures synced { OnOk result
             (∥ IsDurable K.Keeper I.Syncer.durable (origin_of desk.now) pass.old.seen ∥₁) }
     {
-        let mut progress = self.progress.lock(rt);
-        if self.is_lost.load(Ordering::SeqCst) {
-            return Err(Broken);
+        if self.is_reached(rt, desk, pass, count)? {
+            return Ok(());
         }
-        let before = progress.take();
-        match self.go_on(rt, desk, pass, count, before) {
+        match self.sync(rt, desk, pass) {
             Ok(reached) => {
-                *progress = Some(reached);
+                self.let_others(rt, Some(reached));
                 Ok(())
             }
             Err(Broken) => {
                 // No later sync would say what is on the disk.
                 self.is_lost.store(true, Ordering::SeqCst);
+                self.let_others(rt, None);
                 Err(Broken)
             }
         }

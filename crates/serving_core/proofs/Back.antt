@@ -8,7 +8,9 @@ use Rattle.system_core.specs.declared.machine.event.Entry.{Entry}
 use Rattle.desk_core.specs.Guarded.{DeskLock, DeskPass}
 use Rattle.session_core.specs.Machines.{Protocol}
 use Rattle.door_core.specs.Entrance.{Admittance}
-use Rattle.server_core.specs.Sessions.{Working, IsWorkers, IsCheckpointers, AreServers}
+use Rattle.server_core.specs.Sessions.{Working, IsWorkers, AreServers}
+use Rattle.serving_core.specs.declared.own_passes.OwnPasses.{OwnPasses}
+use Rattle.serving_core.specs.Promises.{AreOwn}
 
 -- workers who have come back, with their passes, and how many sessions they served in all
 pub record AreBack {K : Type 0} (protocol : Protocol K) (by : Admittance) (journal : List Entry) (desk : DeskLock K) (passes : List (DeskPass K)) (sessions : ℕ) : Type 0 where
@@ -32,14 +34,16 @@ back_more {K = K} protocol by journal desk passes sessions w b served = record {
   served = All-push (IsWorkers protocol by journal desk) b.workers w b.served served;
 }
 
--- and all have, with the checkpointer's pass
-pub back_all : {K : Type 0} (protocol : Protocol K) (by : Admittance) (journal : List Entry) (desk : DeskLock K) (passes : List (DeskPass K)) (sessions : ℕ) (own : DeskPass K) → AreBack protocol by journal desk passes sessions → IsCheckpointers journal desk own
-    → AreServers protocol by journal desk sessions (passes ++ own ∷ [])
-back_all protocol by journal desk passes sessions own b looked = record {
+-- and all have, with the passes of the server's own threads
+pub back_all : {K : Type 0} (protocol : Protocol K) (by : Admittance) (journal : List Entry) (desk : DeskLock K) (passes : List (DeskPass K)) (sessions : ℕ) (own : OwnPasses K) → AreBack protocol by journal desk passes sessions → AreOwn journal desk own
+    → AreServers protocol by journal desk sessions (passes ++ own.tender ∷ own.checkpointer ∷ [])
+back_all protocol by journal desk passes sessions own b done = record {
   workers = b.workers;
-  checkpointer = own;
-  passes_are = ap (λ ps. ps ++ own ∷ []) b.passes_are;
+  tender = own.tender;
+  checkpointer = own.checkpointer;
+  passes_are = ap (λ ps. ps ++ own.tender ∷ own.checkpointer ∷ []) b.passes_are;
   sessions_are = b.sessions_are;
   served = b.served;
-  checked = looked;
+  tended = done.0;
+  checked = done.1;
 }

@@ -17,7 +17,9 @@ use Rattle.session_core.specs.declared.admission.Admission.{Admission}
 use Rattle.session_core.specs.Machines.{Protocol, Right}
 use Rattle.session_core.specs.Parking.{GainsFor, pass_note}
 use Rattle.door_core.specs.Entrance.{Admittance}
-use Rattle.server_core.specs.Sessions.{Working, new_pass, new_worker, Attends, Attended, nobody, admitted, went_on, watched, nothing_known, IsWorkers, IsCheckpointers, AreServers, Leaves}
+use Rattle.server_core.specs.Sessions.{Working, new_pass, new_worker, Attends, Attended, nobody, admitted, went_on, watched, nothing_known, IsWorkers, IsTenders, IsCheckpointers, AreServers, Leaves}
+use Rattle.session_core.specs.Gains.{Watches}
+use Rattle.session_core.proofs.Tended.{tends_watches}
 use Rattle.serving_core.specs.Rightful.{IsByRight}
 use Rattle.serving_core.proofs.PassLemmas.{checks_watch}
 
@@ -75,17 +77,19 @@ AddsToJournal right by journal pass = Adds right by (own asked_by pass.number jo
 worker_adds : {K : Type 0} (right : Right) (protocol : Protocol K) (rightful : IsRightful right protocol) (by : Admittance) (journal : List Entry) (desk : DeskLock K) (w : Working K) → IsWorkers protocol by journal desk w → AddsToJournal right by journal w.pass
 worker_adds right protocol rightful by journal desk w served = attended_adds right protocol rightful by desk (new_worker journal desk w.pass.number) w served
 
-checkpointer_adds : {K : Type 0} (right : Right) (by : Admittance) (journal : List Entry) (desk : DeskLock K) (pass : DeskPass K) → IsCheckpointers journal desk pass → AddsToJournal right by journal pass
-checkpointer_adds right by journal desk pass looked =
-    let look = checks_watch desk (new_pass journal desk pass.number) pass looked in
+watcher_adds : {K : Type 0} (right : Right) (by : Admittance) (journal : List Entry) (desk : DeskLock K) (pass : DeskPass K) → Watches (new_pass journal desk pass.number) pass → AddsToJournal right by journal pass
+watcher_adds right by journal desk pass look =
     ∣ ([], look.mine_is ∙ sym (append-nil (own asked_by pass.number journal)), All-nil (Rightful right by)) ∣₁
 
 servers_add : {K : Type 0} (right : Right) (protocol : Protocol K) (rightful : IsRightful right protocol) (by : Admittance) (journal : List Entry) (desk : DeskLock K) (sessions : ℕ) (passes : List (DeskPass K)) → AreServers protocol by journal desk sessions passes → All (AddsToJournal right by journal) passes
 servers_add {K = K} right protocol rightful by journal desk sessions passes s =
     let workers = All-map (AddsToJournal right by journal) (λ (w : Working K). w.pass) s.workers
     (All-weaker (IsWorkers protocol by journal desk) (λ w. AddsToJournal right by journal w.pass) (worker_adds right protocol rightful by journal desk) s.workers s.served) in
+    let tender = watcher_adds right by journal desk s.tender (tends_watches desk (new_pass journal desk s.tender.number) s.tender s.tended) in
+    let checkpointer = watcher_adds right by journal desk s.checkpointer (checks_watch desk (new_pass journal desk s.checkpointer.number) s.checkpointer s.checked) in
+    let own = All-cons (AddsToJournal right by journal) s.tender (s.checkpointer ∷ []) tender (All-cons (AddsToJournal right by journal) s.checkpointer [] checkpointer (All-nil (AddsToJournal right by journal))) in
     subst (All (AddsToJournal right by journal)) (sym s.passes_are)
-    (All-push (AddsToJournal right by journal) (map (λ (w : Working K). w.pass) s.workers) s.checkpointer workers (checkpointer_adds right by journal desk s.checkpointer s.checked))
+    (All-append (AddsToJournal right by journal) (map (λ (w : Working K). w.pass) s.workers) (s.tender ∷ s.checkpointer ∷ []) workers own)
 
 -- what is true of what each number keeps of the entries is true of all
 module _ (P : Entry → Type 0) (count : ℕ) where

@@ -44,6 +44,7 @@ use Rattle.server_core.specs.contracts.guest.Stage as Stage
 use Rattle.server_core.specs.contracts.sessions.Sessions as Sessions
 use Rattle.server_core.specs.contracts.service.Service as Service
 use Rattle.server_core.specs.contracts.syncing.Progress as Progress
+use Rattle.server_core.specs.contracts.syncing.Standing as Standing
 use Rattle.server_core.specs.contracts.syncing.Syncing as Syncing
 use Rattle.journal_core.specs.declared.syncs.Syncs as syncs
 use Rattle.server_core.specs.contracts.worker.Worker as Worker
@@ -94,8 +95,11 @@ module _ (K I M Y : RattleType) (k : keeper.Ghosts K.Denot) (send_keeper : IsSen
   progress_send : IsSend (Progress.the_row K I M Y k i m y)
   progress_send = let core = core_send K k send_keeper in search (sendable, crosses, declared_send, notes.the_send) depth 60 fits 20000
 
+  standing_send : IsSend (Standing.the_row K I M Y k i m y)
+  standing_send = let progress = progress_send in search (sendable, crosses, declared_send) depth 60 fits 20000
+
   syncing_sync : IsSync (Syncing.the_row K I M Y k i m y)
-  syncing_sync = let progress = progress_send in search (sendable, crosses, declared_sync) depth 60 fits 20000
+  syncing_sync = let standing = standing_send in search (sendable, crosses, declared_sync) depth 60 fits 20000
 
   pub service_sync : (entrance : NamedLft) → IsSync (Service.the_row entrance K I M Y k i m y)
   service_sync entrance =

@@ -1,7 +1,9 @@
 //! How passes and tokens are dealt to the threads of a server, and gathered again.
 ghost use Rattle.std.specs.Prelude.{◌≡◌, ◌+◌, ◌≤◌, length, All, IfOk};
-ghost use Rattle.server_core.specs.Sessions.{IsNew, IsNewWorker, IsWorkers, IsCheckpointers, AreServers};
+ghost use Rattle.server_core.specs.Sessions.{IsNew, IsNewWorker, IsWorkers, AreServers};
+ghost use Rattle.serving_core.specs.Promises.{AreOwn};
 
+use crate::own_passes::OwnPasses;
 use base_core::NoMemory;
 use desk_core::{Desk, Pass};
 use door_core::Entrance;
@@ -40,20 +42,20 @@ pub fn workers_of<K: Keeper + Drop, L: Ledger>(
     Ok(workers)
 }
 
-/// The passes of the workers, with the checkpointer's behind them, and all of the token: it counts the
-/// sessions that they served. `NoMemory` where a request for memory was refused.
+/// The passes of the workers, with those of the server's own threads behind them, and all of the token: it
+/// counts the sessions that they served. `NoMemory` where a request for memory was refused.
 pub fn gathered<K: Keeper + Drop, L: Ledger, M: SessionMachine<K>>(
     alloc: Global,
     desk: &Desk<K>,
     entrance: &Entrance,
     begun: &Snapshot<System>,
     workers: Vec<Worker<K, L>>,
-    own: Pass<K>,
+    own: OwnPasses<K>,
     rest: Share<L>,
 ) -> Result<(Vec<Pass<K>>, Share<L>), NoMemory>
     requires workers { All (IsWorkers M.protocol entrance.now begun.now.value.journal desk.now)
         workers.items }
-    requires own { IsCheckpointers begun.now.value.journal desk.now own }
+    requires own { AreOwn begun.now.value.journal desk.now own }
     requires nothing { rest.amount ≡ 0 }
     ensures servers { IfOk result
         (λ b. AreServers M.protocol entrance.now begun.now.value.journal desk.now b.1.amount
@@ -68,6 +70,11 @@ pub fn gathered<K: Keeper + Drop, L: Ledger, M: SessionMachine<K>>(
         all.merge(token);
         passes.push(pass)?;
     }
-    passes.push(own)?;
+    let OwnPasses {
+        tender,
+        checkpointer,
+    } = own;
+    passes.push(tender)?;
+    passes.push(checkpointer)?;
     Ok((passes, all))
 }

@@ -14,22 +14,21 @@ ghost use Rattle.serving_core.specs.Rightful.{IsByRight};
 ghost use Rattle.load_core.specs.Kept.{CanBeLoadedBehind};
 ghost use Rattle.load_core.specs.Loading.{Loads, lines_unmarked, without_pass};
 
-use base_core::Sink;
-use journal_core::Keeper;
+use journal_core::{Errands, Keeper};
 use session_core::SessionMachine;
 
 /// A file goes on through servers. What [`serve_on`](crate::serve_on) kept as lines, behind a file
 /// that loads the journal which the server began with, loads with it the journal that the server
 /// left, each new entry but for its pass, where nothing is owed.
-pub fn gone_on_server_is_kept<W: Sink>()
+pub fn gone_on_server_is_kept<W: Errands>()
     ensures { (by : Admittance) (workers sessions : ℕ) (start world : World) (old : List ℕ)
-        (begun keeper : LineKeeperState W)
+        (begun keeper : LineKeeperState)
         → Leaves SpeaksServed by workers sessions begun start world
-        → HasKept (line_rules W.taken W.handed_on) (origin_at start begun) world.journal keeper
+        → HasKept (line_rules W.may_run W.knows) (origin_at start begun) world.journal keeper
         → keeper.owed ≡ None
         → IsWhole old
         → Loads world.limits [] (lines_unmarked (lines old)) start.journal
-        → CanBeLoadedBehind world.limits old (W.taken begun.sink) (W.taken keeper.sink)
+        → CanBeLoadedBehind world.limits old begun.taken keeper.taken
         (start.journal ++ map without_pass (gained start.journal world.journal)) }
 {}
 

@@ -17,7 +17,8 @@
 //!
 //! # Mechanism
 //!
-//! A desk is built with a pass for each worker and one for the checkpointer. Each worker has
+//! A desk is built with a pass for each worker, one for the checkpointer, and one for a
+//! [`Tender`](session_core::Tender), who tends what is kept of changes. Each worker has
 //! besides one part of a token that takes no bytes, to which the door adds one for each session
 //! that it admits. When all threads have ended their passes close the desk, and all parts of the
 //! token together count what the door has taken. So the number that is told is that of the sessions
@@ -29,11 +30,12 @@
 //!
 //! # Cost
 //!
-//! A thread for each worker, and one that looks after checkpoints.
+//! A thread for each worker, one that looks after checkpoints, and one of the tender.
 #![tactic(auto)]
 
 mod dealing;
 mod laws;
+mod own_passes;
 mod serving;
 mod threads;
 

@@ -6,9 +6,11 @@ ghost use Rattle.desk_core.specs.Kept.{HasKept};
 ghost use Rattle.desk_core.specs.Turns.{Ended};
 ghost use Rattle.server_core.specs.Sessions.{IsOf, IsOfInstance, IsNew, AreServers, Leaves};
 ghost use Rattle.load_core.specs.Ready.{IsReady};
+ghost use Rattle.serving_core.specs.Promises.{AreNew};
 ghost use Rattle.serving_core.specs.Protocols.{SpeaksServed};
 
 use crate::dealing::{gathered, workers_of};
+use crate::own_passes::OwnPasses;
 use crate::threads::serve_all;
 use base_core::Moment;
 use desk_core::{Desk, Pass};
@@ -16,7 +18,7 @@ use door_core::{Door, Entrance, Log, Manners, ServeFault, SharedLog, Taken};
 use either_core::EitherSession;
 use journal_core::{Keeper, Syncs};
 use server_core::{AtSite, Control, Service, Site};
-use session_core::{Parked, SessionMachine};
+use session_core::{Parked, SessionMachine, Tender};
 use std::alloc::Global;
 use std::io::Write;
 use std::marker::Brand;
@@ -39,18 +41,19 @@ fn processors<R: Threads>(rt: &R) -> usize {
     }
 }
 
-/// Serves sessions through these passes, and gives them back with the checkpointer's behind them, and all
-/// of the token.
-fn serve_dealt<K, L, S, M, Y, R, G, C>(
+/// Serves sessions through these passes, and gives them back with those of the server's own threads behind
+/// them, and all of the token.
+fn serve_dealt<K, L, S, M, Y, T, R, G, C>(
     rt: &R,
     alloc: Global,
     desk: &Desk<K>,
     begun: &Snapshot<System>,
     passes: Vec<Pass<K>>,
-    own: Pass<K>,
+    own: OwnPasses<K>,
     rest: Share<L>,
     service: &Service<'_, K, AtSite<S, M, Y>>,
     door: &Mutex<Door<L>>,
+    tender: &T,
     log: &G,
     control: &C,
 ) -> Result<(Vec<Pass<K>>, Share<L>), ServeFault>
@@ -60,12 +63,14 @@ where
     S: Site<K> + Send + Sync,
     M: SessionMachine<K> + Send,
     Y: Syncs<K> + Send + Sync,
+    T: Tender<K> + Sync,
     R: Threads + Wait + Clock + Sync,
     G: Log + Sync,
     C: Control,
     requires instance { IsOfInstance S.desk S.by desk.now service.now.entrance.now }
     requires new { All (IsNew begun.now.value.journal desk.now) passes.items }
-    requires own { IsNew begun.now.value.journal desk.now own }
+    requires own { AreNew begun.now.value.journal desk.now own }
+    requires begins { T.may_begin tender.now begun.now.value.journal (origin_of desk.now) }
     requires parts { (rest.parts ≡ L.parts) × (L.parts ≡ length passes.items + 1) }
     requires nothing { rest.amount ≡ 0 }
     ensures servers { IfOk result
@@ -78,7 +83,7 @@ where
     let mut rest = rest;
     let dealt = workers_of(alloc, desk, begun, passes, &mut rest)?;
     let (back, own) = serve_all(
-        rt, alloc, desk, begun, dealt, own, service, door, log, control, &stop,
+        rt, alloc, desk, begun, dealt, own, service, door, tender, log, control, &stop,
     )?;
     if back.len() != workers {
         return Err(ServeFault::NoMemory);
@@ -87,9 +92,9 @@ where
     Ok(gathered::<K, L, M>(alloc, desk, entrance, begun, back, own, rest)?)
 }
 
-/// Serves so many sessions of the entrance through these passes, of which the last is the
-/// checkpointer's, and gives their number and the passes.
-fn serve_through<K, L, S, M, Y, R, G, C>(
+/// Serves so many sessions of the entrance through these passes, of which the last two are the tender's and
+/// the checkpointer's, and gives their number and the passes.
+fn serve_through<K, L, S, M, Y, T, R, G, C>(
     rt: &R,
     alloc: Global,
     blank: Blank,
@@ -100,6 +105,7 @@ fn serve_through<K, L, S, M, Y, R, G, C>(
     entrance: &Entrance,
     sessions: u64,
     syncer: Y,
+    tender: &T,
     manners: Manners,
     moment: Moment,
     log: &G,
@@ -111,6 +117,7 @@ where
     S: Site<K> + Send + Sync,
     M: SessionMachine<K> + Send,
     Y: Syncs<K> + Send + Sync,
+    T: Tender<K> + Sync,
     R: Threads + Wait + Clock + Sync,
     G: Log + Sync,
     C: Control,
@@ -118,15 +125,23 @@ where
     requires name { blank.name ≡ L.name }
     requires parts { (blank.parts ≡ L.parts) × (L.parts ≡ workers + 1) }
     requires new { All (IsNew begun.now.value.journal desk.now) passes.items }
-    requires passes { length passes.items ≡ workers + 1 }
+    requires begins { T.may_begin tender.now begun.now.value.journal (origin_of desk.now) }
+    requires passes { length passes.items ≡ workers + 2 }
     ensures count { IfOk result (λ b. b.0.stopped ≡ false → b.0.sessions ≡ sessions) }
     ensures servers { IfOk result
         (λ b. AreServers M.protocol entrance.now begun.now.value.journal desk.now b.0.sessions
         b.1.items) }
 {
     let mut passes = passes;
-    let Some(own) = passes.pop() else {
+    let Some(checkpointer) = passes.pop() else {
         return Err(ServeFault::NoMemory);
+    };
+    let Some(tenders) = passes.pop() else {
+        return Err(ServeFault::NoMemory);
+    };
+    let own = OwnPasses {
+        tender: tenders,
+        checkpointer,
     };
     let machines = processors(rt);
     let service = Service::<K, AtSite<S, M, Y>>::new(
@@ -135,7 +150,7 @@ where
     let (book, rest) = blank.open::<L>();
     let door = Mutex::new(Door::new(sessions, book));
     let served = serve_dealt(
-        rt, alloc, desk, begun, passes, own, rest, &service, &door, log, control,
+        rt, alloc, desk, begun, passes, own, rest, &service, &door, tender, log, control,
     );
     // (each destructor is called once, where it would be unrolled at each exit)
     drop(service);
@@ -189,7 +204,7 @@ fn close<K: Keeper + Drop>(
 }
 
 /// As [`serve_on`], with a blank token of one part for each thread.
-fn serve_sessions<K, L, M, Y, R, G, C>(
+fn serve_sessions<K, L, M, Y, T, R, G, C>(
     rt: &R,
     alloc: Global,
     blank: Blank,
@@ -199,6 +214,7 @@ fn serve_sessions<K, L, M, Y, R, G, C>(
     system: System,
     keeper: K,
     syncer: Y,
+    tender: &T,
     manners: Manners,
     log: &G,
     control: &C,
@@ -208,6 +224,7 @@ where
     L: Ledger + Send + Sync,
     M: SessionMachine<K> + Send,
     Y: Syncs<K> + Send + Sync,
+    T: Tender<K> + Sync,
     R: Threads + Wait + Clock + Sync,
     G: Log + Sync,
     C: Control,
@@ -216,6 +233,7 @@ where
     requires workers { (0 < workers) × (workers ≤ 16) }
     requires ready { IsReady system }
     requires settled { K.owing keeper ≡ false }
+    requires begins { T.may_begin tender.now system.journal (origin_at system keeper) }
     ensures count { IfOk result
         (λ served. served.taken.stopped ≡ false → served.taken.sessions ≡ sessions) }
     ensures leaves { IfOk result
@@ -226,10 +244,10 @@ where
 {
     let begun = Snapshot::of(&system);
     let moment = system.moment();
-    let (desk, passes) = Desk::build(alloc, system, keeper, workers + 1)?;
-    match serve_through::<K, L, Brand, M, Y, R, G, C>(
-        rt, alloc, blank, &desk, &begun, passes, workers, entrance, sessions, syncer, manners,
-        moment, log, control,
+    let (desk, passes) = Desk::build(alloc, system, keeper, workers + 2)?;
+    match serve_through::<K, L, Brand, M, Y, T, R, G, C>(
+        rt, alloc, blank, &desk, &begun, passes, workers, entrance, sessions, syncer, tender,
+        manners, moment, log, control,
     ) {
         Ok((taken, passes)) => close(desk, passes, taken),
         Err(fault) => {
@@ -241,7 +259,8 @@ where
 }
 
 /// Serves so many sessions that come in at the entrance, by so many threads, from 1 to 16, beside
-/// one that takes the steps of checkpoints, of so many records as the core's chunk says. Where
+/// one that takes the steps of checkpoints, of so many records as the core's chunk says, and one by which
+/// the tender tends what is kept of changes. Where
 /// clients have to log in, a session is one that was proved to be its user's. They begin with this
 /// core, and the keeper keeps each change before its reply is written; where the syncer is asked for it,
 /// what a client is told is durable before it is sent. Behind the last session that
@@ -266,7 +285,7 @@ where
 /// nobody is told anything any more, and each session that would be ends with `journal`. `NoMemory`
 /// where a request for memory was refused or a thread could not be started, before the first
 /// session or behind the last.
-pub fn serve_on<K, Y, R, W, C>(
+pub fn serve_on<K, Y, T, R, W, C>(
     rt: &R,
     alloc: Global,
     entrance: &Entrance,
@@ -275,6 +294,7 @@ pub fn serve_on<K, Y, R, W, C>(
     system: System,
     keeper: K,
     syncer: Y,
+    tender: &T,
     manners: Manners,
     err: &mut W,
     control: &C,
@@ -282,12 +302,14 @@ pub fn serve_on<K, Y, R, W, C>(
 where
     K: Keeper + Drop + Send,
     Y: Syncs<K> + Send + Sync,
+    T: Tender<K> + Sync,
     R: Threads + Wait + Clock + Sync,
     W: Write + Send,
     C: Control,
     requires workers { (0 < workers) × (workers ≤ 16) }
     requires ready { IsReady system }
     requires settled { K.owing keeper ≡ false }
+    requires begins { T.may_begin tender.now system.journal (origin_at system keeper) }
     ensures count { IfOk result
         (λ served. served.taken.stopped ≡ false → served.taken.sessions ≡ sessions) }
     ensures leaves { IfOk result
@@ -309,11 +331,12 @@ where
         Brand,
         EitherSession<K, Parked<K>, WireSession<K>>,
         Y,
+        T,
         R,
         SharedLog<'_, W>,
         C,
     >(
-        rt, alloc, blank, entrance, workers, sessions, system, keeper, syncer, manners, &log,
-        control,
+        rt, alloc, blank, entrance, workers, sessions, system, keeper, syncer, tender, manners,
+        &log, control,
     )
 }

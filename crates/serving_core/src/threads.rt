@@ -1,14 +1,16 @@
 //! The threads of a server.
 ghost use Rattle.std.specs.Prelude.{◌≡◌, All, IfOk};
 ghost use Rattle.std.specs.Thread.{IsSend, IsSync};
-ghost use Rattle.server_core.specs.Sessions.{IsOfInstance, IsNew, IsNewWorker, IsWorkers, IsCheckpointers};
-ghost use Rattle.serving_core.specs.Promises.{IsOfServer};
+ghost use Rattle.desk_core.specs.Guarded.{origin_of};
+ghost use Rattle.server_core.specs.Sessions.{IsOfInstance, IsNew, IsNewWorker, IsWorkers, IsTenders, IsCheckpointers};
+ghost use Rattle.serving_core.specs.Promises.{IsOfServer, AreNew, AreOwn};
 
+use crate::own_passes::OwnPasses;
 use desk_core::{Desk, Pass};
 use door_core::{Door, Entrance, Log, ServeFault};
 use journal_core::{Keeper, Syncs};
 use server_core::{AtSite, Control, Instance, Lookout, Service, Site, Worker, watch, work};
-use session_core::{SessionMachine, checkpointer};
+use session_core::{SessionMachine, Tender, checkpointer};
 use std::alloc::Global;
 use std::marker::PhantomData;
 use std::snapshot::Snapshot;
@@ -44,12 +46,21 @@ impl<'a, K: Keeper + Drop> Promise<Pass<K>> for LooksAfter<'a, K> {
     ghost kept_by = { λ p pass. IsCheckpointers p.1.now.value.journal p.0.now pass };
 }
 
-/// What is to be handed to threads: the workers, and the checkpointer's pass. A type of its own, since
+/// The promise of a thread that what is kept of changes was tended through its pass, and nothing else was
+/// done.
+#[derive_where(Clone, Copy)]
+struct TendsKept<'a, K: Keeper + Drop>(&'a Desk<K>, &'a Snapshot<System>);
+
+impl<'a, K: Keeper + Drop> Promise<Pass<K>> for TendsKept<'a, K> {
+    ghost kept_by = { λ p pass. IsTenders p.1.now.value.journal p.0.now pass };
+}
+
+/// What is to be handed to threads: the workers, and the passes of the server's own. A type of its own, since
 /// a closure that owns a vector as it is takes minutes to prove.
 #[derive(Drop)]
 struct Dealt<K: Keeper + Drop, L: Ledger> {
     workers: Vec<Worker<K, L>>,
-    own: Pass<K>,
+    own: OwnPasses<K>,
 }
 
 /// Takes the steps of checkpoints until it is told to stop.
@@ -69,6 +80,38 @@ fn check<K: Keeper + Drop, I: Instance<K>, R: Wait + Clock>(
     // Where a change could not be kept, or all turns are drawn, each session is told too.
     let _ = checkpointer(rt, desk, &mut pass, &lookout, stop);
     pass
+}
+
+/// Tends what is kept of changes until it is told to stop.
+fn tend<K: Keeper + Drop, I: Instance<K>, T: Tender<K>, R: Wait + Clock>(
+    rt: &R,
+    alloc: Global,
+    desk: &Desk<K>,
+    begun: &Snapshot<System>,
+    pass: Pass<K>,
+    service: &Service<'_, K, I>,
+    tender: &T,
+    stop: &AtomicBool,
+) -> Pass<K>
+    requires new { IsNew begun.now.value.journal desk.now pass }
+    requires begins { T.may_begin tender.now begun.now.value.journal (origin_of desk.now) }
+    ensures { IsTenders begun.now.value.journal desk.now result }
+{
+    let mut pass = pass;
+    let lookout = Lookout::new(rt, &service.bell, &service.counters);
+    tender.tend(rt, alloc, desk, &mut pass, &lookout, stop);
+    pass
+}
+
+/// Tells the server's own threads to stop.
+fn call_off<K: Keeper + Drop, I: Instance<K>, T: Tender<K>>(
+    service: &Service<'_, K, I>,
+    tender: &T,
+    stop: &AtomicBool,
+) {
+    stop.store(true, Ordering::SeqCst);
+    service.bell.ring();
+    tender.wake();
 }
 
 /// Serves sessions until all are taken, or no further one is.
@@ -126,66 +169,87 @@ fn join_all<'a, K: Keeper + Drop, L: Ledger, M: SessionMachine<K>, R: Threads>(
     }
 }
 
-/// Runs all threads to their end, and gives the workers back, and the checkpointer's pass. Where one
-/// could not be started, a worker is missing, and the door is shut.
-pub fn serve_all<K, L, S, M, Y, R, G, C>(
+/// Runs all threads to their end, and gives the workers back, and the passes of the server's own. Where a
+/// worker could not be started, he is missing, and the door is shut.
+pub fn serve_all<K, L, S, M, Y, T, R, G, C>(
     rt: &R,
     alloc: Global,
     desk: &Desk<K>,
     begun: &Snapshot<System>,
     workers: Vec<Worker<K, L>>,
-    own: Pass<K>,
+    own: OwnPasses<K>,
     service: &Service<'_, K, AtSite<S, M, Y>>,
     door: &Mutex<Door<L>>,
+    tender: &T,
     log: &G,
     control: &C,
     stop: &AtomicBool,
-) -> Result<(Vec<Worker<K, L>>, Pass<K>), ServeFault>
+) -> Result<(Vec<Worker<K, L>>, OwnPasses<K>), ServeFault>
 where
     K: Keeper + Drop + Send,
     L: Ledger + Send + Sync,
     S: Site<K> + Send + Sync,
     M: SessionMachine<K> + Send,
     Y: Syncs<K> + Send + Sync,
+    T: Tender<K> + Sync,
     R: Threads + Wait + Clock + Sync,
     G: Log + Sync,
     C: Control,
     requires instance { IsOfInstance S.desk S.by desk.now service.now.entrance.now }
     requires workers { All (IsNewWorker begun.now.value.journal desk.now) workers.items }
-    requires own { IsNew begun.now.value.journal desk.now own }
+    requires own { AreNew begun.now.value.journal desk.now own }
+    requires begins { T.may_begin tender.now begun.now.value.journal (origin_of desk.now) }
     ensures workers { IfOk result
         (λ b. All (IsWorkers M.protocol service.now.entrance.now begun.now.value.journal desk.now)
         b.0.items) }
-    ensures own { IfOk result (λ b. IsCheckpointers begun.now.value.journal desk.now b.1) }
+    ensures own { IfOk result (λ b. AreOwn begun.now.value.journal desk.now b.1) }
 {
     let dealt = Dealt { workers, own };
     thread::scope(
         thread::scope_env(),
         rt,
-        move |scope| -> Result<(Vec<Worker<K, L>>, Pass<K>), ServeFault>
+        move |scope| -> Result<(Vec<Worker<K, L>>, OwnPasses<K>), ServeFault>
             requires crosses { IsSend K.row × IsSync R.row × IsSync G.row × IsSend S.row
-                × IsSend M.row × IsSend Y.row × IsSync Y.row }
+                × IsSend M.row × IsSend Y.row × IsSync Y.row × IsSync T.row }
             requires instance { IsOfInstance S.desk S.by desk.now service.now.entrance.now }
             requires workers { All (IsNewWorker begun.now.value.journal desk.now)
                 dealt.workers.items }
-            requires own { IsNew begun.now.value.journal desk.now dealt.own }
+            requires own { AreNew begun.now.value.journal desk.now dealt.own }
+            requires begins { T.may_begin tender.now begun.now.value.journal
+                (origin_of desk.now) }
             ensures workers { IfOk result
                 (λ b. All (IsWorkers M.protocol service.entry.now.entrance.now
                 begun.entry.now.value.journal desk.entry.now) b.0.items) }
             ensures own { IfOk result
-                (λ b. IsCheckpointers begun.entry.now.value.journal desk.entry.now b.1) }
+                (λ b. AreOwn begun.entry.now.value.journal desk.entry.now b.1) }
         {
             let Dealt { workers, own } = dealt;
+            let OwnPasses {
+                tender: tending,
+                checkpointer: checking,
+            } = own;
             let Ok(mut threads) = Vec::with_capacity(alloc, workers.len()) else {
                 return Err(ServeFault::NoMemory);
             };
             let Ok(checks) = scope.spawn_with(
                 LooksAfter(desk, begun),
                 move || -> Pass<K>
-                    requires { IsNew begun.now.value.journal desk.now own }
+                    requires { IsNew begun.now.value.journal desk.now checking }
                     ensures { IsCheckpointers begun.entry.now.value.journal desk.entry.now result }
-                { check(rt, desk, begun, own, service, stop) },
+                { check(rt, desk, begun, checking, service, stop) },
             ) else {
+                return Err(ServeFault::NoMemory);
+            };
+            let Ok(tends) = scope.spawn_with(
+                TendsKept(desk, begun),
+                move || -> Pass<K>
+                    requires new { IsNew begun.now.value.journal desk.now tending }
+                    requires begins { T.may_begin tender.now begun.now.value.journal
+                        (origin_of desk.now) }
+                    ensures { IsTenders begun.entry.now.value.journal desk.entry.now result }
+                { tend(rt, alloc, desk, begun, tending, service, tender, stop) },
+            ) else {
+                call_off(service, tender, stop);
                 return Err(ServeFault::NoMemory);
             };
             // Nobody takes a session until all threads have started.
@@ -208,10 +272,16 @@ where
             drop(closed);
             watch(rt, desk, service, door, threads.len() as u64, control);
             let back = join_all(rt, desk, begun, service.entrance, threads);
-            stop.store(true, Ordering::SeqCst);
-            service.bell.ring();
-            let last = checks.join(rt);
-            Ok((back?, last))
+            call_off(service, tender, stop);
+            let checkpointer = checks.join(rt);
+            let tender = tends.join(rt);
+            Ok((
+                back?,
+                OwnPasses {
+                    tender,
+                    checkpointer,
+                },
+            ))
         },
     )
 }

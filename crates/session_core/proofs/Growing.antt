@@ -1,5 +1,5 @@
 -- What a turn adds to what a pass has seen and made.
-use Rattle.std.proofs.Common.{◌≡◌, ℕ, List, [], ◌++◌, All, sym, refl, ap, ◌∙◌, subst, append_assoc, append-nil}
+use Rattle.std.proofs.Common.{◌≡◌, ◌^◌, ℕ, List, [], ◌++◌, All, sym, refl, ap, ◌∙◌, subst, append_assoc, append-nil}
 use Rattle.std.proofs.lemmas.List.Elements.{All-nil, All-cons, All-append}
 use Rattle.base_core.specs.declared.name.User.{User}
 use Rattle.reader_core.specs.declared.statement.Statement.{Statement}
@@ -69,14 +69,20 @@ said_gains desk user asked reply old new same (spent r e) = subst (λ z. Gains u
   bear = All-nil (λ (e : Entry). e.user ≡ user);
 })
 
-watched : {K : Type 0} (desk : DeskLock K) (ask : Ask) (reply : Reply) (old new : DeskPass K) → entered (event_of old.number ask) reply ≡ [] → IsSamePass old new → Answered desk ask reply old new → Watches old new
-watched desk ask reply old new none same (took t) = record {
+pub took_watches : {K : Type 0} (desk : DeskLock K) (ask : Ask) (reply : Reply) (old new : DeskPass K) → entered (event_of old.number ask) reply ≡ [] → IsSamePass old new → Took desk ask reply old new → Watches old new
+took_watches desk ask reply old new none same t = record {
   same = same;
   seen = seen_grows desk ask reply old new t;
   mine_is = t.mine_after ∙ (ap (λ es. mine asked_by old ++ es) none ∙ append-nil (mine asked_by old));
 }
-watched desk ask reply old new none same (spent r e) =
+
+pub spent_watches : {K : Type 0} (old new : DeskPass K) → new ≡ record old { drawn = 2 ^ 62 } → Watches old new
+spent_watches old new e =
     subst (λ z. Watches old z) (sym e) (record { same = (refl, refl); seen = ([], sym (append-nil old.seen)); mine_is = refl })
+
+watched : {K : Type 0} (desk : DeskLock K) (ask : Ask) (reply : Reply) (old new : DeskPass K) → entered (event_of old.number ask) reply ≡ [] → IsSamePass old new → Answered desk ask reply old new → Watches old new
+watched desk ask reply old new none same (took t) = took_watches desk ask reply old new none same t
+watched desk ask reply old new none same (spent r e) = spent_watches old new e
 
 pub step_watches : {K : Type 0} (desk : DeskLock K) (reply : Reply) (old new : DeskPass K) → IsSamePass old new → Answered desk asks.Step reply old new → Watches old new
 step_watches desk reply old new = watched desk asks.Step reply old new refl

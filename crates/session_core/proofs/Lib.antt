@@ -5,3 +5,4 @@ pub mod Sessions
 pub mod Resuming
 pub mod Checked
 pub mod Login
+pub mod Tended

@@ -9,6 +9,7 @@ pub mod Parking
 pub mod Session
 pub mod Showing
 pub mod Stopping
+pub mod Tending
 pub mod TooLong
 pub use Rattle.base_core.specs.Words
 pub use Rattle.base_core.specs.Streams

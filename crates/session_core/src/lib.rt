@@ -26,6 +26,9 @@
 //! [`checkpointer`] steps the active checkpoint through a pass of its own until it is told to stop.
 //! It makes no entry.
 //!
+//! A [`Tender`] tends what is kept of a server's changes, through a pass of his own: he looks, and says
+//! CHECKPOINT, and makes no entry either (`specs/Tending.antt`).
+//!
 //! ```text
 //! let (desk, mut passes) = Desk::build(alloc, System::new(alloc, 16)?, NoKeeper, 2)?;
 //! serve_session(&rt, alloc, &desk, &mut pass, &mut reader, &mut writer, &NoGate);
@@ -64,6 +67,7 @@ mod session;
 mod session_end;
 mod session_machine;
 mod summary;
+mod tender;
 mod witness;
 
 pub use admission::{Admission, NONCE_BYTES};
@@ -78,4 +82,5 @@ pub use session::{end_of, serve_admitted, serve_session};
 pub use session_end::{SessionEnd, end_name};
 pub use session_machine::SessionMachine;
 pub use summary::Summary;
+pub use tender::{NoTender, Tender};
 pub use witness::Witness;

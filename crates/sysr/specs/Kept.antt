@@ -6,6 +6,7 @@ use Rattle.system_core.specs.World.{World}
 use Rattle.journal_core.specs.Keeping.{owing_nothing, line_rules, no_rules}
 use Rattle.journal_core.specs.declared.keeper.NoKeeper.{NoKeeper}
 use Rattle.script_core.specs.Keeping.{EndsKeptFrom}
+use Rattle.folder_core.specs.declared.errand.Errand.{Errand}
 use Rattle.desk_core.specs.Guarded.{origin_at}
 use Rattle.desk_core.specs.Kept.{HasKept}
 use Rattle.door_core.specs.Entrance.{Admittance}
@@ -23,6 +24,10 @@ abbrev pub is_each : JournalSync → Bool
 is_each asked.Each = true
 is_each asked.Never = false
 is_each asked.Second = false
+
+-- what a server begins with whose changes are kept in its folder, by this sink
+abbrev pub in_folder : {W : Type 0} → World → W → Start W
+in_folder system sink = record { system = system; journal = Some sink; syncer = None }
 
 -- whether the changes are kept as lines, in a journal
 abbrev pub is_in_lines : {W : Type 0} → Kept W → Bool
@@ -49,8 +54,10 @@ abbrev pub admittance_of : {A : Type 0} → Option A → List UserSocketWord →
 admittance_of users words =
     record { login = is_some users; sockets = map (λ (w : UserSocketWord). w.user) words }
 
--- Of the sink of a journal, `taken` and `handed_on` are those of base_core's `Sink`.
-module _ {W : Type 0} (taken handed_on : W → Option (List ℕ)) where
+-- Of the sink of a journal, `taken` and `handed_on` are those of base_core's `Sink`, `may_run` and `knows`
+-- those of journal_core's `Errands`.
+module _ {W : Type 0} (taken handed_on : W → Option (List ℕ))
+    (may_run : Option (List ℕ) → Errand → Type 0) (knows : Bool) where
   -- From this start lines were answered, to their end. Where there is a journal, each change was kept
   -- in it before its reply was written. Of the lines, `left` is what is to come; of what is written,
   -- `written` is what was given to the writer.
@@ -62,8 +69,8 @@ module _ {W : Type 0} (taken handed_on : W → Option (List ℕ)) where
   IsAnswered start traffic (places.Lines ended) =
       (sink : W)
       × (start.journal ≡ Some sink)
-      × EndsKeptFrom (line_rules taken handed_on)
-      start.system (Ok ended.system) (owing_nothing sink) ended.keeper traffic
+      × EndsKeptFrom (line_rules may_run knows)
+      start.system (Ok ended.system) (owing_nothing (taken sink) (handed_on sink)) ended.keeper traffic
 
   -- From this start so many workers served so many sessions, which came in so. The journal, if there is
   -- one, kept each change since then, from the state on in which it was handed in; or what is left of the
@@ -75,9 +82,9 @@ module _ {W : Type 0} (taken handed_on : W → Option (List ℕ)) where
   IsServed admittance workers sessions start (places.Lines ended) =
       (sink : W)
       × (start.journal ≡ Some sink)
-      × Leaves SpeaksServed admittance workers sessions (owing_nothing sink) start.system
+      × Leaves SpeaksServed admittance workers sessions (owing_nothing (taken sink) (handed_on sink)) start.system
       ended.system
-      × HasKept (line_rules taken handed_on) (origin_at start.system (owing_nothing sink))
+      × HasKept (line_rules may_run knows) (origin_at start.system (owing_nothing (taken sink) (handed_on sink)))
       ended.system.journal ended.keeper
 
   -- the same from some start, which has a journal exactly where one is named

@@ -51,8 +51,8 @@ ServesInRange s =
 -- each number that is asked for is in its range, and two ports are apart
 abbrev pub IsInRange : CommandLine → Type 0
 IsInRange (asked.Run r) = IsChunk r.chunk × AreAsked r.limits
-IsInRange (asked.Journal reading) = AreAsked reading.limits
-IsInRange (asked.Dump load reading) = AreAsked reading.limits
+IsInRange (asked.Journal folder reading) = AreAsked reading.limits
+IsInRange (asked.Dump load folder reading) = AreAsked reading.limits
 IsInRange (asked.Serve s sockets) = ServesInRange s
 IsInRange (asked.Verifier user) = Unit {0}
 IsInRange (asked.Stop control) = Unit {0}

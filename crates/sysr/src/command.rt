@@ -27,7 +27,7 @@ mod users;
 mod values;
 
 pub use command_line::{
-    CommandLine, Explaining, JournalSync, Running, Serving, StatusForm, options, refuse,
+    CommandLine, Explaining, JournalSync, OwnFolder, Running, Serving, StatusForm, options, refuse,
 };
 pub use commands::VERSION;
 pub use reading::Reading;

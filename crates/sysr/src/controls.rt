@@ -239,6 +239,7 @@ pub fn controls_of<'a, R: Threads>(
             most_changes: asked.limits.changes,
             workers: asked.workers as u64,
             journal: asked.journal,
+            folder: asked.data.map(|data| data.path),
         },
     })
 }

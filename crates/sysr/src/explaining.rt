@@ -2,13 +2,14 @@
 ghost use Rattle.std.specs.Prelude.{◌≡◌, false};
 
 use crate::command::Explaining;
+use crate::given::changes_of;
 use crate::loading::loaded_or_empty;
 use crate::replaying::{manner_of, replayed, status_of, tell_left_out};
 use base_core::Sink;
 use explain_text::{Answered, ExplainFault, Question, explain, explain_fault_text, history_asked};
 use lines_core::{NO_MEMORY, give_up};
 use load_core::Replayed;
-use run_core::{input, output, tell};
+use run_core::{output, tell};
 use std::mem::forget;
 use std::process::ExitCode;
 
@@ -33,12 +34,12 @@ fn give_up_question(rt: &HostRuntime, question: &Question<'_>, fault: &ExplainFa
     }
 }
 
-/// What the lines of standard input make, up to the moment that is asked for. The error is the
+/// What the lines that are read make, up to the moment that is asked for. The error is the
 /// status, where they cannot be read, or end before it, which is told.
 fn replayed_to(rt: &HostRuntime, asked: &Explaining<'_>) -> Result<Replayed, ExitCode> {
     let begins = loaded_or_empty(rt, None, CHUNK, asked.reading.limits)?;
     let manner = manner_of(asked.reading, asked.at.unwrap_or(u64::MAX));
-    let replayed = replayed(rt, &mut input(rt), begins, manner)?;
+    let replayed = replayed(rt, &mut changes_of(rt, asked.data)?, begins, manner)?;
     let end = replayed.system.moment().0;
     match asked.at {
         Some(at) if end < at => {

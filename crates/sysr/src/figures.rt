@@ -6,6 +6,7 @@ use crate::command::{StatusForm, VERSION};
 use crate::files::give_up_on;
 use crate::report::{Growth, Report};
 use crate::socket_files::connected;
+use directory_core::bytes_of_pieces;
 use lines_core::{SessionFault, fault_text, give_up};
 use server_core::{Counters, KINDS};
 use std::fs;
@@ -35,6 +36,7 @@ pub struct Facts<'a> {
     pub most_changes: u64,
     pub workers: u64,
     pub journal: Option<&'a str>,
+    pub folder: Option<&'a str>,
 }
 
 /// The seconds since 1970, or 0 where the clock does not say them.
@@ -62,8 +64,12 @@ fn memory_bytes(host: &HostRuntime) -> u64 {
         .saturating_mul(PAGE_BYTES)
 }
 
-fn journal_bytes(host: &HostRuntime, journal: Option<&str>) -> u64 {
-    let Some(path) = journal else {
+/// The bytes of the journal, or of its pieces in the server's folder.
+fn journal_bytes(host: &HostRuntime, facts: Facts<'_>) -> u64 {
+    if let Some(path) = facts.folder {
+        return bytes_of_pieces(host, path);
+    }
+    let Some(path) = facts.journal else {
         return 0;
     };
     match fs::metadata(host, path) {
@@ -148,7 +154,7 @@ fn put_facts<W: Write>(
     report.figure("start_time_seconds", Growth::Gauge, facts.started)?;
     report.figure("workers", Growth::Gauge, facts.workers)?;
     report.figure("changes_limit", Growth::Gauge, facts.most_changes)?;
-    let bytes = journal_bytes(host, facts.journal);
+    let bytes = journal_bytes(host, facts);
     report.figure("journal_bytes", Growth::Gauge, bytes)?;
     report.figure("memory_bytes", Growth::Gauge, memory_bytes(host))
 }

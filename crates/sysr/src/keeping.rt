@@ -4,7 +4,7 @@ ghost use Rattle.journal_core.specs.Keeping.{owing_nothing};
 ghost use Rattle.sysr.specs.Kept.{system_of, owes_a_change};
 
 use base_core::{NoMemory, Resume, Sink};
-use journal_core::{Keeper, LineKeeper, NoKeeper};
+use journal_core::{Errands, Keeper, LineKeeper, NoKeeper};
 use lines_core::{NO_MEMORY, give_up};
 use run_core::Left;
 use std::mem::forget;
@@ -32,7 +32,7 @@ impl<W: Sink + Drop> Kept<W> {
     }
 }
 
-impl<W: Sink + Resume + Drop> Kept<W> {
+impl<W: Resume + Errands + Drop> Kept<W> {
     /// Whether what is left of the last change is owed to the journal.
     pub fn is_owing(&self) -> bool
         ensures { result ≡ owes_a_change self.now }
@@ -67,7 +67,8 @@ impl<W: Sink + Drop> Ended<W> {
 /// which is told.
 pub fn line_keeper<W: Sink + Drop>(rt: &HostRuntime, sink: W) -> Result<LineKeeper<W>, ExitCode>
     requires { W.failed sink ≡ false }
-    ensures { IfOk result (λ keeper. keeper ≡ owing_nothing sink) }
+    ensures { IfOk result
+        (λ keeper. keeper ≡ owing_nothing (W.taken sink) (W.handed_on sink)) }
 {
     match LineKeeper::new(rt.alloc(), sink) {
         Ok(keeper) => Ok(keeper),

@@ -19,15 +19,15 @@ use crate::loading::{Start, begun};
 use crate::naming::{Named, apart_from_each_other};
 use crate::reading_time::tell_reading;
 use crate::recording::dump_to;
-use crate::syncing::JournalSyncer;
 use crate::users::login_of;
 use base_core::{Resume, Sink};
 use door_core::{Entrance, Login, Manners, ServeFault, Taken};
-use journal_core::{Keeper, NoKeeper, NoSync};
+use journal_core::{Errands, Keeper, NoKeeper, NoSync, Syncs};
 use lines_core::{NO_MEMORY, SessionFault, fault_text, give_up};
 use run_core::{Left, status_of};
 use script_core::{ScriptFault, script_fault_text};
 use serving_core::{Served, serve_on};
+use session_core::{NoTender, Tender};
 use std::mem::forget;
 use std::process::ExitCode;
 use std::sync::Wait;
@@ -45,9 +45,9 @@ fn serve_fault_text(fault: ServeFault) -> &'static str {
 
 /// Serves the sessions that are asked for at the entrance, from this core on, whose changes are
 /// kept, or until it is told to stop, and gives what they left, and how many they were. What clients
-/// are told is durable, if there is one who makes it so. The error is the status, where the server
-/// ended by a fault, which is told.
-fn served<R, K>(
+/// are told is durable, if there is one who makes it so; and the tender tends what is kept. The error is the
+/// status, where the server ended by a fault, which is told.
+pub fn served<R, K, Y, T>(
     host: &HostRuntime,
     rt: &R,
     asked: Serving<'_>,
@@ -55,14 +55,18 @@ fn served<R, K>(
     controls: &Controls<'_>,
     system: System,
     keeper: K,
-    syncer: Option<JournalSyncer>,
+    syncer: Option<Y>,
+    tender: &T,
 ) -> Result<(Left<K>, Taken), ExitCode>
 where
     R: Threads + Wait + Clock + Sync,
     K: Keeper + Drop + Send,
+    Y: Syncs<K> + Send + Sync,
+    T: Tender<K> + Sync,
     requires range { ServesInRange asked }
     requires ready { IsReady system }
     requires settled { K.owing keeper ≡ false }
+    requires begins { T.may_begin tender.now system.journal (origin_at system keeper) }
     ensures count { IfOk result
         (λ b. b.1.stopped ≡ false → b.1.sessions ≡ asked.entry.sessions) }
     ensures leaves { IfOk result
@@ -82,12 +86,12 @@ where
     let (alloc, workers, sessions) = (host.alloc(), asked.workers, asked.sessions);
     let served = match syncer {
         Some(syncer) => serve_on(
-            rt, alloc, entrance, workers, sessions, system, keeper, syncer, manners, &mut err,
-            controls,
+            rt, alloc, entrance, workers, sessions, system, keeper, syncer, tender, manners,
+            &mut err, controls,
         ),
         None => serve_on(
-            rt, alloc, entrance, workers, sessions, system, keeper, NoSync, manners, &mut err,
-            controls,
+            rt, alloc, entrance, workers, sessions, system, keeper, NoSync, tender, manners,
+            &mut err, controls,
         ),
     };
     match served {
@@ -115,13 +119,13 @@ fn kept<R, W>(
 ) -> Result<(Kept<W>, Taken), ExitCode>
 where
     R: Threads + Wait + Clock + Sync,
-    W: Sink + Resume + Drop + Send,
+    W: Resume + Errands + Drop + Send,
     requires range { ServesInRange asked }
     requires ready { IsReady begun.system }
     requires works { IfSome begun.journal (λ sink. W.failed sink ≡ false) }
     ensures count { IfOk result
         (λ b. b.1.stopped ≡ false → b.1.sessions ≡ asked.entry.sessions) }
-    ensures served { IfOk result (λ b. IsServed W.taken W.handed_on entrance.now
+    ensures served { IfOk result (λ b. IsServed W.taken W.handed_on W.may_run W.knows entrance.now
         asked.entry.workers b.1.sessions begun b.0) }
 {
     let Start {
@@ -131,14 +135,14 @@ where
     } = begun;
     let Some(sink) = journal else {
         let (left, taken) = served(
-            host, rt, asked, entrance, controls, system, NoKeeper, syncer,
+            host, rt, asked, entrance, controls, system, NoKeeper, syncer, &NoTender,
         )?;
         return Ok((Kept::Nowhere(left), taken));
     };
     match line_keeper(host, sink) {
         Ok(keeper) => {
             let (left, taken) = served(
-                host, rt, asked, entrance, controls, system, keeper, syncer,
+                host, rt, asked, entrance, controls, system, keeper, syncer, &NoTender,
             )?;
             Ok((Kept::Lines(left), taken))
         }
@@ -178,7 +182,7 @@ fn tell_end(
 /// told.
 fn status_kept<W>(host: &HostRuntime, kept: &Kept<W>, status: ExitCode) -> ExitCode
 where
-    W: Sink + Resume + Drop,
+    W: Resume + Errands + Drop,
 {
     if kept.is_owing() {
         return give_up(host, script_fault_text(ScriptFault::Journal));
@@ -202,7 +206,7 @@ fn write_state(host: &HostRuntime, system: &System, sink: DumpSink) -> Result<()
 
 /// The file of a dump, if one is named. It is held from the start, so that no state is lost at the
 /// end for want of it.
-fn dump_of(host: &HostRuntime, named: Named<'_>) -> Result<Option<DumpSink>, ExitCode>
+pub fn dump_of(host: &HostRuntime, named: Named<'_>) -> Result<Option<DumpSink>, ExitCode>
     ensures { IfOk result (λ dump. IfSome dump (λ sink. sink.failed ≡ false)) }
 {
     match named.dump {
@@ -229,7 +233,7 @@ fn listen_and_serve<'a, R, W>(
 ) -> Result<(Ended<W>, Taken), ExitCode>
 where
     R: Threads + Wait + Clock + Sync,
-    W: Sink + Resume + Drop + Send,
+    W: Resume + Errands + Drop + Send,
     requires range { ServesInRange asked }
     requires ready { IsReady begun.system }
     requires works { IfSome begun.journal (λ sink. W.failed sink ≡ false) }
@@ -237,7 +241,7 @@ where
     requires login { is_some login ≡ is_some asked.users }
     ensures count { IfOk result
         (λ b. b.1.stopped ≡ false → b.1.sessions ≡ asked.entry.sessions) }
-    ensures served { IfOk result (λ b. IsServed W.taken W.handed_on
+    ensures served { IfOk result (λ b. IsServed W.taken W.handed_on W.may_run W.knows
         (admittance_of asked.entry.users sockets.now)
         asked.entry.workers b.1.sessions begun b.0.kept) }
 {
@@ -250,19 +254,46 @@ where
         }
     };
     let (kept, taken) = kept(host, rt, asked, &opened.entrance, &controls, begun)?;
-    let status = match tell_end(host, asked, taken.sessions, kept.system(), dump) {
+    let ended = ended(
+        host,
+        asked,
+        sockets,
+        opened.made,
+        taken.sessions,
+        kept,
+        dump,
+    );
+    Ok((ended, taken))
+}
+
+/// Tells the end of a server that has left this, and removes what it has made to listen at.
+pub fn ended<'a, W>(
+    host: &HostRuntime,
+    asked: Serving<'a>,
+    sockets: &[UserSocketWord],
+    made: Option<&'a str>,
+    sessions: u64,
+    kept: Kept<W>,
+    dump: Option<DumpSink>,
+) -> Ended<W>
+where
+    W: Resume + Errands + Drop,
+    requires { IfSome dump (λ sink. sink.failed ≡ false) }
+    ensures { result.kept ≡ kept }
+{
+    let status = match tell_end(host, asked, sessions, kept.system(), dump) {
         Ok(status) | Err(status) => status,
     };
     let status = status_kept(host, &kept, status);
     entrances::remove(host, asked.control);
-    entrances::remove(host, opened.made);
+    entrances::remove(host, made);
     entrances::remove_all(host, sockets);
-    Ok((Ended { kept, status }, taken))
+    Ended { kept, status }
 }
 
 /// What listens to who may tell the server to stop, and to its clients. It says where; and before
 /// that how long it took to load a file, if one was loaded, which began then.
-fn heard_and_served<'a, R: Threads + Clock>(
+pub fn heard_and_served<'a, R: Threads + Clock>(
     host: &'a HostRuntime,
     rt: &R,
     asked: Serving<'a>,
@@ -296,7 +327,9 @@ where
     ensures count { IfOk result
         (λ b. b.1.stopped ≡ false → b.1.sessions ≡ asked.entry.sessions) }
     ensures served { IfOk result (λ b. ServesFrom ⟦<JournalSink as Sink>⟧.taken
-        ⟦<JournalSink as Sink>⟧.handed_on (admittance_of asked.entry.users sockets.now)
+        ⟦<JournalSink as Sink>⟧.handed_on ⟦<JournalSink as Errands>⟧.may_run
+        ⟦<JournalSink as Errands>⟧.knows
+        (admittance_of asked.entry.users sockets.now)
         asked.entry.workers b.1.sessions asked.entry.journal b.0.kept) }
 {
     let named = Named {

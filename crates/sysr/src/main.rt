@@ -48,11 +48,13 @@ ghost use Rattle.sysr.specs.Ranges.{IsInRange};
 mod calls;
 mod command;
 mod controls;
+mod data;
 mod end_of_input;
 mod entrances;
 mod explaining;
 mod figures;
 mod files;
+mod given;
 mod keeping;
 mod lent;
 mod listening;
@@ -67,6 +69,7 @@ mod reloading;
 mod replaying;
 mod report;
 mod running;
+mod serving_in_folder;
 mod socket_files;
 mod syncing;
 mod system_users;
@@ -78,10 +81,12 @@ use crate::command::{CommandLine, Reading, options, refuse};
 use crate::controls::stop;
 use crate::explaining::explained;
 use crate::figures::status;
+use crate::given::changes_of;
 use crate::listening::serve;
 use crate::recording::{dump, journal};
 use crate::reloading::reload;
 use crate::running::run;
+use crate::serving_in_folder::serve_in_folder;
 use crate::verifying::verifier;
 use lines_core::{NO_MEMORY, give_up};
 use run_core::{fill_closed_streams, input, output};
@@ -92,11 +97,17 @@ use std::thread::Threads;
 use std::time::Clock;
 use std::{env, io};
 
-/// Writes the dump of what standard input leaves. What is gathered of one that cannot be written whole
+/// Writes the dump of what is read. What is gathered of one that cannot be written whole
 /// is not written, as a front of a dump is none.
-fn dumped(rt: &HostRuntime, load: Option<&str>, reading: Reading) -> Result<ExitCode, ExitCode> {
+fn dumped(
+    rt: &HostRuntime,
+    load: Option<&str>,
+    data: Option<&str>,
+    reading: Reading,
+) -> Result<ExitCode, ExitCode> {
+    let mut reader = changes_of(rt, data)?;
     let mut writer = output(rt)?;
-    match dump(rt, &mut input(rt), &mut writer, load, reading) {
+    match dump(rt, &mut reader, &mut writer, load, reading) {
         Ok(status) => Ok(status),
         Err(status) => {
             forget(writer);
@@ -114,14 +125,29 @@ where
 {
     match asked {
         CommandLine::Run(asked) => Ok(run(host, rt, asked)?.into_status()),
-        CommandLine::Journal(reading) => {
-            journal(host, &mut input(host), &mut output(host)?, reading)
+        CommandLine::Journal { data, reading } => {
+            journal(
+                host,
+                &mut changes_of(host, data)?,
+                &mut output(host)?,
+                reading,
+            )
         }
-        CommandLine::Dump { load, reading } => dumped(host, load, reading),
-        CommandLine::Serve(asked, sockets) => {
-            let (ended, _) = serve(host, rt, asked, sockets.as_slice())?;
-            Ok(ended.into_status())
-        }
+        CommandLine::Dump {
+            load,
+            data,
+            reading,
+        } => dumped(host, load, data, reading),
+        CommandLine::Serve(asked, sockets) => match asked.data {
+            None => {
+                let (ended, _) = serve(host, rt, asked, sockets.as_slice())?;
+                Ok(ended.into_status())
+            }
+            Some(folder) => {
+                let (ended, _) = serve_in_folder(host, rt, asked, folder, sockets.as_slice())?;
+                Ok(ended.into_status())
+            }
+        },
         CommandLine::Verifier { user } => {
             verifier(host, &mut input(host), &mut output(host)?, user)
         }

@@ -10,7 +10,7 @@ use crate::keeping::{Ended, Kept, line_keeper};
 use crate::loading::{Start, begun};
 use crate::naming::{Named, apart_from_each_other};
 use base_core::{Resume, Sink, Source};
-use journal_core::NoKeeper;
+use journal_core::{Errands, NoKeeper};
 use run_core::{answered, input, output, status_of};
 use std::mem::forget;
 use std::process::ExitCode;
@@ -18,7 +18,7 @@ use std::thread::Threads;
 
 /// Answers the reader's lines, and keeps each change in the journal, if there is one. The error is
 /// the status, where it ended by a fault, which is told.
-fn kept<S: Source, R: Sink, W: Sink + Resume + Drop>(
+fn kept<S: Source, R: Sink, W: Resume + Errands + Drop>(
     rt: &HostRuntime,
     reader: &mut S,
     writer: &mut R,
@@ -27,7 +27,7 @@ fn kept<S: Source, R: Sink, W: Sink + Resume + Drop>(
     requires source { S.failed reader.old ≡ false }
     requires sink { R.failed writer.old ≡ false }
     requires works { IfSome begun.journal (λ sink. W.failed sink ≡ false) }
-    ensures { IfOk result (IsAnswered W.taken W.handed_on begun
+    ensures { IfOk result (IsAnswered W.taken W.handed_on W.may_run W.knows begun
         (traffic_of (S.left reader.old) (S.left reader.new)
         (R.taken writer.old) (R.taken writer.new))) }
 {

@@ -4,12 +4,11 @@ ghost use Rattle.std.specs.Prelude.{true};
 
 use crate::files::tell_of;
 use base_core::{Broken, NoMemory};
+use directory_core::Waker;
 use journal_core::Syncs;
-use lines_core::Steady;
 use std::alloc::Global;
 use std::fs::File;
-use std::io::{Error, ErrorKind, Read, Result, Write};
-use std::os::unix::net::UnixStream;
+use std::io::{Error, ErrorKind, Result, Write};
 use std::snapshot::Snapshot;
 use std::sync::Arc;
 use std::sync::atomic::{AtomicBool, Ordering};
@@ -18,44 +17,6 @@ use std::thread::Threads;
 use std::time::Duration;
 
 const PAUSE_SECONDS: u64 = 1;
-
-/// What wakes the thread that syncs a journal, which sleeps while nothing is written.
-#[derive(Drop)]
-struct Waker {
-    bell: UnixStream,
-    ear: UnixStream,
-    /// Whether it will sync what is written by now anyway.
-    is_awake: AtomicBool,
-}
-
-impl Waker {
-    /// Of a thread that sleeps. An error is the system's.
-    fn new(host: &HostRuntime) -> Result<Waker> {
-        let (bell, ear) = UnixStream::pair(host)?;
-        Ok(Waker {
-            bell,
-            ear,
-            is_awake: AtomicBool::new(false),
-        })
-    }
-
-    /// Something was written.
-    fn wake(&self) {
-        if !self.is_awake.load(Ordering::SeqCst) && !self.is_awake.swap(true, Ordering::SeqCst) {
-            let _ = Steady::new(&self.bell).write(&[0]);
-        }
-    }
-
-    /// Waits until something was written since it slept. Whether it could.
-    fn wait(&self) -> bool {
-        Steady::new(&self.ear).read(&mut [0; 1]).is_ok()
-    }
-
-    /// Of what is written from now on it wants to be told.
-    fn sleep(&self) {
-        self.is_awake.store(false, Ordering::SeqCst);
-    }
-}
 
 /// What a journal's writer and the thread that syncs it have in common.
 #[derive(Drop)]

@@ -1,7 +1,6 @@
 -- The changes of a lawful journal are as an authority accepts them.
-use Rattle.std.proofs.Common.{◌≡◌, ◌⊎◌, inl, inr, ℕ, Bool, true, false, List, [], ◌∷◌, ◌++◌, length, take, drop, Option, Some, None, Ok, All, refl, sym, ap, subst, ◌∙◌, append-nil, append_assoc, ⊎_elim}
+use Rattle.std.proofs.Common.{◌≡◌, ◌⊎◌, inl, inr, true, false, List, [], ◌∷◌, ◌++◌, Option, Some, None, Ok, All, refl, sym, ap, subst, ◌∙◌, append-nil, append_assoc, ⊎_elim}
 use Rattle.std.specs.Option.{is_some, option_map}
-use Rattle.std.specs.List.{AllByRecursion}
 use Rattle.base_core.specs.declared.name.Name.{Name}
 use Rattle.base_core.specs.declared.name.User.{User}
 use Rattle.base_core.specs.declared.privilege.Atom.{Atom}
@@ -12,18 +11,16 @@ use Rattle.tables_core.specs.Contents.{Table, table_of}
 use Rattle.grants_core.specs.declared.grant.Change.{Change}
 use Rattle.grants_core.specs.declared.grant.Change.TheVariants as change
 use Rattle.grants_core.specs.Owners.{owner_of}
-use Rattle.grants_core.specs.Content.{may_grant}
-use Rattle.grants_core.specs.History.{granted, owners_after, in_force_after, is_granted}
+use Rattle.grants_core.specs.History.{granted, owners_after, is_granted}
 use Rattle.grants_core.specs.Noted.{may_grant_after}
 use Rattle.grants_core.specs.Lawful.{AreLawful}
-use Rattle.monitor_core.specs.Verdict.{is_table, verdict, atoms_at}
+use Rattle.monitor_core.specs.Verdict.{atoms_at}
 use Rattle.system_core.specs.declared.machine.event.Entry.{Entry}
 use Rattle.system_core.specs.Journal.{tables_at, tables_with, change_of, changes, state_of, verdict_at, IsLawfulFrom, IsLawful}
-use Rattle.system_core.specs.Exports.{journal_at}
 use Rattle.system_core.proofs.TableLemmas.{is_table-after}
 use Rattle.system_core.proofs.Growing.{On, changes-more, never_granted, granted_on}
 use Rattle.system_core.proofs.Keeping.{new, on_tables, may, contents-more, lawful-more}
-use Rattle.system_core.proofs.Owning.{OwnersStand, owners-whole}
+use Rattle.system_core.proofs.Owning.{owners-whole}
 
 -- what is split off a list is its last, or stands before that
 split_last : {A : Type 0} (cs : List A) (c x : A) (before after : List A) → cs ++ c ∷ [] ≡ before ++ x ∷ after

@@ -8,6 +8,7 @@ pub mod Step
 pub mod Entering
 pub mod Carrying
 pub mod Standing
+pub mod Imaging
 pub use Rattle.base_core.specs.Words
 pub use Rattle.base_core.specs.Full
 pub use Rattle.base_core.specs.Users

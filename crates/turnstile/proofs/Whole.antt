@@ -3,7 +3,7 @@ use Rattle.std.proofs.Common.{◌≡◌, ℕ, List, [], ◌∷◌, ◌++◌, map
 use Rattle.std.specs.Prelude.{Option, Some, None, option_map}
 use Rattle.turnstile.specs.declared.view.Known.{Known}
 use Rattle.turnstile.specs.declared.view.Terms.{Terms}
-use Rattle.turnstile.specs.Logs.{own, gained, Grown}
+use Rattle.turnstile.specs.Logs.{StartsWith, own, gained, Grown}
 use Rattle.turnstile.specs.Steps.{SeatState, counted, with_turn, with_ticket, with_core, with_count, IsFresh, known_after, view_after, first_known}
 use Rattle.turnstile.specs.Passes.{Identity, TurnstileState, PassState}
 use Rattle.turnstile.specs.Places.{lock_at, terms_of, known_of, held_of, IsAtRest}
@@ -34,6 +34,11 @@ module _ {O E F : Type 0} (m0 m1 : SeatState O E F) (t : ℕ) where
   known_back log mark m2 m3 x y rest drew took gave = (ap (λ m. m.0.passes) gave ∙ ap (map (known_after log mark y)) ((has_out m2 x rest drew took).0), ap (λ m. m.0.terms) gave ∙ (ap (λ m. m.0.terms) took ∙ ap (λ m. m.0.terms) drew))
 
 module _ {O E F : Type 0} (log : O → List E) (by : E → ℕ) (mark : O → ℕ) (fix : O → F) where
+  -- what may be asked of each object behind what the pass has seen may be asked of the one that is found
+  pub may_ask : {A : Type 0} (may : O → A → Type 0) (lock : TurnstileState F) (ask : A) (t : ℕ) (x : O) (z : Identity) (m0 : SeatState O E F) (terms : Option (Terms F)) (old : PassState E F) → held_of z m0 ≡ old → terms ≡ Some (terms_of lock) → IsFresh log by mark fix (with_turn t (known_of m0)) terms x
+      → ((y : O) → StartsWith (log y) old.seen → fix y ≡ lock.fixed → may y ask) → may x ask
+  may_ask may lock ask t x z m0 terms old is are fresh says = says x (subst (λ (p : PassState E F). StartsWith (log x) p.seen) is fresh.seen_is) (fresh.fixed_is (terms_of lock) are)
+
   -- what the pass is told of a turn that drew the ticket t, found the object x and left it y
   pub turned : {A R : Type 0} (acts : O → ℕ → A → R → O → Type 0) (lock : TurnstileState F) (ask : A) (reply : R) (t : ℕ) (x y : O) (z z' : Identity) (m0 m3 : SeatState O E F) (terms : Option (Terms F)) (old : PassState E F) → held_of z m0 ≡ old
       → m3.0.passes ≡ known_after log mark y (with_turn t (known_of m0)) ∷ [] → terms ≡ Some (terms_of lock) → acts x (known_of m0).number ask reply y → Grown log by mark fix (known_of m0).number x y

@@ -25,12 +25,16 @@ pub trait Object: Drop {
 
     ghost fixed: { Self → Self.Fixed };
 
+    // What may be asked of it.
+    ghost may: { Self → Self.Ask → Type 0 };
+
     // What an act may do: of the object before, the pass's number, what is asked, the reply and the object
     // after.
     ghost acts: { Self → ℕ → Self.Ask → Self.Reply → Self → Type 0 };
 
     /// Does what is asked, for the pass of that number.
     fn act(&mut self, pass: u64, ask: Self::Ask) -> Self::Reply
+        requires { may self.old ask }
         ensures { acts self.old pass ask result self.new };
 
     fn fixed_part(&self) -> Self::Fixed

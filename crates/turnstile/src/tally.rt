@@ -45,6 +45,8 @@ impl Object for Tally {
 
     ghost fixed = { λ t. t.most };
 
+    ghost may = { λ t a. Unit {0} };
+
     ghost acts = { λ t p a r u. Tallies t p a r u };
 
     fn act(&mut self, pass: u64, entered: bool) -> Option<u64> {

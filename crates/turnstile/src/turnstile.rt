@@ -179,11 +179,14 @@ impl<O: Object> Turnstile<O> {
         Pass { number, seat }
     }
 
-    /// One turn: the object acts once, on what is asked. It waits for the turns that were drawn before.
+    /// One turn: the object acts once, on what is asked, which may be asked of whatever the object has come to
+    /// behind what the pass has seen. It waits for the turns that were drawn before.
     /// `Worn` where the count of turns drawn, from the start on, is 2^62: the object is then untouched, and
     /// the pass knows that count, and nothing else that is new.
     pub fn turn<R: Wait>(&self, rt: &R, pass: &mut Pass<O>, ask: O::Ask) -> Result<O::Reply, Worn>
-        requires { pass.old.lock ≡ Some self.now }
+        requires pass { pass.old.lock ≡ Some self.now }
+        requires may { (x : O) → StartsWith (O.log x) pass.old.seen
+            → O.fixed x ≡ self.now.fixed → O.may x ask }
         ensures same { IsSamePass pass.old pass.new }
         ensures done { IfOk result
             (λ reply. Turned O.log O.by O.mark O.fixed O.acts self.now ask reply pass.old pass.new) }

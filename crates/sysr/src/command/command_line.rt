@@ -36,16 +36,24 @@ const MAX_GRACE: u32 = 86_400;
 
 const MAX_MOMENT: u32 = 1_000_000_000;
 
+const CHECKPOINT_EVERY: u32 = 100_000;
+
+const MAX_PIECES: u32 = 1_000_000;
+
 /// What the command line asks for.
 #[derive(Drop)]
 pub enum CommandLine<'a> {
     /// To answer the lines of standard input.
     Run(Running<'a>),
-    /// To write the accepted changes of the lines of standard input.
-    Journal(Reading),
+    /// To write the accepted changes of the lines of standard input, or of this server's folder.
+    Journal {
+        data: Option<&'a str>,
+        reading: Reading,
+    },
     /// To write what would make the state that they leave, beginning with what this file says.
     Dump {
         load: Option<&'a str>,
+        data: Option<&'a str>,
         reading: Reading,
     },
     /// To serve sessions, at these socket files of users' own too.
@@ -89,8 +97,8 @@ pub struct Running<'a> {
 /// that is bounded, how many records a step of the checkpointer takes, how much there may be, for
 /// how many seconds a session waits for its client, if not for ever, whether it is told where
 /// sessions begin and end, who is denied what, and when that was; from which file the first changes
-/// come, to which each change is written, and when that is put on its disk, to which the state is
-/// written at the end, and whether to audit then; at which control socket it may be told to stop,
+/// come, to which each change is written, or in which folder of its own it keeps them, and when they are put on
+/// the disk, to which the state is written at the end, and whether to audit then; at which control socket it may be told to stop,
 /// whether the end of standard input tells it so, and how many seconds sessions then have.
 #[derive(Clone, Copy)]
 pub struct Serving<'a> {
@@ -111,12 +119,22 @@ pub struct Serving<'a> {
     pub log_time: bool,
     pub load: Option<&'a str>,
     pub journal: Option<&'a str>,
+    pub data: Option<OwnFolder<'a>>,
     pub sync: JournalSync,
     pub dump: Option<&'a str>,
     pub audit: bool,
     pub control: Option<&'a str>,
     pub until_eof: bool,
     pub grace: u64,
+}
+
+/// A server's own folder: where it is, behind how many changes a checkpoint is written to it, and how many pieces
+/// of its journal are kept, if not all.
+#[derive(Clone, Copy)]
+pub struct OwnFolder<'a> {
+    pub path: &'a str,
+    pub every: u64,
+    pub pieces: Option<usize>,
 }
 
 /// When a journal is put on its disk, where a loss of power leaves it.
@@ -142,9 +160,10 @@ pub enum StatusForm {
 }
 
 /// What is to be explained of a journal or a script: a question, as of which moment, if not at its
-/// end, and in which form; and how standard input is read.
+/// end, and in which form; and how standard input is read, or which server's folder is.
 #[derive(Clone, Copy)]
 pub struct Explaining<'a> {
+    pub data: Option<&'a str>,
     pub reading: Reading,
     pub at: Option<u64>,
     pub format: Format,
@@ -250,6 +269,23 @@ fn journal_sync_of(matches: &ArgMatches<'_>) -> JournalSync {
     }
 }
 
+// clap has refused a number out of range.
+fn own_folder_of<'a>(matches: &ArgMatches<'a>) -> Option<OwnFolder<'a>> {
+    let path = matches.get_str("data")?;
+    let every = matches
+        .get_one::<u32>("checkpoint-every")
+        .unwrap_or(CHECKPOINT_EVERY);
+    let pieces = match matches.get_one::<u32>("keep-pieces") {
+        Some(pieces) => Some(pieces.min(MAX_PIECES) as usize),
+        None => None,
+    };
+    Some(OwnFolder {
+        path,
+        every: every.max(1) as u64,
+        pieces,
+    })
+}
+
 // clap has refused a number out of range. An error is its own, where both ports are the same.
 fn serving_of<'a>(alloc: Global, matches: &ArgMatches<'a>) -> Result<Serving<'a>, Error>
     ensures { IfOk result ServesInRange }
@@ -275,6 +311,7 @@ fn serving_of<'a>(alloc: Global, matches: &ArgMatches<'a>) -> Result<Serving<'a>
         log_time: matches.get_flag("log-time"),
         load: matches.get_str("load"),
         journal: matches.get_str("journal"),
+        data: own_folder_of(matches),
         sync: journal_sync_of(matches),
         dump: matches.get_str("dump"),
         audit: matches.get_flag("audit"),
@@ -364,6 +401,7 @@ fn explaining_of<'a>(matches: &ArgMatches<'a>) -> Explaining<'a>
     ensures { IsInRange (CommandLine.Explain result) }
 {
     Explaining {
+        data: matches.get_str("data"),
         reading: reading_of(matches),
         at: moment_of(matches),
         format: format_of(matches),
@@ -399,7 +437,8 @@ fn control_of<'a>(matches: &ArgMatches<'a>) -> Option<CommandLine<'a>>
 /// them; the changes from 1 to 1,000,000,000, and 1,000,000 where none are given; the seconds of an
 /// idle session, if they are given, from 1 to 86,400; the sessions that may be open at once, if that
 /// is given, from 1 to 1,000,000; the moment of an explanation, if it is given, from 0 to
-/// 1,000,000,000; the seconds of grace from 0 to 86,400, and 10 where none are given. An error is
+/// 1,000,000,000; the seconds of grace from 0 to 86,400, and 10 where none are given; the changes behind which a
+/// checkpoint is written from 1 to 1,000,000,000, and 100,000 where none are given. An error is
 /// clap's: the words were refused, help or the version was asked for, or there was no memory. Words
 /// are also refused where one that is to name a user names none, and where both ports are the same.
 pub fn options<'a, S: AsStr>(alloc: Global, words: &'a [S]) -> Result<CommandLine<'a>, Error>
@@ -424,11 +463,15 @@ pub fn options<'a, S: AsStr>(alloc: Global, words: &'a [S]) -> Result<CommandLin
     if let Some(dump) = matches.subcommand_matches("dump") {
         return Ok(CommandLine::Dump {
             load: dump.get_str("load"),
+            data: dump.get_str("data"),
             reading: reading_of(dump),
         });
     }
     if let Some(journal) = matches.subcommand_matches("journal") {
-        return Ok(CommandLine::Journal(reading_of(journal)));
+        return Ok(CommandLine::Journal {
+            data: journal.get_str("data"),
+            reading: reading_of(journal),
+        });
     }
     // clap has refused a command line without a command.
     let run = matches.subcommand_matches("run").unwrap_or(&matches);

@@ -153,6 +153,37 @@ fn journal_sync_arg<'a>(alloc: Global) -> Arg<'a> {
     value_arg(alloc, "journal-sync", "s", help).value_parser(JOURNAL_SYNCS.as_slice())
 }
 
+fn data_arg<'a>(alloc: Global) -> Result<Arg<'a>, AllocError> {
+    let help =
+        "Keeps its changes in this folder, which is made if it is missing, and begins with what it has; in \
+        place of --load and --journal";
+    value_arg(alloc, "data", "DIR", help)
+        .conflicts_with("load")?
+        .conflicts_with("journal")
+}
+
+fn checkpoint_every_arg<'a>(alloc: Global) -> Result<Arg<'a>, AllocError> {
+    let help =
+        "Changes behind which a checkpoint is written to the folder of --data, so that a start is short, from 1 \
+        to 1,000,000,000; 100,000 where it is not given";
+    taking(
+        value_arg(alloc, "checkpoint-every", "n", help),
+        clap::value_parser!(u32).range(1..=1000000000),
+    )
+    .requires_arg("data")
+}
+
+fn keep_pieces_arg<'a>(alloc: Global) -> Result<Arg<'a>, AllocError> {
+    let help =
+        "Pieces of the journal that stay in the folder of --data, from 0 to 1,000,000, beside those that a start \
+        needs; all where it is not given";
+    taking(
+        value_arg(alloc, "keep-pieces", "n", help),
+        clap::value_parser!(u32).range(0..=1000000),
+    )
+    .requires_arg("data")
+}
+
 fn dump_arg<'a>(alloc: Global) -> Arg<'a> {
     let help =
         "At the end writes to this file, which is new or empty, what would make the same state";
@@ -357,6 +388,9 @@ fn serve_command<'a>(alloc: Global) -> Made<'a> {
     let made = with(made, log_time_arg(alloc));
     let made = with(made, load_arg(alloc));
     let made = with(made, journal_arg(alloc));
+    let made = with(made, data_arg(alloc)?);
+    let made = with(made, checkpoint_every_arg(alloc)?);
+    let made = with(made, keep_pieces_arg(alloc)?);
     let made = with(made, journal_sync_arg(alloc));
     let made = with(made, dump_arg(alloc));
     let made = with(made, audit_arg(alloc));

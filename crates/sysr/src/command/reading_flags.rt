@@ -2,7 +2,7 @@
 
 use crate::command::commands::{Made, changes_arg, flag_arg, value_arg, with};
 use clap::Arg;
-use std::alloc::Global;
+use std::alloc::{AllocError, Global};
 
 static CUT_LINES: [&str; 2] = ["refuse", "drop"];
 
@@ -25,9 +25,15 @@ fn strict_arg<'a>(alloc: Global) -> Arg<'a> {
     flag_arg(alloc, "strict", help)
 }
 
+fn data_arg<'a>(alloc: Global) -> Result<Arg<'a>, AllocError> {
+    let help = "Reads the changes of this folder of a server, in place of standard input";
+    value_arg(alloc, "data", "DIR", help).conflicts_with("script")
+}
+
 /// The command with these flags behind its arguments. Where they are global, the subcommands of the
 /// command take them too.
 pub fn with_reading<'a>(alloc: Global, command: Made<'a>, is_global: bool) -> Made<'a> {
+    let command = with(command, data_arg(alloc)?.global(is_global));
     let command = with(command, script_arg(alloc).global(is_global));
     let command = with(command, cut_line_arg(alloc).global(is_global));
     let command = with(command, strict_arg(alloc).global(is_global));

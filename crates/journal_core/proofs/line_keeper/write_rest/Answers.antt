@@ -7,12 +7,12 @@ advance-requires g c = within-owed c.args.unwritten.now c.as_slice.result.now c.
 
 pub returns-in-Ok-clause-ok : goal.returns-in-Ok-clause-ok
 returns-in-Ok-clause-ok g c = λ start entry o.
-    rest_kept g.W.Sink.taken g.W.Sink.handed_on start entry c.args.sink.now c.resume.new.self c.write_through.new.sink c.args.unwritten.now c.clear.new.self c.as_slice.result.now o c.as_slice.ensures c.resume.ensures.bytes
+    rest_kept start entry (g.W.Sink.taken c.args.sink.now) (g.W.Sink.handed_on c.args.sink.now) (g.W.Sink.taken c.resume.new.self) (g.W.Sink.taken c.write_through.new.sink) (g.W.Sink.handed_on c.write_through.new.sink) c.args.unwritten.now c.clear.new.self c.as_slice.result.now o c.as_slice.ensures c.resume.ensures.bytes
     c.in-Ok.ensures.ok c.in-Ok.ensures.handed_on c.clear.ensures
 
 pub returns-in-Err-clause-err : goal.returns-in-Err-clause-err
 returns-in-Err-clause-err g c = λ start entry o.
-    rest_owed g.W.Sink.taken g.W.Sink.handed_on start entry c.args.sink.now c.resume.new.self c.write_through.new.sink c.args.unwritten.now c.advance.new.self c.as_slice.result.now o c.as_slice.ensures c.resume.ensures.bytes
+    rest_owed start entry (g.W.Sink.taken c.args.sink.now) (g.W.Sink.handed_on c.args.sink.now) (g.W.Sink.taken c.resume.new.self) (g.W.Sink.taken c.write_through.new.sink) (g.W.Sink.handed_on c.write_through.new.sink) c.args.unwritten.now c.advance.new.self c.as_slice.result.now o c.as_slice.ensures c.resume.ensures.bytes
     c.in-Err.count c.in-Err.ensures.err c.advance.ensures
 
 pub returns-in-Err-clause-owing : goal.returns-in-Err-clause-owing

@@ -2,4 +2,4 @@ use Rattle.load_core.proofs.GoneOn.{kept_on}
 use Rattle.load_core.proofs.laws.kept_goes_on.Goals as goal
 
 pub returns : goal.returns
-returns g c = kept_on g.W.Sink.taken g.W.Sink.handed_on
+returns c = kept_on

@@ -2,4 +2,4 @@ use Rattle.load_core.proofs.CutEnd.{told_on}
 use Rattle.load_core.proofs.laws.told_is_loaded.Goals as goal
 
 pub returns : goal.returns
-returns g c = told_on g.W.Sink.taken g.W.Sink.handed_on
+returns c = told_on

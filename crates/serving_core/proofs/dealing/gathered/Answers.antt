@@ -1,4 +1,4 @@
-use Rattle.std.proofs.Common.{◌≡◌, ◌+◌, [], ◌∷◌, ◌++◌, Some, arith}
+use Rattle.std.proofs.Common.{◌≡◌, ◌+◌, [], ◌∷◌, ◌++◌, Some, arith, ap, ◌∙◌, append_assoc}
 use Rattle.std.proofs.lemmas.List.Elements.{All-pop}
 use Rattle.server_core.specs.Sessions.{IsWorkers}
 use Rattle.serving_core.proofs.Back.{back_more, back_all}
@@ -27,5 +27,6 @@ returns-clause-servers g c =
     let by = c.args.entrance.now in
     let journal = c.args.begun.now.value.journal in
     let desk = c.args.desk.now in
-    let passes : c.push-2.new.self.items ≡ c.loop-worker.passes.items ++ c.args.own ∷ [] = c.in_ok-push-2.ensures.items in
+    let own = c.args.own in
+    let passes : c.push-3.new.self.items ≡ c.loop-worker.passes.items ++ own.tender ∷ own.checkpointer ∷ [] = c.in_ok-push-3.ensures.items ∙ (ap (λ ps. ps ++ own.checkpointer ∷ []) c.in_ok-push-2.ensures.items ∙ append_assoc c.loop-worker.passes.items (own.tender ∷ []) (own.checkpointer ∷ [])) in
     rw passes (back_all protocol by journal desk c.loop-worker.passes.items c.loop-worker.all.amount c.args.own c.loop-worker.invariant.back c.requires.own)

@@ -11,10 +11,8 @@ use Rattle.serving_core.proofs.laws.gone_on_server_is_kept.Goals as goal
 
 pub returns : goal.returns
 returns g c = λ by workers sessions start world old begun keeper leaves kept nothing whole loads.
-    let taken = g.W.Sink.taken in
-    let handed_on = g.W.Sink.handed_on in
     let rest = leaves.begins.0 in
-    let all = KeepsOrOwes-all (line_rules taken handed_on) begun keeper (drop (length start.journal) world.journal) (ap is_some nothing) kept in
-    subst (λ (es : List Entry). CanBeLoadedBehind world.limits old (taken begun.sink) (taken keeper.sink) (start.journal ++ map without_pass es))
+    let all = KeepsOrOwes-all (line_rules g.W.Errands.may_run g.W.Errands.knows) begun keeper (drop (length start.journal) world.journal) (ap is_some nothing) kept in
+    subst (λ (es : List Entry). CanBeLoadedBehind world.limits old begun.taken keeper.taken (start.journal ++ map without_pass es))
     (sym (ap (drop (length start.journal)) leaves.begins.1 ∙ drop_at start.journal rest (length start.journal) refl))
-    (kept_on taken handed_on world.limits old start.journal rest world.journal begun keeper all leaves.begins.1 leaves.ended.lawful.journal whole loads)
+    (kept_on world.limits old start.journal rest world.journal begun keeper all leaves.begins.1 leaves.ended.lawful.journal whole loads)

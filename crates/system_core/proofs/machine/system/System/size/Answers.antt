@@ -1,11 +1,9 @@
-use Rattle.std.proofs.Common.{◌≡◌, ◌%◌, ◌^◌, ◌∙◌, length, map, ap, sym, subst, arith}
+use Rattle.std.proofs.Common.{◌≡◌, ◌∙◌, length, ap, sym, subst, arith}
 use Rattle.std.proofs.lemmas.List.{length-map}
-use Rattle.base_core.specs.declared.value.Moment.{Moment}
 use Rattle.capture_core.specs.declared.image.Image.{Image}
 use Rattle.capture_core.specs.Image.{row_total}
 use Rattle.capture_core.proofs.BeginLemmas.{length_all_rows}
-use Rattle.system_core.specs.declared.machine.size.Size.{Size}
-use Rattle.system_core.specs.Journal.{tables_at, rights_at}
+use Rattle.system_core.specs.Journal.{tables_at}
 use Rattle.system_core.specs.World.{World, size_of}
 use Rattle.system_core.proofs.machine.system.System.size.Goals as goal
 

@@ -1,0 +1,13 @@
+pub mod Texts
+pub mod Wider
+pub mod Alike
+pub mod Histories
+pub mod DumpLoaded
+pub mod Newest
+pub mod PieceLoaded
+pub mod Passed
+pub mod Restored
+pub mod Clearing
+pub mod Ready
+pub mod FoundThere
+pub mod Made

@@ -1,0 +1,3 @@
+pub mod Reading
+pub mod Recovered
+pub mod History
