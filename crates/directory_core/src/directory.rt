@@ -97,13 +97,16 @@ impl Directory {
         let Ok(path) = name.path_in(self.host.alloc(), self.path.as_str()) else {
             return Err(Broken);
         };
-        match fs::remove_file(&self.host, path.as_str()) {
-            Ok(()) => {
-                self.names = self.shared.names_changed();
-                Ok(())
-            }
-            Err(_) => Err(Broken),
+        // Held open, since what it has is freed else in this very turn.
+        let held = fs::open(&self.host, path.as_str());
+        if fs::remove_file(&self.host, path.as_str()).is_err() {
+            return Err(Broken);
         }
+        self.names = self.shared.names_changed();
+        if let Ok(file) = held {
+            self.shared.hold(file);
+        }
+        Ok(())
     }
 }
 

@@ -148,6 +148,7 @@ impl Outside<HistoryDumps, Directory> for Hands {
     }
 
     fn rest<R: Wait>(&self, rt: &R, count: u64) {
+        self.shared.let_go(self.host.alloc());
         self.shared.rest(rt, count);
     }
 

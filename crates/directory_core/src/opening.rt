@@ -96,7 +96,7 @@ pub fn open(
     } else {
         None
     };
-    let Ok(shared) = Arc::new(alloc, Shared::new(folder, waker)) else {
+    let Ok(shared) = Arc::new(alloc, Shared::new(alloc, folder, waker)) else {
         return Err(OpenFault::NoMemory);
     };
     let (Ok(own), Ok(name), Ok(other)) = (

@@ -4,11 +4,12 @@ use crate::piece::{Piece, Standing};
 use crate::waiting::Waiting;
 use crate::waker::Waker;
 use base_core::Broken;
+use std::alloc::Global;
 use std::fs::File;
-use std::hint;
 use std::io::ErrorKind;
 use std::sync::atomic::{AtomicBool, AtomicU64, Ordering};
 use std::sync::{Arc, Mutex, MutexGuard, Wait};
+use std::{hint, mem};
 
 // How often a lock is tried that others hold for some moves.
 const TRIES: u64 = 1_000_000;
@@ -30,11 +31,13 @@ pub struct Shared {
     waker: Option<Waker>,
     /// Whether something could not be put on the disk: nobody knows then how much of it is there.
     is_lost: AtomicBool,
+    /// Files that were removed, held open.
+    removed: Mutex<Vec<File>>,
 }
 
 impl Shared {
     /// Of a folder to which nothing was written yet.
-    pub fn new(folder: File, waker: Option<Waker>) -> Shared {
+    pub fn new(alloc: Global, folder: File, waker: Option<Waker>) -> Shared {
         Shared {
             folder,
             standing: Mutex::new(Standing {
@@ -47,6 +50,7 @@ impl Shared {
             taker: Waiting::new(),
             waker,
             is_lost: AtomicBool::new(false),
+            removed: Mutex::new(Vec::new(alloc)),
         }
     }
 
@@ -146,6 +150,23 @@ impl Shared {
     /// A name was made, changed or removed. How often that was.
     pub fn names_changed(&self) -> u64 {
         self.names.fetch_add(1, Ordering::SeqCst).saturating_add(1)
+    }
+
+    /// Holds a file open that was removed. The system frees what it has when it is let go, which takes long.
+    pub fn hold(&self, file: File) {
+        if let Some(mut removed) = self.removed.try_lock() {
+            let _ = removed.push(file);
+        }
+    }
+
+    /// Lets go the files that are held open.
+    pub fn let_go(&self, alloc: Global) {
+        let Some(mut removed) = self.removed.try_lock() else {
+            return;
+        };
+        let files = mem::replace(&mut *removed, Vec::new(alloc));
+        drop(removed);
+        drop(files);
     }
 
     pub fn is_lost(&self) -> bool {
