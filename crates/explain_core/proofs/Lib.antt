@@ -10,6 +10,7 @@ pub mod Falling
 pub mod LastingLemmas
 pub mod LifeLemmas
 pub mod ListLemmas
+pub mod ListedLemmas
 pub mod LongestLemmas
 pub mod LossLemmas
 pub mod MadeLemmas

@@ -1,7 +1,9 @@
 -- The lives of grants, and the grants in force.
-use Rattle.std.proofs.Common.{◌≡◌, ℕ, ◌<◌, ◌≤◌, ◌+◌, ◌-◌, Bool, true, false, not, ◌&&◌, List, ◌++◌, Option, Some, None, is_some, is_none, option_map, map, length, take, drop, refl, sym, ap, ◌∙◌, arith, ◌==◌}
-use Rattle.std.specs.List.{AllByRecursion, Contains, list_any, filter, find, slice_get, range_with_len}
-use Rattle.std.proofs.lemmas.Bool.{and_parts, and_from, eqb-true, not-false}
+use Rattle.std.proofs.Common.{◌≡◌, ℕ, ◌<◌, ◌≤◌, ◌+◌, ◌-◌, Bool, true, false, not, ◌&&◌, ◌||◌, List, [], ◌∷◌, ◌++◌, Option, Some, None, is_some, is_none, option_map, map, cond, length, take, drop, refl, subst, sym, ap, ◌∙◌, arith, ◌==◌}
+use Rattle.std.specs.Prelude.{MatchOption}
+use Rattle.std.specs.List.{All, AllByRecursion, Contains, list_any, filter, find, slice_get, range_with_len}
+use Rattle.std.proofs.lemmas.Bool.{and_parts, and_from, or_parts, eqb-true, not-false}
+use Rattle.std.proofs.lemmas.List.Elements.{All-filter, All-from_recursion, All-weaker}
 use Rattle.std.proofs.lemmas.List.{take-append-drop, length-take-le, take_all}
 use Rattle.std.proofs.lemmas.Option.{slice_get-map}
 use Rattle.base_core.specs.declared.name.User.{User}
@@ -14,10 +16,12 @@ use Rattle.grants_core.specs.History.{made_by_all, granted, is_struck, is_unopti
 use Rattle.grants_core.proofs.ValidLemmas.{valid-part}
 use Rattle.explain_core.specs.declared.life.Life.{Life}
 use Rattle.explain_core.specs.Life.{left}
+use Rattle.grants_core.specs.Owners.{owns}
+use Rattle.explain_core.specs.Chains.{holds_after}
 use Rattle.explain_core.specs.Losses.{is_of_atom}
 use Rattle.grants_core.specs.Lawful.{AreLawful}
-use Rattle.explain_core.specs.Lives.{stands_at, first_failure, fall_of, option_end_of, life_of, lives_of}
-use Rattle.explain_core.proofs.ListLemmas.{filter_alike, filter_both, map_alike, filter-map, map-map, list_any-map, list_any-weaker, list_any-both, at_place, from_places, Contains-at, filter-at, find_none, none_found, found, All-range, range-All}
+use Rattle.explain_core.specs.Lives.{stands_at, first_failure, fall_of, given_to, option_end_of, life_of, lives_of}
+use Rattle.explain_core.proofs.ListLemmas.{filter_alike, filter_both, map_alike, filter-map, map-map, list_any-map, list_any-weaker, list_any-both, list_any-at, at_place, from_places, Contains-at, filter-at, find_none, none_found, found, All-range, range-All}
 use Rattle.explain_core.proofs.NumberedLemmas.{IsRising, rising-granted, rising-part, number-place, has_number_of, part-by_number, tested-by_number, part-filtered, All-part}
 use Rattle.explain_core.proofs.LastingLemmas.{IsWithin, moments-granted, numbers-before, SeesOptions, earlier}
 
@@ -183,9 +187,67 @@ gives-lives cs user atom lawful =
     ∙ list_any-map (gives user atom) left (filter (λ life. is_none life.fell) (lives_of cs))
     ∙ list_any-both (λ life. is_none life.fell) (λ life. gives user atom (left life)) (lives_of cs)
 
+-- **and whether one does with the option**
+pub option-lives : (cs : List Change) (user : User) (atom : Atom) → AreLawful cs
+    → list_any (λ g. g.option && gives user atom g) (in_force_after cs) ≡ list_any (λ life. is_none life.fell && (not (is_some life.option_end) && gives user atom life.grant)) (lives_of cs)
+unfolding gives
+option-lives cs user atom lawful =
+    ap (list_any (λ g. g.option && gives user atom g)) (in_force-left cs lawful)
+    ∙ list_any-map (λ g. g.option && gives user atom g) left (filter (λ life. is_none life.fell) (lives_of cs))
+    ∙ list_any-both (λ life. is_none life.fell) (λ life. (left life).option && gives user atom (left life)) (lives_of cs)
+
 -- **the grants of an atom in force, told by the lives**
 pub left-of : (cs : List Change) (atom : Atom) → AreLawful cs → map left (filter (λ life. is_none life.fell && is_of_atom atom life.grant) (lives_of cs)) ≡ filter (is_of_atom atom) (in_force_after cs)
 left-of cs atom lawful =
     ap (map left) (filter_both (λ life. is_none life.fell) (λ life. is_of_atom atom life.grant) (lives_of cs))
     ∙ sym (filter-map (is_of_atom atom) left (filter (λ life. is_none life.fell) (lives_of cs)))
     ∙ ap (filter (is_of_atom atom)) (sym (in_force-left cs lawful))
+
+-- who does not own the table holds the atom exactly if a life stands that gives it to him
+pub standing-holds : (cs : List Change) (user : User) (atom : Atom) (first : Option ℕ) → AreLawful cs → owns (owners_after cs) user atom ≡ false
+    → MatchOption first (list_any (gives user atom) (in_force_after cs) ≡ false) (λ number. (life : Life) × (slice_get (lives_of cs) number ≡ Some life) × (life.fell ≡ None) × (gives user atom life.grant ≡ true))
+    → is_some first ≡ holds_after cs user atom
+standing-holds cs user atom None lawful other none = sym (ap (λ b. owns (owners_after cs) user atom || b) none ∙ ap (λ b. b || false) other)
+standing-holds cs user atom (Some number) lawful other (life, at, stands, gives_it) =
+    let both : (is_none life.fell && gives user atom life.grant) ≡ true = and_from (is_none life.fell) (gives user atom life.grant) (none_is life.fell stands) gives_it in
+    let there : list_any (gives user atom) (in_force_after cs) ≡ true = gives-lives cs user atom lawful ∙ list_any-at (λ l. is_none l.fell && gives user atom l.grant) (lives_of cs) number life at both in
+    sym (ap (λ b. owns (owners_after cs) user atom || b) there ∙ ap (λ b. b || true) other)
+
+-- where none passes both tests, each that passes the second fails the first
+any-false : {A : Type 0} (p q : A → Bool) (xs : List A) → list_any (λ x. p x && q x) xs ≡ false → AllByRecursion (λ x. p x ≡ false) (filter q xs)
+any-false p q [] none = tt
+any-false {A} p q (x ∷ xs) none =
+    let parts = or_parts (p x && q x) (list_any (λ y. p y && q y) xs) none in
+    by (p x) (q x) (filter q xs) parts.0 (any-false p q xs parts.1) refl
+  where
+    by : (here there : Bool) (rest : List A) → (here && there) ≡ false → AllByRecursion (λ y. p y ≡ false) rest → p x ≡ here
+        → AllByRecursion (λ y. p y ≡ false) (cond there (x ∷ rest) rest)
+    by here false rest out h is = h
+    by true true rest out h is = absurd (let never : ⊥ = cc in never)
+    by false true rest out h is = (is, h)
+
+not_none : {A : Type 0} (o : Option A) → is_none o ≡ false → is_some o ≡ true
+not_none None h = absurd (let never : ⊥ = cc in never)
+not_none (Some x) h = refl
+
+-- each grant to a user who does not hold the atom has fallen
+pub given-fallen : (cs : List Change) (user : User) (atom : Atom) → AreLawful cs → holds_after cs user atom ≡ false → All (λ life. is_some life.fell ≡ true) (given_to cs user atom)
+given-fallen cs user atom lawful lacks =
+    let none = (or_parts (owns (owners_after cs) user atom) (list_any (gives user atom) (in_force_after cs)) lacks).1 in
+    let told = sym (gives-lives cs user atom lawful) ∙ none in
+    All-weaker (λ (life : Life). is_none life.fell ≡ false) (λ life. is_some life.fell ≡ true) (λ life. not_none life.fell) (given_to cs user atom)
+    (All-from_recursion (λ (life : Life). is_none life.fell ≡ false) (given_to cs user atom) (any-false (λ life. is_none life.fell) (λ life. gives user atom life.grant) (lives_of cs) told))
+
+-- a life is at the place of its number
+pub lives-at : (cs : List Change) → All (λ life. slice_get (lives_of cs) life.grant.number ≡ Some life) (lives_of cs)
+lives-at cs =
+    let At : Life → Type 0 = λ life. slice_get (lives_of cs) life.grant.number ≡ Some life in
+    All-from_recursion At (lives_of cs)
+    (from_places At (lives_of cs)
+    (λ k life at.
+    let Of : ℕ → Type 0 = λ n. slice_get (lives_of cs) n ≡ Some life in
+    subst Of (sym (life-number cs k life at)) at))
+
+pub given-at : (cs : List Change) (user : User) (atom : Atom) → All (λ life. slice_get (lives_of cs) life.grant.number ≡ Some life) (given_to cs user atom)
+given-at cs user atom =
+    All-filter (λ life. gives user atom life.grant) (λ (life : Life). slice_get (lives_of cs) life.grant.number ≡ Some life) (lives_of cs) (lives-at cs)

@@ -1,5 +1,5 @@
 -- Filters, maps and first places of lists.
-use Rattle.std.proofs.Common.{◌≡◌, ◌⊎◌, ℕ, ◌<◌, ◌≤◌, ◌+◌, Bool, true, false, ◌||◌, ◌&&◌, cond, List, [], ◌∷◌, ◌++◌, Some, None, map, reverse, length, take, drop, get_or, zero, suc, refl, sym, ap, ◌∙◌, subst, arith, ⊎_elim, inl, inr}
+use Rattle.std.proofs.Common.{◌≡◌, ◌⊎◌, ℕ, ◌<◌, ◌≤◌, ◌+◌, ◌-◌, Bool, true, false, ◌||◌, ◌&&◌, cond, List, [], ◌∷◌, ◌++◌, Some, None, map, reverse, length, take, drop, get_or, zero, suc, refl, sym, ap, ◌∙◌, subst, arith, ⊎_elim, inl, inr, drop-drop, append_assoc}
 use Rattle.std.proofs.lemmas.List.{reverse-append, take-append-drop}
 use Rattle.std.proofs.Math.Seq.{drop-cons}
 use Rattle.std.proofs.lemmas.List.Elements.{All-nil, All-cons, All-pop}
@@ -181,3 +181,18 @@ drop-here xs at x within is =
 -- what is before a place, what is there, and what is behind it
 pub split-here : {A : Type 0} (xs : List A) (at : ℕ) (x : A) → at < length xs → x ≡ get_or xs at x → xs ≡ take at xs ++ x ∷ drop (at + 1) xs
 split-here xs at x within is = sym (take-append-drop at xs) ∙ ap (λ k. take at xs ++ k) (drop-here xs at x within is)
+
+-- what is at a place
+pub item-here : {A : Type 0} (xs : List A) (at : ℕ) → at < length xs → (x : A) × (x ≡ get_or xs at x)
+item-here [] at within = absurd (omega (arith, within))
+item-here (y ∷ ys) zero within = (y, refl)
+item-here (y ∷ ys) (suc at) within = item-here ys at (omega (arith, within))
+
+-- what is before a place, what is from there up to another, and what is behind that
+pub split-range : {A : Type 0} (xs : List A) (from to : ℕ) → from ≤ to → to ≤ length xs → (take from xs ++ take (to - from) (drop from xs)) ++ drop to xs ≡ xs
+split-range xs from to some within =
+    let there : from + (to - from) ≡ to = omega (arith, some) in
+    append_assoc (take from xs) (take (to - from) (drop from xs)) (drop to xs)
+    ∙ ap (λ k. take from xs ++ (take (to - from) (drop from xs) ++ k)) (sym (drop-drop (to - from) from xs ∙ ap (λ n. drop n xs) there))
+    ∙ ap (λ k. take from xs ++ k) (take-append-drop (to - from) (drop from xs))
+    ∙ take-append-drop from xs

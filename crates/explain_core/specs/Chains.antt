@@ -1,5 +1,5 @@
 -- Why a user holds a privilege, or does not.
-use Rattle.std.specs.Prelude.{◌≡◌, ◌+◌, true, false, Bool, ℕ, List, [], ◌∷◌, ◌++◌, All, slice_get, Some}
+use Rattle.std.specs.Prelude.{◌≡◌, ◌+◌, true, false, Bool, ℕ, List, [], ◌∷◌, ◌++◌, All, is_some, slice_get, Some}
 use Rattle.std.specs.List.{Contains}
 use Rattle.base_core.specs.declared.name.User.{User}
 use Rattle.base_core.specs.declared.privilege.Atom.{Atom}
@@ -51,3 +51,4 @@ IsWhy changes user atom (why.Holds chain) =
     × (last : Grant) × (gives user atom last ≡ true) × IsChain changes chain.items last
 IsWhy changes user atom (why.Lacks given) =
     (holds_after changes user atom ≡ false) × (given.items ≡ given_to changes user atom)
+    × All (λ life. is_some life.fell ≡ true) given.items

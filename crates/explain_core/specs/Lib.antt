@@ -9,3 +9,5 @@ pub mod Lives
 pub mod Losses
 pub mod Reading
 pub mod Supports
+pub mod Takings
+pub mod Listed

@@ -1,5 +1,5 @@
 //! What would take a privilege from a user.
-ghost use Rattle.std.specs.Prelude.{◌≡◌, ◌&&◌, true, is_none, IfOk, All, filter};
+ghost use Rattle.std.specs.Prelude.{◌≡◌, ◌≤◌, ◌&&◌, ◌++◌, true, is_none, IfOk, All, drop, filter, length, take};
 ghost use Rattle.std.specs.List.{list_any};
 ghost use Rattle.grants_core.specs.Content.{gives, has_made};
 ghost use Rattle.grants_core.specs.History.{in_force_after};
@@ -9,6 +9,7 @@ ghost use Rattle.explain_core.specs.Cuts.{IsCut};
 
 use crate::history::History;
 use crate::life::Life;
+use crate::users::Users;
 use crate::why::Why;
 use base_core::{Atom, NoMemory, User};
 use grants_core::{Grant, KeptGrants, Owners};
@@ -30,6 +31,19 @@ struct Standing<'a> {
     grants: &'a [Grant],
 }
 
+/// The users but for those from one place up to another.
+fn all_but(alloc: Global, users: &[User], from: usize, to: usize) -> Result<Vec<User>, NoMemory>
+    requires some { from ≤ to }
+    requires within { to ≤ length users.now }
+    ensures { IfOk result
+        (λ rest. rest.items ≡ take from users.now ++ drop to users.now) }
+{
+    let mut rest = Vec::with_capacity(alloc, users.len() - (to - from))?;
+    rest.extend_from_slice(&users[..from])?;
+    rest.extend_from_slice(&users[to..])?;
+    Ok(rest)
+}
+
 impl<'a> Standing<'a> {
     /// To whom the grants by this user are, each once.
     fn grantees(&self, alloc: Global, by: &User) -> Result<Vec<User>, NoMemory>
@@ -38,13 +52,18 @@ impl<'a> Standing<'a> {
             (λ v. has_made self.now.grants.now by.now v self.now.atom.now ≡ true) whom.items) }
         ensures all { IfOk result (λ whom. AreAllOf by.now self.now.grants.now whom.items) }
     {
-        let mut whom = Vec::new(alloc);
+        let mut whom = Users::new(alloc);
         for grant in self.grants {
-            if grant.grantor == *by && !whom.as_slice().contains(&grant.grantee) {
-                whom.push(grant.grantee)?;
+            if grant.grantor == *by {
+                let Ok(()) = whom.add(&grant.grantee) else {
+                    drop(whom);
+                    return Err(NoMemory);
+                };
             }
         }
-        Ok(whom)
+        let Users { listed, seen } = whom;
+        drop(seen);
+        Ok(listed)
     }
 
     /// Whether the user, who does not own the table, would hold the atom if this one revoked it
@@ -74,8 +93,9 @@ impl<'a> Standing<'a> {
         Ok(holds)
     }
 
-    /// Those of the users from whom this one has to revoke, so that the other loses the atom: each
-    /// is left out in turn, from the last to the first, and stays out where the rest is enough.
+    /// Those of the users from whom this one has to revoke, so that the other loses the atom. Some are left out at
+    /// once, from the last on: twice as many as the time before where the rest is enough, and else half as many,
+    /// down to a single one, who stays. So it is tried some times for each who stays, and not for each who does not.
     fn needed(
         &self,
         alloc: Global,
@@ -91,10 +111,20 @@ impl<'a> Standing<'a> {
             self.now.grants.now self.now.atom.now user.now by.now needed.items) }
     {
         let mut needed = whom;
-        for at in (0..needed.len()).rev() {
-            let one = needed.remove(at);
-            if self.holds_without(alloc, user, by, &needed)? {
-                needed.insert(at, one)?;
+        let mut tried = needed.len();
+        let mut step = 1;
+        while tried > 0 {
+            let from = tried.saturating_sub(step);
+            let rest = all_but(alloc, &needed, from, tried)?;
+            if !self.holds_without(alloc, user, by, &rest)? {
+                needed = rest;
+                tried = from;
+                step = step.saturating_mul(2);
+            } else if from + 1 == tried {
+                tried = from;
+                step = 1;
+            } else {
+                step = (tried - from) / 2;
             }
         }
         Ok(needed)

@@ -13,7 +13,7 @@ use grants_core::{Change, Grant};
 use std::alloc::Global;
 
 /// Whether the change revokes the grant itself.
-fn strikes(change: &Change, grant: &Grant) -> bool
+pub(crate) fn strikes(change: &Change, grant: &Grant) -> bool
     ensures { result ≡ strikes change.now grant.now }
 {
     match change {

@@ -149,7 +149,8 @@ impl History {
 
     /// The changes, in order.
     pub fn changes(&self) -> &[Change]
-        ensures { result.now ≡ self.now }
+        ensures value { result.now ≡ self.now }
+        ensures lawful { AreLawful self.now }
     {
         self.changes.as_slice()
     }

@@ -47,9 +47,12 @@ pub mod laws;
 mod life;
 mod made;
 mod supports;
+mod taking;
+mod users;
 mod why;
 
 pub use cut::Cut;
 pub use history::History;
 pub use life::Life;
+pub use taking::{Taking, at_moment};
 pub use why::Why;

@@ -19,7 +19,7 @@ pub struct Life {
 }
 
 /// Whether an end is this moment. None is never.
-fn is_end(end: Option<Moment>, at: Moment) -> bool
+pub(crate) fn is_end(end: Option<Moment>, at: Moment) -> bool
     ensures { result ≡ is_end at end }
 {
     match end {

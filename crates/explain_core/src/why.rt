@@ -6,7 +6,7 @@ ghost use Rattle.grants_core.specs.Content.{gives};
 ghost use Rattle.grants_core.specs.History.{owners_after, in_force_after};
 ghost use Rattle.explain_core.specs.declared.life.Life.{Life as lives};
 ghost use Rattle.explain_core.specs.Lives.{lives_of};
-ghost use Rattle.explain_core.specs.Chains.{CreatesAt, IsWhy};
+ghost use Rattle.explain_core.specs.Chains.{CreatesAt, IsWhy, holds_after};
 
 use crate::history::History;
 use crate::life::Life;
@@ -70,11 +70,20 @@ impl History {
         None
     }
 
+    /// Whether the user holds the atom: he owns its table, or a grant in force gives it to him.
+    pub fn holds(&self, user: &User, atom: &Atom) -> bool
+        ensures { result ≡ holds_after self.now user.now atom.now }
+    {
+        let _ = &self.lives;
+        self.owns(user, atom) || self.standing(user, atom).is_some()
+    }
+
     /// Why the user holds the atom, or why he does not. `NoMemory` where a request for memory was
     /// refused.
     pub fn why(&self, alloc: Global, user: &User, atom: &Atom) -> Result<Why, NoMemory>
         ensures { IfOk result (λ why. IsWhy self.now user.now atom.now why) }
     {
+        let _ = &self.lives;
         if let Some(since) = self.owned_since(user, atom) {
             return Ok(Why::Owns { since });
         }

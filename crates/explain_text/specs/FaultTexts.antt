@@ -1,5 +1,5 @@
 -- Why a question is not answered, as it is told to people.
-use Rattle.std.specs.Prelude.{ℕ, ◌-◌, Bool, true, false, List, ◌++◌, length, take, codes}
+use Rattle.std.specs.Prelude.{ℕ, Bool, true, false, List, ◌++◌, codes}
 use Rattle.reply_core.specs.Texts.{fault_text, reply_text}
 use Rattle.load_core.specs.FaultTexts.{without_last}
 use Rattle.load_core.specs.declared.fault.Undone.{Undone}

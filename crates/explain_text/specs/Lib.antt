@@ -1,3 +1,5 @@
+pub mod Answering
+pub mod Asking
 pub mod FaultTexts
 pub mod Questions
 pub mod Supposing

@@ -1,5 +1,5 @@
 -- What is asked, and in which forms it is answered.
-use Rattle.std.specs.Prelude.{ℕ, Bool, true, false, List, [], codes, Option, Some, None}
+use Rattle.std.specs.Prelude.{ℕ, Bool, true, false, List, [], codes, Some, None}
 use Rattle.explain_text.specs.declared.question.Question.{Question}
 use Rattle.explain_text.specs.declared.question.Question.TheVariants as questions
 use Rattle.explain_words.specs.declared.format.Format.{Format}
@@ -61,23 +61,3 @@ abbrev pub has_format : Question → Format → Bool
 has_format question formats.Text = true
 has_format question formats.Csv = true
 has_format question formats.Dot = has_graph question
-
--- whether its answer may be no: that he lacks what was asked, or that nothing takes it from him
-abbrev pub may_be_no : Question → Bool
-may_be_no (questions.Why user privilege table) = true
-may_be_no (questions.Who table privilege) = false
-may_be_no questions.Rights = false
-may_be_no questions.Fell = false
-may_be_no questions.Grants = false
-may_be_no (questions.If line) = false
-may_be_no (questions.Cut user privilege table) = true
-
--- whether something may be remarked beside its answer: why nothing is taken
-abbrev pub may_remark : Question → Bool
-may_remark (questions.Why user privilege table) = false
-may_remark (questions.Who table privilege) = false
-may_remark questions.Rights = false
-may_remark questions.Fell = false
-may_remark questions.Grants = false
-may_remark (questions.If line) = false
-may_remark (questions.Cut user privilege table) = true

@@ -1,23 +1,37 @@
 //! Questions answered.
-ghost use Rattle.std.specs.Prelude.{◌≡◌, ◌↔◌, false, true, None, Err, IfOk, IsErrOf};
-ghost use Rattle.std.specs.Io.KnownBytes.{Keeps};
-ghost use Rattle.explain_text.specs.Questions.{may_be_no, may_remark};
+ghost use Rattle.std.specs.Prelude.{◌≡◌, ◌↔◌, ◌++◌, false, true, None, Err, IfOk, IsErrOf, List, ℕ};
+ghost use Rattle.std.specs.Io.KnownBytes.{Appends, Keeps};
+ghost use Rattle.system_core.specs.Journal.{changes, tables_at};
+ghost use Rattle.explain_records.specs.Consequences.{if_answer};
+ghost use Rattle.explain_records.specs.Cuttings.{IsCutAnswer};
+ghost use Rattle.explain_records.specs.Records.{fell_answer, who_answer};
+ghost use Rattle.explain_records.specs.Steps.{IsWhyAnswer};
+ghost use Rattle.explain_text.specs.Answering.{AnswersQuestion, IsAnswerTo, may_remark};
 ghost use Rattle.explain_text.specs.declared.fault.Unanswered.{Unanswered as reasons};
 
-use crate::answer::Answer;
+use crate::asked::Asked;
 use crate::fault::{ExplainFault, Unanswered};
 use crate::question::Question;
-use crate::words::{atoms_named, table_of, user_of};
 use base_core::{Atom, Name, NoMemory, Sink, User, write_all};
 use explain_core::History;
+use explain_records::{
+    consequences_records, cut_records, fallen_records, grants_records, holders_records,
+    reasons_records, rights_records,
+};
 use explain_words::{
-    Format, Past, Prose, atoms_of_table, consequences_as_records, cut_told, fallen_records,
-    grants_made, holders_as_records, put_all_fallen, put_consequences, put_grants_graph,
-    put_holders, put_reasons_of, put_why_graph, rights_in_force, steps_of,
+    Format, Past, Prose, put_all_fallen, put_consequences, put_cuts, put_grants_graph, put_holders,
+    put_reasons_of, put_why_graph, uncut_remark,
 };
 use load_core::Replayed;
-use monitor_core::columns_of;
 use std::alloc::Global;
+
+/// An answer, before it is written.
+#[derive(Drop)]
+struct Answer {
+    text: Vec<u8>,
+    /// A sentence beside it, without a line end.
+    remark: Option<Vec<u8>>,
+}
 
 /// What was answered.
 #[derive(Drop)]
@@ -31,189 +45,147 @@ pub struct Answered {
 }
 
 /// Why the user holds the atoms, or why he does not.
-fn why_answer(
+fn why_told(
     alloc: Global,
     past: &Past<'_>,
     user: &User,
     table: &Name,
     atoms: &[Atom],
     format: Format,
-) -> Result<Answer, NoMemory>
-    ensures { IfOk result (λ answer. answer.remark ≡ None) }
+) -> Result<Vec<u8>, NoMemory>
+    ensures { format ≡ Format.Csv → IfOk result (λ text.
+        IsWhyAnswer past.now.history.now past.now.lines.now user.now atoms.now text.items) }
 {
     let mut text = Prose::new(alloc);
-    let is_yes = match format {
+    match format {
         Format::Text => put_reasons_of(&mut text, alloc, past, user, table, atoms)?,
         Format::Dot => put_why_graph(&mut text, alloc, past, user, table, atoms)?,
-        Format::Csv => {
-            let (text, is_yes) = steps_of(alloc, past, user, table, atoms)?;
-            return Ok(Answer::of(text, is_yes));
-        }
-    };
-    Ok(Answer::of(text.finish()?, is_yes))
+        Format::Csv => return reasons_records(alloc, &past.numbered(), user, atoms),
+    }
+    text.finish()
 }
 
 /// Who holds the atoms.
-fn who_answer(
+fn who_told(
     alloc: Global,
     past: &Past<'_>,
     table: &Name,
     atoms: &[Atom],
     format: Format,
-) -> Result<Answer, NoMemory>
-    ensures is_yes { IfOk result (λ answer. answer.is_yes ≡ true) }
-    ensures remark { IfOk result (λ answer. answer.remark ≡ None) }
+) -> Result<Vec<u8>, NoMemory>
+    ensures { format ≡ Format.Csv
+        → IfOk result (λ text. text.items ≡ who_answer past.now.history.now atoms.now) }
 {
     let mut text = Prose::new(alloc);
     match format {
         Format::Text => put_holders(&mut text, alloc, past, table, atoms)?,
         Format::Dot => put_grants_graph(&mut text, alloc, past, table, atoms),
-        Format::Csv => return Ok(Answer::told(holders_as_records(alloc, past, atoms)?)),
+        Format::Csv => return holders_records(alloc, past.history, atoms),
     }
-    Ok(Answer::told(text.finish()?))
+    text.finish()
 }
 
 /// The grants that fell.
-fn fell_answer(alloc: Global, past: &Past<'_>, format: Format) -> Result<Answer, Unanswered>
-    ensures is_yes { IfOk result (λ answer. answer.is_yes ≡ true) }
-    ensures remark { IfOk result (λ answer. answer.remark ≡ None) }
+fn fell_told(alloc: Global, past: &Past<'_>, format: Format) -> Result<Vec<u8>, NoMemory>
+    ensures { format ≡ Format.Csv → IfOk result
+        (λ text. text.items ≡ fell_answer past.now.history.now past.now.lines.now) }
 {
     if format == Format::Csv {
-        return told(fallen_records(alloc, past));
+        return fallen_records(alloc, &past.numbered());
     }
     let mut text = Prose::new(alloc);
-    match put_all_fallen(&mut text, alloc, past) {
-        Ok(()) => told(text.finish()),
-        Err(NoMemory) => Err(Unanswered::NoMemory),
-    }
+    put_all_fallen(&mut text, alloc, past)?;
+    text.finish()
 }
 
 /// What the change that was supposed takes.
-fn if_answer(alloc: Global, past: &Past<'_>, format: Format) -> Result<Answer, Unanswered>
-    ensures is_yes { IfOk result (λ answer. answer.is_yes ≡ true) }
-    ensures remark { IfOk result (λ answer. answer.remark ≡ None) }
+fn if_told(alloc: Global, past: &Past<'_>, format: Format) -> Result<Vec<u8>, NoMemory>
+    ensures { format ≡ Format.Csv → IfOk result
+        (λ text. text.items ≡ if_answer past.now.history.now past.now.lines.now) }
 {
     if format == Format::Csv {
-        return told(consequences_as_records(alloc, past));
+        return consequences_records(alloc, &past.numbered());
     }
     let mut text = Prose::new(alloc);
-    match put_consequences(&mut text, alloc, past) {
-        Ok(()) => told(text.finish()),
-        Err(NoMemory) => Err(Unanswered::NoMemory),
+    put_consequences(&mut text, alloc, past)?;
+    text.finish()
+}
+
+/// What would take the atoms from the user.
+fn cut_told(
+    alloc: Global,
+    past: &Past<'_>,
+    user: &User,
+    table: &Name,
+    atoms: &[Atom],
+    format: Format,
+) -> Result<Vec<u8>, NoMemory>
+    ensures { format ≡ Format.Csv → IfOk result
+        (λ text. IsCutAnswer past.now.history.now user.now atoms.now text.items) }
+{
+    if format == Format::Csv {
+        return cut_records(alloc, past.history, user, atoms);
+    }
+    let mut text = Prose::new(alloc);
+    put_cuts(&mut text, alloc, past, user, table, atoms)?;
+    text.finish()
+}
+
+/// What answers what is asked.
+fn text_of(
+    alloc: Global,
+    past: &Past<'_>,
+    asked: &Asked,
+    format: Format,
+) -> Result<Vec<u8>, NoMemory>
+    ensures { IfOk result (λ text.
+        IsAnswerTo past.now.history.now past.now.lines.now asked.now format text.items) }
+{
+    match asked {
+        Asked::Why { user, table, atoms } => why_told(alloc, past, user, table, atoms, format),
+        Asked::Who { table, atoms } => who_told(alloc, past, table, atoms, format),
+        Asked::Rights => rights_records(alloc, past.history),
+        Asked::Fell => fell_told(alloc, past, format),
+        Asked::Grants => grants_records(alloc, &past.numbered()),
+        Asked::If => if_told(alloc, past, format),
+        Asked::Cut { user, table, atoms } => cut_told(alloc, past, user, table, atoms, format),
     }
 }
 
-/// The atoms that are asked for on the table: those that the words name, or all.
-fn atoms_asked(
-    alloc: Global,
-    past: &Past<'_>,
-    table: Name,
-    privilege: Option<&str>,
-) -> Result<Vec<Atom>, Unanswered> {
-    match privilege {
-        Some(words) => atoms_named(alloc, past.tables, table, words),
-        None => Ok(atoms_of_table(alloc, table, columns_of(past.tables, table))?),
+/// What is told beside an answer: why nothing is taken, where that was asked.
+fn remark_of(alloc: Global, past: &Past<'_>, asked: &Asked) -> Result<Option<Vec<u8>>, NoMemory>
+    ensures { IfOk result (λ remark. may_remark asked.now ≡ false → remark ≡ None) }
+{
+    match asked {
+        Asked::Cut { user, table, atoms } => uncut_remark(alloc, past, user, table, atoms),
+        Asked::Why { .. }
+        | Asked::Who { .. }
+        | Asked::Rights
+        | Asked::Fell
+        | Asked::Grants
+        | Asked::If => Ok(None),
     }
 }
 
-/// A text that is no answer of yes or no.
-fn told(text: Result<Vec<u8>, NoMemory>) -> Result<Answer, Unanswered>
-    ensures is_yes { IfOk result (λ answer. answer.is_yes ≡ true) }
-    ensures remark { IfOk result (λ answer. answer.remark ≡ None) }
-{
-    match text {
-        Ok(text) => Ok(Answer::told(text)),
-        Err(NoMemory) => Err(Unanswered::NoMemory),
-    }
-}
-
-/// Why the user holds what these words say, or does not.
-fn why_asked(
-    alloc: Global,
-    past: &Past<'_>,
-    user: &str,
-    privilege: &str,
-    table: &str,
-    format: Format,
-) -> Result<Answer, Unanswered>
-    ensures { IfOk result (λ answer. answer.remark ≡ None) }
-{
-    let user = user_of(user)?;
-    let table = table_of(past.tables, table)?;
-    let atoms = atoms_named(alloc, past.tables, table, privilege)?;
-    Ok(why_answer(alloc, past, &user, &table, &atoms, format)?)
-}
-
-/// Who holds what these words say.
-fn who_asked(
-    alloc: Global,
-    past: &Past<'_>,
-    table: &str,
-    privilege: Option<&str>,
-    format: Format,
-) -> Result<Answer, Unanswered>
-    ensures is_yes { IfOk result (λ answer. answer.is_yes ≡ true) }
-    ensures remark { IfOk result (λ answer. answer.remark ≡ None) }
-{
-    let table = table_of(past.tables, table)?;
-    let atoms = atoms_asked(alloc, past, table, privilege)?;
-    Ok(who_answer(alloc, past, &table, &atoms, format)?)
-}
-
-/// What would take what these words say from the user. It is no where he owns the table.
-fn cut_asked(
-    alloc: Global,
-    past: &Past<'_>,
-    user: &str,
-    privilege: &str,
-    table: &str,
-    format: Format,
-) -> Result<Answer, Unanswered> {
-    let user = user_of(user)?;
-    let table = table_of(past.tables, table)?;
-    let atoms = atoms_named(alloc, past.tables, table, privilege)?;
-    let (text, remark) = cut_told(alloc, past, &user, &table, &atoms, format)?;
-    let is_yes = past.tables.owner(table) != Some(user);
-    Ok(Answer {
-        text,
-        is_yes,
-        remark,
-    })
-}
-
-/// The answer to a question of the past.
+/// The answer, with what is told beside it.
 fn answer_of(
     alloc: Global,
     past: &Past<'_>,
-    question: &Question<'_>,
+    asked: &Asked,
     format: Format,
 ) -> Result<Answer, Unanswered>
-    ensures is_yes { may_be_no question.now ≡ false
-        → IfOk result (λ answer. answer.is_yes ≡ true) }
-    ensures remark { may_remark question.now ≡ false
-        → IfOk result (λ answer. answer.remark ≡ None) }
+    ensures told { IfOk result (λ answer. IsAnswerTo past.now.history.now past.now.lines.now asked.now
+        format answer.text.items) }
+    ensures alone { IfOk result
+        (λ answer. may_remark asked.now ≡ false → answer.remark ≡ None) }
 {
-    match *question {
-        Question::Why {
-            user,
-            privilege,
-            table,
-        } => why_asked(alloc, past, user, privilege, table, format),
-        Question::Who { table, privilege } => who_asked(alloc, past, table, privilege, format),
-        Question::Rights => told(rights_in_force(alloc, past)),
-        Question::Fell => fell_answer(alloc, past, format),
-        Question::Grants => told(grants_made(alloc, past)),
-        Question::If { .. } => if_answer(alloc, past, format),
-        Question::Cut {
-            user,
-            privilege,
-            table,
-        } => cut_asked(alloc, past, user, privilege, table, format),
-    }
+    let text = text_of(alloc, past, asked, format)?;
+    let remark = remark_of(alloc, past, asked)?;
+    Ok(Answer { text, remark })
 }
 
 /// Writes the answer to a question about the rights that a script made, and has the writer hand it
-/// on. The history is that of what was replayed, as [`history_asked`] gives it. Says whether the
+/// on. The history is that of what was replayed, as [`history_asked`](crate::history_asked) gives it. Says whether the
 /// answer is yes, and of a `cut` that takes nothing why, which is not written.
 ///
 /// - `Write` exactly if the writer has failed. A front of the answer was written.
@@ -227,11 +199,12 @@ pub fn explain<W: Sink>(
     format: Format,
     writer: &mut W,
 ) -> Result<Answered, ExplainFault>
-    requires { W.failed writer.old ≡ false }
-    ensures is_yes { may_be_no question.now ≡ false
-        → IfOk result (λ answered. answered.is_yes ≡ true) }
-    ensures remark { may_remark question.now ≡ false
-        → IfOk result (λ answered. answered.remark ≡ None) }
+    requires good { W.failed writer.old ≡ false }
+    requires same { history.now ≡ changes replayed.now.world.journal }
+    ensures answers { IfOk result (λ answered. (text : List ℕ)
+        × Appends (W.taken writer.old) (W.taken writer.new) text
+        × AnswersQuestion history.now replayed.now.numbers (tables_at replayed.now.world.journal)
+        question.now format answered text) }
     ensures write { IsErrOf result ExplainFault.Write ↔ (W.failed writer.new ≡ true) }
     ensures unanswered { (why : reasons) → result ≡ Err (ExplainFault.Unanswered why)
         → Keeps (W.taken writer.old) (W.taken writer.new) }
@@ -242,9 +215,11 @@ pub fn explain<W: Sink>(
         journal: replayed.system.journal(),
         lines: replayed.lines.as_slice(),
     };
-    let answer = answer_of(alloc, &past, question, format)?;
+    let asked = Asked::read(alloc, past.tables, question)?;
+    let is_yes = asked.is_yes(history);
+    let answer = answer_of(alloc, &past, &asked, format)?;
     write_all(writer, &answer.text)?;
     writer.flush()?;
-    let Answer { is_yes, remark, .. } = answer;
+    let Answer { remark, .. } = answer;
     Ok(Answered { is_yes, remark })
 }

@@ -35,7 +35,7 @@
 //! its privilege for each step of a descent. The text is gathered in memory before it is written.
 #![tactic(auto)]
 
-mod answer;
+mod asked;
 mod explaining;
 mod fault;
 mod question;

@@ -1,17 +1,13 @@
 //! Revocations that would take a privilege from a user.
 
-use crate::format::Format;
 use crate::past::Past;
 use crate::privileges::{push_atom, put_privilege};
 use crate::prose::Prose;
-use crate::records::Records;
 use base_core::{Atom, Name, NoMemory, User};
 use explain_core::Cut;
 use reader_core::MAX_USERS;
 use std::alloc::Global;
 use tables_core::Tables;
-
-const FIELDS: [&[u8]; 4] = [b"by", b"table", b"privilege", b"user"];
 
 /// A cut, and the atoms that it takes.
 #[derive(Drop)]
@@ -78,45 +74,6 @@ fn put_lines(text: &mut Prose, tables: &Tables, cuts: &Cuts, table: &Name) {
     }
 }
 
-/// The lines of a script that take what these cuts take.
-fn lines_of(
-    alloc: Global,
-    tables: &Tables,
-    cuts: &[Cuts],
-    table: &Name,
-) -> Result<Vec<u8>, NoMemory> {
-    let mut text = Prose::new(alloc);
-    for one in cuts {
-        put_lines(&mut text, tables, one, table);
-    }
-    text.finish()
-}
-
-/// The records of what a cut names: for each atom and user one.
-fn put_records_of(records: &mut Records, cuts: &Cuts, user: &User) {
-    for atom in &cuts.atoms {
-        records.put_name(&cuts.cut.by.0);
-        records.put_privilege(atom);
-        records.put_name(&user.0);
-        records.end();
-    }
-}
-
-fn put_all_records_of(records: &mut Records, cuts: &Cuts) {
-    for user in &cuts.cut.whom {
-        put_records_of(records, cuts, user);
-    }
-}
-
-/// The records of these cuts.
-fn records_of(alloc: Global, cuts: &[Cuts]) -> Result<Vec<u8>, NoMemory> {
-    let mut records = Records::under(alloc, &FIELDS);
-    for one in cuts {
-        put_all_records_of(&mut records, one);
-    }
-    records.finish()
-}
-
 /// That the user owns the table.
 fn owner_remark(alloc: Global, user: &User, table: &Name) -> Result<Vec<u8>, NoMemory> {
     let mut text = Prose::new(alloc);
@@ -140,37 +97,40 @@ fn lack_remark(
     text.finish()
 }
 
-/// The cuts, as this format tells them.
-fn text_of(
-    alloc: Global,
-    tables: &Tables,
-    cuts: &[Cuts],
-    table: &Name,
-    format: Format,
-) -> Result<Vec<u8>, NoMemory> {
-    match format {
-        Format::Csv => records_of(alloc, cuts),
-        Format::Text | Format::Dot => lines_of(alloc, tables, cuts, table),
-    }
-}
-
-/// What would take the atoms from the user, and where nothing is taken a remark that says why.
-pub fn cut_told(
+/// Appends the lines of a script that take the atoms on the table from the user.
+pub fn put_cuts(
+    text: &mut Prose,
     alloc: Global,
     past: &Past<'_>,
     user: &User,
     table: &Name,
     atoms: &[Atom],
-    format: Format,
-) -> Result<(Vec<u8>, Option<Vec<u8>>), NoMemory> {
+) -> Result<(), NoMemory> {
     let cuts = cuts_of(alloc, past, user, atoms)?;
-    let text = text_of(alloc, past.tables, &cuts, table, format)?;
-    let remark = if past.tables.owner(*table) == Some(*user) {
-        Some(owner_remark(alloc, user, table)?)
-    } else if cuts.is_empty() {
-        Some(lack_remark(alloc, past.tables, user, table, atoms)?)
+    for one in &cuts {
+        put_lines(text, past.tables, one, table);
+    }
+    Ok(())
+}
+
+/// Whether the user holds one of the atoms.
+fn holds_any(past: &Past<'_>, user: &User, atoms: &[Atom]) -> bool {
+    atoms.iter().any(|atom| past.history.holds(user, atom))
+}
+
+/// Why nothing takes the atoms on the table from the user, in a sentence without a line end; nothing, if something does.
+pub fn uncut_remark(
+    alloc: Global,
+    past: &Past<'_>,
+    user: &User,
+    table: &Name,
+    atoms: &[Atom],
+) -> Result<Option<Vec<u8>>, NoMemory> {
+    if past.tables.owner(*table) == Some(*user) {
+        Ok(Some(owner_remark(alloc, user, table)?))
+    } else if holds_any(past, user, atoms) {
+        Ok(None)
     } else {
-        None
-    };
-    Ok((text, remark))
+        Ok(Some(lack_remark(alloc, past.tables, user, table, atoms)?))
+    }
 }

@@ -71,19 +71,16 @@ fn note_why(
     past: &Past<'_>,
     user: &User,
     atom: &Atom,
-) -> Result<bool, NoMemory> {
+) -> Result<(), NoMemory> {
     match past.history.why(alloc, user, atom)? {
-        Why::Owns { .. } => Ok(true),
+        Why::Owns { .. } => Ok(()),
         Why::Holds { chain } => {
             for grant in &chain {
                 set_part(parts, grant, Part::Holds);
             }
-            Ok(true)
+            Ok(())
         }
-        Why::Lacks { given } => {
-            note_descents(parts, alloc, past, &given)?;
-            Ok(false)
-        }
+        Why::Lacks { given } => note_descents(parts, alloc, past, &given),
     }
 }
 
@@ -227,24 +224,22 @@ pub fn put_grants_graph(
     put_graph(text, alloc, past, table, atoms, &parts);
 }
 
-/// Notes what tells why the user holds the atoms, or how he lost them. Says whether he holds them
-/// all.
+/// Notes what tells why the user holds the atoms, or how he lost them.
 fn note_each(
     parts: &mut Parts,
     alloc: Global,
     past: &Past<'_>,
     user: &User,
     atoms: &[Atom],
-) -> Result<bool, NoMemory> {
-    let mut holds = true;
+) -> Result<(), NoMemory> {
     for atom in atoms {
-        holds &= note_why(parts, alloc, past, user, atom)?;
+        note_why(parts, alloc, past, user, atom)?;
     }
-    Ok(holds)
+    Ok(())
 }
 
 /// Appends the graph of the atoms on the table, in which what tells why the user holds them is
-/// blue, and what tells how he lost them is red. Says whether he holds them all.
+/// blue, and what tells how he lost them is red.
 pub fn put_why_graph(
     text: &mut Prose,
     alloc: Global,
@@ -252,9 +247,9 @@ pub fn put_why_graph(
     user: &User,
     table: &Name,
     atoms: &[Atom],
-) -> Result<bool, NoMemory> {
+) -> Result<(), NoMemory> {
     let mut parts = no_parts(alloc, past)?;
-    let holds = note_each(&mut parts, alloc, past, user, atoms)?;
+    note_each(&mut parts, alloc, past, user, atoms)?;
     put_graph(text, alloc, past, table, atoms, &parts);
-    Ok(holds)
+    Ok(())
 }

@@ -4,7 +4,6 @@ use crate::lives::put_chain;
 use crate::past::{Owned, Past};
 use crate::privileges::{are_of_word, push_atom, put_privilege};
 use crate::prose::Prose;
-use crate::records::Records;
 use crate::rows::Rows;
 use crate::teller::Teller;
 use base_core::{Atom, Name, NoMemory, User};
@@ -12,8 +11,6 @@ use explain_core::Life;
 use grants_core::{Holding, Key};
 use indexmap::IndexMap;
 use std::alloc::Global;
-
-const FIELDS: [&[u8]; 6] = [b"table", b"user", b"privilege", b"option", b"since", b"by"];
 
 /// The first grant in force by which somebody holds a privilege, and whether one has the option.
 #[derive(Clone, Copy)]
@@ -181,28 +178,4 @@ pub fn put_holders(
     push_all(&mut teller, table, &owned, atoms);
     teller.rows.write(text);
     Ok(())
-}
-
-/// The record of who holds an atom by a grant in force.
-fn put_record(records: &mut Records, life: &Life) {
-    records.put_holding(&life.grant.grantee.0, &life.grant.atom);
-    records.put_flag(life.option_end.is_none());
-    records.put_moment(Some(life.grant.moment));
-    records.put_name(&life.grant.grantor.0);
-    records.end();
-}
-
-/// The records of those who hold the atoms on the table by grants in force.
-pub fn holders_as_records(
-    alloc: Global,
-    past: &Past<'_>,
-    atoms: &[Atom],
-) -> Result<Vec<u8>, NoMemory> {
-    let mut records = Records::under(alloc, &FIELDS);
-    for life in past.history.lives() {
-        if life.fell.is_none() && atoms.contains(&life.grant.atom) {
-            put_record(&mut records, life);
-        }
-    }
-    records.finish()
 }

@@ -3,30 +3,18 @@ ghost use Rattle.std.specs.Prelude.{◌<◌, ◌≤◌, length};
 
 use crate::folds::{Fold, folds_of};
 use crate::lives::{put_arrow, put_chain, put_option};
-use crate::outcomes::{Outcome, Outcomes, users_of};
 use crate::past::Past;
 use crate::privileges::{are_of_word, atoms_of_table, push_atom, put_privilege};
 use crate::prose::Prose;
 use crate::quoting::Quotes;
-use crate::records::Records;
 use crate::teller::Teller;
 use base_core::{Atom, Moment, Name, NoMemory, User};
-use explain_core::Life;
+use explain_core::{Life, Taking};
+use explain_records::{Outcome, Outcomes};
 use grants_core::{Holding, Key};
+use indexmap::IndexMap;
 use monitor_core::columns_of;
 use std::alloc::Global;
-
-const FIELDS: [&[u8]; 9] = [
-    b"table",
-    b"user",
-    b"privilege",
-    b"option",
-    b"since",
-    b"by",
-    b"how",
-    b"line",
-    b"outcome",
-];
 
 /// Atoms of one word of which the same is left to a user.
 #[derive(Drop)]
@@ -40,13 +28,10 @@ struct Left {
 
 /// How a grant is taken.
 fn put_taking(text: &mut Prose, past: &Past<'_>, life: &Life, at: Moment) {
-    if life.fell != Some(at) {
-        return text.put(b"option revoked: ");
-    }
-    text.put(if past.is_struck(life) {
-        b"revoked: ".as_slice()
-    } else {
-        b"falls: ".as_slice()
+    text.put(match past.history.taking(life, at) {
+        Taking::Revoked => b"revoked: ".as_slice(),
+        Taking::Fell => b"falls: ".as_slice(),
+        Taking::OptionRevoked => b"option revoked: ".as_slice(),
     });
 }
 
@@ -170,12 +155,12 @@ fn lefts_of(
             user: *user,
             privilege: Key(*atom),
         };
-        if let Some(outcome) = outcomes.of.get(&holding) {
+        if let Some(outcome) = outcomes.of_holding(&holding) {
             let is_owner = teller.past.history.owns(user, atom);
             let keeps = is_owner || outcome.kept.is_some();
             let mut by = teller.indented(0);
             if keeps {
-                put_kept(&mut by, teller, *outcome, is_owner);
+                put_kept(&mut by, teller, outcome, is_owner);
             }
             add_left(teller.alloc, &mut lefts, atom, keeps, by)?;
         }
@@ -198,6 +183,20 @@ fn push_lefts(teller: &mut Teller<'_>, user: &User, table: &Name, lefts: &[Left]
         left.append(&one.by);
         teller.rows.push_alone(left);
     }
+}
+
+/// The users whose grants are taken, each once.
+fn users_of(alloc: Global, outcomes: &Outcomes) -> Result<Vec<User>, NoMemory> {
+    let mut seen: IndexMap<Name, ()> = IndexMap::new(alloc);
+    let mut users = Vec::new(alloc);
+    for (holding, _) in outcomes.of.iter() {
+        if seen.get(&holding.user.0).is_none() {
+            seen.insert(holding.user.0, ())?;
+            users.reserve(1)?;
+            users.push_reserved(holding.user);
+        }
+    }
+    Ok(users)
 }
 
 /// What is left to each user whose grants on the table are taken.
@@ -240,7 +239,7 @@ fn push_consequences(teller: &mut Teller<'_>, lives: &[Life], at: Moment) {
         return push_nothing_taken(teller);
     };
     push_all_taken(teller, lives, at);
-    match Outcomes::read(teller.alloc, &teller.past, lives, at) {
+    match Outcomes::read(teller.alloc, teller.past.history, at) {
         Ok(outcomes) => push_outcomes(teller, &outcomes, &first.grant.atom.table),
         Err(NoMemory) => teller.rows.note(true),
     }
@@ -262,78 +261,4 @@ pub fn put_consequences(text: &mut Prose, alloc: Global, past: &Past<'_>) -> Res
     push_all(&mut teller);
     teller.rows.write(text);
     Ok(())
-}
-
-/// How a grant is taken, in a word or two. The option of one that stays ends by a revocation alone.
-fn taking_word(past: &Past<'_>, life: &Life, at: Moment) -> &'static [u8] {
-    if life.fell != Some(at) {
-        b"option revoked"
-    } else if past.is_struck(life) {
-        b"revoked"
-    } else {
-        b"fell"
-    }
-}
-
-/// What is left to the grantee, in a word or two.
-fn outcome_words(past: &Past<'_>, outcomes: &Outcomes, life: &Life) -> &'static [u8] {
-    if past.history.owns(&life.grant.grantee, &life.grant.atom) {
-        return b"keeps";
-    }
-    match outcomes.of_life(life) {
-        Some(outcome) if outcome.kept.is_none() => b"loses",
-        Some(outcome) if outcome.lost_option && !outcome.has_option => b"keeps without option",
-        _ => b"keeps",
-    }
-}
-
-/// The record of a grant that is taken, or whose option is.
-fn put_consequence(
-    records: &mut Records,
-    past: &Past<'_>,
-    outcomes: &Outcomes,
-    life: &Life,
-    at: Moment,
-) {
-    records.put_holding(&life.grant.grantee.0, &life.grant.atom);
-    records.put_flag(life.loses_option_at(at));
-    records.put_moment(Some(life.grant.moment));
-    records.put_name(&life.grant.grantor.0);
-    records.put(taking_word(past, life, at));
-    records.put_any(past.line_of(life.grant.moment));
-    records.put(outcome_words(past, outcomes, life));
-    records.end();
-}
-
-/// The records of those that are taken, with what is left to their users.
-fn records_of(
-    alloc: Global,
-    past: &Past<'_>,
-    outcomes: &Outcomes,
-    lives: &[Life],
-    at: Moment,
-) -> Result<Vec<u8>, NoMemory> {
-    let mut records = Records::under(alloc, &FIELDS);
-    for life in lives {
-        put_consequence(&mut records, past, outcomes, life, at);
-    }
-    records.finish()
-}
-
-/// The records of those that the change of the moment takes.
-fn taken_as_records(
-    alloc: Global,
-    past: &Past<'_>,
-    lives: &[Life],
-    at: Moment,
-) -> Result<Vec<u8>, NoMemory> {
-    let outcomes = Outcomes::read(alloc, past, lives, at)?;
-    records_of(alloc, past, &outcomes, lives, at)
-}
-
-/// A record for each grant that the last change takes, which is only supposed, or its option.
-pub fn consequences_as_records(alloc: Global, past: &Past<'_>) -> Result<Vec<u8>, NoMemory> {
-    let at = past.now();
-    let lives = past.history.taken_at(alloc, at)?;
-    taken_as_records(alloc, past, &lives, at)
 }

@@ -1,7 +1,9 @@
 //! What a script made: its history, its lines and its tables.
+ghost use Rattle.std.specs.Prelude.{◌≡◌};
 
 use base_core::{Atom, Moment, Name, NoMemory, User};
-use explain_core::{History, Life};
+use explain_core::{History, Life, Taking, at_moment};
+use explain_records::Numbered;
 use grants_core::{Change, Grant};
 use std::alloc::Global;
 use system_core::Entry;
@@ -25,12 +27,18 @@ pub struct Owned {
     pub since: Moment,
 }
 
-/// What stands at the moment in a list of which the first is of moment 1.
-fn at_moment<T>(items: &[T], at: Moment) -> Option<&T> {
-    items.get((at.0 as usize).checked_sub(1)?)
-}
-
 impl<'a> Past<'a> {
+    /// The history with the numbers of its lines.
+    pub fn numbered(&self) -> Numbered<'a>
+        ensures history { result.history.now ≡ self.now.history.now }
+        ensures numbers { result.numbers.now ≡ self.now.lines.now }
+    {
+        Numbered {
+            history: self.history,
+            numbers: self.lines,
+        }
+    }
+
     /// The moment of the last change.
     pub fn now(&self) -> Moment {
         Moment(self.journal.len() as u64)
@@ -84,14 +92,9 @@ impl<'a> Past<'a> {
 
     /// Whether the grant of the life fell by a REVOKE that names it.
     pub fn is_struck(&self, life: &Life) -> bool {
-        let Some(at) = life.fell else {
-            return false;
-        };
-        match at_moment(self.history.changes(), at) {
-            Some(Change::Revoke { by, atoms, whom }) => {
-                life.grant.is_named(by, atoms.as_slice(), whom.as_slice())
-            }
-            _ => false,
+        match life.fell {
+            Some(at) => self.history.taking(life, at) == Taking::Revoked,
+            None => false,
         }
     }
 

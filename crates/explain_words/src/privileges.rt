@@ -1,4 +1,8 @@
 //! Privileges as atoms, and as they are written.
+ghost use Rattle.std.specs.Prelude.{◌≡◌, ◌++◌, ◌∷◌, [], map, IfOk, OnOk};
+ghost use Rattle.base_core.specs.Privileges.{of_table};
+ghost use Rattle.monitor_core.specs.Atoms.{of_column};
+ghost use Rattle.explain_words.specs.Atoms.{all_atoms};
 
 use crate::prose::Prose;
 use base_core::{Atom, Column, Kind, Name, Named, NoMemory};
@@ -12,7 +16,10 @@ pub fn push_columns<T: Named>(
     table: Name,
     by: ByColumn,
     items: &[T],
-) -> Result<(), NoMemory> {
+) -> Result<(), NoMemory>
+    ensures { OnOk result (atoms.new.items
+        ≡ atoms.old.items ++ map (λ item. of_column by table (T.name_of item)) items.now) }
+{
     for item in items {
         atoms.reserve(1)?;
         atoms.push_reserved(by.of_column(table, item.name()));
@@ -21,7 +28,9 @@ pub fn push_columns<T: Named>(
 }
 
 /// Appends an atom.
-pub fn push_atom(atoms: &mut Vec<Atom>, atom: &Atom) -> Result<(), NoMemory> {
+pub fn push_atom(atoms: &mut Vec<Atom>, atom: &Atom) -> Result<(), NoMemory>
+    ensures { OnOk result (atoms.new.items ≡ atoms.old.items ++ atom.now ∷ []) }
+{
     let Atom { table, kind } = *atom;
     atoms.reserve(1)?;
     atoms.push_reserved(Atom { table, kind });
@@ -29,18 +38,18 @@ pub fn push_atom(atoms: &mut Vec<Atom>, atom: &Atom) -> Result<(), NoMemory> {
 }
 
 /// Appends an atom that has no column.
-pub fn push_one(atoms: &mut Vec<Atom>, table: Name, kind: Kind) -> Result<(), NoMemory> {
+pub fn push_one(atoms: &mut Vec<Atom>, table: Name, kind: Kind) -> Result<(), NoMemory>
+    ensures { OnOk result (atoms.new.items ≡ atoms.old.items ++ of_table table kind ∷ []) }
+{
     atoms.reserve(1)?;
     atoms.push_reserved(Atom { table, kind });
     Ok(())
 }
 
 /// All atoms of a table with these columns: SELECT of each, INSERT, DELETE, and UPDATE of each.
-pub fn atoms_of_table(
-    alloc: Global,
-    table: Name,
-    columns: &[Column],
-) -> Result<Vec<Atom>, NoMemory> {
+pub fn atoms_of_table(alloc: Global, table: Name, columns: &[Column]) -> Result<Vec<Atom>, NoMemory>
+    ensures { IfOk result (λ atoms. atoms.items ≡ all_atoms table columns.now) }
+{
     let mut atoms = Vec::new(alloc);
     push_columns(&mut atoms, table, ByColumn::Select, columns)?;
     push_one(&mut atoms, table, Kind::Insert)?;

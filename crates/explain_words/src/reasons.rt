@@ -185,42 +185,31 @@ fn parts_of(
     Ok(parts)
 }
 
-/// The rows of a part, under its head. Says whether he holds its atoms.
-fn push_part(teller: &mut Teller<'_>, user: &User, table: &Name, part: Part) -> bool {
+/// The rows of a part, under its head.
+fn push_part(teller: &mut Teller<'_>, user: &User, table: &Name, part: Part) {
     let head = part.head(teller, user, table);
     teller.rows.push_alone(head);
-    let Part { holds, rows, .. } = part;
+    let Part { rows, .. } = part;
     teller.rows.append(rows);
-    holds
 }
 
-fn push_parts(teller: &mut Teller<'_>, user: &User, table: &Name, parts: Vec<Part>) -> bool {
-    let mut holds = true;
+fn push_parts(teller: &mut Teller<'_>, user: &User, table: &Name, parts: Vec<Part>) {
     for part in parts {
-        holds &= push_part(teller, user, table, part);
+        push_part(teller, user, table, part);
     }
-    holds
 }
 
-/// The rows that tell why the user holds the atoms, or does not. Says whether he holds them all.
-fn push_reasons(
-    teller: &mut Teller<'_>,
-    user: &User,
-    table: &Name,
-    atoms: &[Atom],
-    owned: &Owned,
-) -> bool {
+/// The rows that tell why the user holds the atoms, or does not.
+fn push_reasons(teller: &mut Teller<'_>, user: &User, table: &Name, atoms: &[Atom], owned: &Owned) {
     if owned.owner == *user {
-        teller.push_owner(0, table, owned);
-        return true;
+        return teller.push_owner(0, table, owned);
     }
     let parts = parts_of(teller, user, atoms, owned);
     let parts = teller.rows.found(parts);
     push_parts(teller, user, table, parts)
 }
 
-/// Appends why the user holds the atoms of one privilege on the table, or why he does not, and says
-/// whether he holds them all.
+/// Appends why the user holds the atoms of one privilege on the table, or why he does not.
 pub fn put_reasons_of(
     text: &mut Prose,
     alloc: Global,
@@ -228,12 +217,12 @@ pub fn put_reasons_of(
     user: &User,
     table: &Name,
     atoms: &[Atom],
-) -> Result<bool, NoMemory> {
+) -> Result<(), NoMemory> {
     let Some(owned) = past.owned(table) else {
-        return Ok(false);
+        return Ok(());
     };
     let mut teller = Teller::new(alloc, *past)?;
-    let holds = push_reasons(&mut teller, user, table, atoms, &owned);
+    push_reasons(&mut teller, user, table, atoms, &owned);
     teller.rows.write(text);
-    Ok(holds)
+    Ok(())
 }

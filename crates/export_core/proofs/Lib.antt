@@ -1,7 +1,7 @@
-mod CsvLaw
-mod Fields
+pub mod CsvLaw
+pub mod Fields
 mod Cutting
-mod PlainNames
+pub mod PlainNames
 mod Places
 mod Giving
 mod WalkLemmas

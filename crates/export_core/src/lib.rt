@@ -60,13 +60,14 @@
 #![tactic(auto)]
 
 mod asked;
+mod cut_record;
 mod fault;
 mod judgement;
 pub mod laws;
 mod lines;
 mod marks;
 mod passage;
-mod record;
+pub mod record;
 mod rows;
 mod ticket;
 mod walk;

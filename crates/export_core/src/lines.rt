@@ -5,9 +5,10 @@ ghost use Rattle.export_core.specs.Export.{cut};
 ghost use Rattle.export_core.specs.Record.{IsPlain, row_line};
 ghost use Rattle.export_core.specs.Walk.{told};
 
+use crate::cut_record::{put_marked, write_record};
 use crate::judgement::Judgement;
 use crate::marks::Marks;
-use crate::record::{Field, begin, end, finish, put_field, put_marked, write_record, writer_after};
+use crate::record::{Field, begin, end, finish, put_field, writer_after};
 use base_core::{Name, NoMemory, Row};
 use capture_core::TableImage;
 use itoa::Buffer;

@@ -1,10 +1,12 @@
-//! Records at the end of a text.
+//! Records at the end of a text: lines of fields with commas between them.
+//!
+//! A field is in quotes exactly where it has a comma or a quote, and a quote inside is doubled; the line ends with a
+//! line feed. A record is written field by field, where a request for memory may be refused: then a front of it may
+//! stand in the text, which is of no use any more.
 ghost use Rattle.std.specs.Prelude.{◌≡◌, ◌<◌, ◌++◌, ◌∷◌, [], ℕ, List, length, map, codes, IfOk, OnOk};
 ghost use Rattle.csv.specs.Writing.{writer_pending};
-ghost use Rattle.export_core.specs.Export.{cut};
 ghost use Rattle.export_core.specs.Record.{IsBegun, IsBetween, IsPlain, comma, field_text, more_text, record_line, text_in};
 
-use crate::marks::{Marks, is_set};
 use base_core::{Column, Name, NoMemory};
 use csv::{Terminator, Writer, WriterBuilder};
 
@@ -39,26 +41,6 @@ impl Field for Column {
     }
 }
 
-/// The text with the line of a record at its end: the first field and those that are marked, with
-/// commas between them, and a line feed. A field is in quotes exactly where it has a comma or a
-/// quote, and a quote inside is doubled. The first field has to have a byte, and none below 32.
-/// `NoMemory` where a request for memory was refused.
-pub fn write_record<F: Field>(
-    text: Vec<u8>,
-    first: &[u8],
-    marks: &Marks,
-    fields: &[F],
-) -> Result<Vec<u8>, NoMemory>
-    requires some { 0 < length first.now }
-    requires plain { IsPlain first.now }
-    ensures { IfOk result (λ longer. longer.items
-        ≡ text.items ++ record_line (first.now ∷ map F.bytes (cut marks.now fields.now))) }
-{
-    let mut writer = writer_after(text);
-    put_record(&mut writer, first, marks, fields)?;
-    finish(writer)
-}
-
 /// A writer of records after this text. Records of one writer may differ in length.
 pub fn writer_after(text: Vec<u8>) -> Writer<Vec<u8>>
     ensures text { text_in result ≡ text.items }
@@ -69,27 +51,6 @@ pub fn writer_after(text: Vec<u8>) -> Writer<Vec<u8>>
         .terminator(Terminator::Any(b'\n'))
         .flexible(true)
         .from_writer(text)
-}
-
-/// Writes the line of a record: the first field, which has to have a byte, and those of the further
-/// ones that are marked.
-pub fn put_record<F: Field>(
-    writer: &mut Writer<Vec<u8>>,
-    first: &[u8],
-    marks: &Marks,
-    fields: &[F],
-) -> Result<(), NoMemory>
-    requires between { IsBetween writer.old }
-    requires some { 0 < length first.now }
-    requires plain { IsPlain first.now }
-    ensures text { OnOk result (text_in writer.new
-        ≡ text_in writer.old
-        ++ record_line (first.now ∷ map F.bytes (cut marks.now fields.now))) }
-    ensures between { OnOk result (IsBetween writer.new) }
-{
-    begin(writer, first)?;
-    put_marked(writer, marks, fields)?;
-    end(writer)
 }
 
 /// Writes the first field of a record.
@@ -122,8 +83,8 @@ pub fn put_field(writer: &mut Writer<Vec<u8>>, field: &[u8]) -> Result<(), NoMem
     Ok(())
 }
 
-// Writes further fields.
-fn put_fields<F: Field>(writer: &mut Writer<Vec<u8>>, fields: &[F]) -> Result<(), NoMemory>
+/// Writes further fields.
+pub fn put_fields<F: Field>(writer: &mut Writer<Vec<u8>>, fields: &[F]) -> Result<(), NoMemory>
     requires { IsBegun writer.old }
     ensures text { OnOk result (text_in writer.new
         ≡ text_in writer.old ++ more_text (map F.bytes fields.now)) }
@@ -135,40 +96,22 @@ fn put_fields<F: Field>(writer: &mut Writer<Vec<u8>>, fields: &[F]) -> Result<()
     Ok(())
 }
 
-// Writes further fields, but for those at places that are marked false.
-fn put_cut<F: Field>(
+/// Writes the line of a record: the first field, which has to have a byte, and the further ones.
+pub fn put_line<F: Field>(
     writer: &mut Writer<Vec<u8>>,
-    marks: &[bool],
+    first: &[u8],
     fields: &[F],
 ) -> Result<(), NoMemory>
-    requires { IsBegun writer.old }
+    requires between { IsBetween writer.old }
+    requires some { 0 < length first.now }
+    requires plain { IsPlain first.now }
     ensures text { OnOk result (text_in writer.new
-        ≡ text_in writer.old ++ more_text (map F.bytes (cut marks.now fields.now))) }
-    ensures begun { OnOk result (IsBegun writer.new) }
+        ≡ text_in writer.old ++ record_line (first.now ∷ map F.bytes fields.now)) }
+    ensures between { OnOk result (IsBetween writer.new) }
 {
-    for (at, field) in fields.iter().enumerate() {
-        if is_set(marks, at) {
-            field.put(writer)?;
-        }
-    }
-    Ok(())
-}
-
-/// Writes further fields, those that are marked.
-pub fn put_marked<F: Field>(
-    writer: &mut Writer<Vec<u8>>,
-    marks: &Marks,
-    fields: &[F],
-) -> Result<(), NoMemory>
-    requires { IsBegun writer.old }
-    ensures text { OnOk result (text_in writer.new
-        ≡ text_in writer.old ++ more_text (map F.bytes (cut marks.now fields.now))) }
-    ensures begun { OnOk result (IsBegun writer.new) }
-{
-    match marks.cut() {
-        None => put_fields(writer, fields),
-        Some(marks) => put_cut(writer, marks, fields),
-    }
+    begin(writer, first)?;
+    put_fields(writer, fields)?;
+    end(writer)
 }
 
 /// Ends the record.

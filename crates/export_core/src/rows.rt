@@ -4,8 +4,9 @@ ghost use Rattle.csv.specs.Writing.{writer_pending, writer_under};
 ghost use Rattle.export_core.specs.Export.{cut};
 ghost use Rattle.export_core.specs.Record.{IsBetween, row_line, text_in, value_field};
 
+use crate::cut_record::put_record;
 use crate::marks::Marks;
-use crate::record::{Field, put_field, put_record};
+use crate::record::{Field, put_field};
 use base_core::{NoMemory, Row, Value};
 use csv::Writer;
 use itoa::Buffer;

@@ -1,0 +1,5 @@
+pub mod Plain
+pub mod Lines
+pub mod Reasons
+pub mod OutcomeLemmas
+pub mod Left
