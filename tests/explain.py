@@ -5,6 +5,7 @@ are asked in explain_chance.py.
 """
 import csv
 import io
+import json
 import os
 import re
 import shlex
@@ -260,6 +261,12 @@ def page(explained):
     wanted = ["<td>@2</td><td>o</td><td>u1</td><td>yes</td><td>x</td><td>option @4</td>",
         "<td>@3</td><td>o</td><td>z</td><td></td><td>x</td><td></td>"]
     explained.check("the page of options", seen == wanted, seen)
+    told = [json.loads(re.search(f"const {name} = (.*);", text)[1]) for name in ("takes", "whys")]
+    whys = {user: explained.ask(["why", user, "SELECT", "t"], given)[1] for user in ("o", "u1", "z")}
+    wanted = [[[[0, "revoked", "loses"]], [[1, "revoked", "loses"]]], whys]
+    explained.check("what the page tells on a click", told == wanted, told)
+    quick = subprocess.run([*words, "--quick"], input=given, capture_output=True, timeout=WAIT).stdout.decode()
+    explained.check("a page that tells nothing", "const takes = null;" in quick and quick.count('id="row') == 2, quick[:200])
 
 
 def ended(done):

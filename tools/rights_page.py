@@ -6,12 +6,17 @@
 
 The page shows all that was ever granted of the privilege as a graph, and beside it as a list. A slider chooses the
 moment: grants that stand are green, those that fell before are grey and dashed, those that fall at the moment are red.
-Bold ones have the grant option. PRIVILEGE is SELECT, INSERT, DELETE or UPDATE, or of one column 'SELECT(wage)'. What
-is drawn is what `sysr explain grants` and `sysr explain rights` tell. With --picture it writes a picture of the whole
-time: what fell bears both of its moments.
+Bold ones have the grant option. A click on a grant tells what a REVOKE of it would take at the end, and who would keep
+what by others; or what fell with it. A click on a user tells why he holds the privilege at the end, or how he lost it.
+
+PRIVILEGE is SELECT, INSERT, DELETE or UPDATE, or of one column 'SELECT(wage)'. What is drawn is what `sysr explain grants`
+and `sysr explain rights` tell, and what is told on a click what `if` and `why` tell: a question for each grant that
+stands and for each user. With --quick nothing is told on clicks. With --picture it writes a picture of the whole time:
+what fell bears both of its moments.
 """
 import argparse
 import collections
+import concurrent.futures
 import csv
 import html
 import io
@@ -22,9 +27,14 @@ import sys
 
 SYSR = os.path.join(os.path.dirname(os.path.dirname(os.path.abspath(__file__))), "sysr")
 ACROSS, DOWN, MARGIN, RADIUS = 190, 84, 70, 24
+# How far an edge bends further round a circle, and how often at the most.
+BEND, MOST_BENDS = 26, 8
+# How many questions are asked at once.
+AT_ONCE = 4
 
 PAGE_STYLE = """<style>.stands path { marker-end: url(#head1a7f37) } .falls path { marker-end: url(#headb3261e) }
-.fell path { marker-end: url(#headaaa) }</style>"""
+.fell path { marker-end: url(#headaaa) } .told path { marker-end: url(#headd97706) }
+.edge path.near { marker-end: none }</style>"""
 
 PICTURE_STYLE = """<style>
 svg { background: #fafafa }
@@ -54,10 +64,17 @@ td, th { padding: .15em .7em; text-align: left; border-bottom: 1px solid #eee }
 tr { color: #999 }
 tr.stands { color: #116329 } tr.falls { color: #b3261e } tr.later { display: none }
 tr.head { color: #222 }
+tr.told { background: #fff1d0 }
+tr[id], g.edge, circle.user { cursor: pointer }
+#told { white-space: pre-wrap; font-family: monospace; padding: 1em 0; position: sticky; bottom: 0; background: #fff;
+  max-height: 40vh; overflow: auto }
+.asked g.edge:not(.told) { opacity: .15 }
 path { fill: none; stroke-width: 1.5 }
 path.bold { stroke-width: 4 }
 .stands path { stroke: #1a7f37 } .falls path { stroke: #b3261e }
 .fell path { stroke: #aaa; stroke-dasharray: 6 4 }
+.told path { stroke: #d97706 }
+.edge path.near { stroke: transparent; stroke-width: 14; stroke-dasharray: none }
 .later { display: none }
 text { font: 13px sans-serif; text-anchor: middle }
 .edge text { font-size: 11px; fill: #555; paint-order: stroke; stroke: #fafafa; stroke-width: 4px }
@@ -75,9 +92,15 @@ circle.holds { fill: #d5f0dc; stroke: #1a7f37 }
 %(rows)s
 </table>
 </main>
+<div id="told">%(hint)s</div>
 <script>
 const grants = %(grants)s;
 const lines = %(lines)s;
+const last = %(last)d;
+// Of each grant what a REVOKE of it would take, as numbers of grants with what is left to whom; of each user why.
+const takes = %(takes)s;
+const whys = %(whys)s;
+let told = new Set();
 function stateAt(grant, m) {
   if (m < grant.since) return "later";
   if (grant.fell === null || m < grant.fell) return "stands";
@@ -94,13 +117,43 @@ function show(m) {
   document.getElementById("line").textContent = lines[m] || "";
   grants.forEach((grant, n) => {
     const state = stateAt(grant, m);
-    document.getElementById("edge" + n).setAttribute("class", "edge " + state);
-    document.getElementById("row" + n).setAttribute("class", state);
+    const mark = told.has(n) ? " told" : "";
+    document.getElementById("edge" + n).setAttribute("class", "edge " + state + mark);
+    document.getElementById("row" + n).setAttribute("class", state + mark);
     document.getElementById("path" + n).setAttribute("class", hasOptionAt(grant, m) ? "bold" : "");
   });
   const holders = holdersAt(m);
   document.querySelectorAll("circle.user").forEach(circle =>
     circle.setAttribute("class", "user" + (circle.dataset.owner || holders.has(circle.dataset.name) ? " holds" : "")));
+}
+function named(n) {
+  const grant = grants[n];
+  return "@" + grant.since + " " + grant.by + " -> " + grant.to;
+}
+// The grants that are told of for one, and what is told.
+function toldOf(n) {
+  const grant = grants[n];
+  if (grant.fell !== null) {
+    const others = grants.map((_, at) => at).filter(at => at !== n && grants[at].fell === grant.fell);
+    const beside = others.map(at => "\\n  " + named(at)).join("");
+    return [[n, ...others], named(n) + " " + grant.how + " @" + grant.fell + (lines[grant.fell] ? " by " + lines[grant.fell] : "")
+      + (others.length ? "\\nand by the same REVOKE" + beside : "")];
+  }
+  const taken = takes[n] || [];
+  return [taken.map(([at]) => at), "@" + last + ": a REVOKE of " + named(n) + " would take" + taken.map(([at, how, left]) =>
+    "\\n  " + named(at) + (how === "fell" ? ", which falls: " : ", " + how + ": ") + grants[at].to + " " + left).join("")];
+}
+function tell(which, text) {
+  told = new Set(which);
+  document.getElementById("told").textContent = text;
+  document.querySelector("main").setAttribute("class", told.size ? "asked" : "");
+  show(Number(document.getElementById("moment").value));
+}
+if (typeof document !== "undefined" && takes) {
+  grants.forEach((_, n) => ["edge", "row"].forEach(part =>
+    document.getElementById(part + n).addEventListener("click", () => tell(...toldOf(n)))));
+  document.querySelectorAll("circle.user").forEach(circle =>
+    circle.addEventListener("click", () => tell([], whys[circle.dataset.name] || "")));
 }
 if (typeof document !== "undefined") {
   const moment = document.getElementById("moment");
@@ -118,6 +171,11 @@ def records(sysr, words, script):
     if done.returncode:
         sys.exit(done.stderr.decode().strip())
     return [*csv.DictReader(io.StringIO(done.stdout.decode()))]
+
+
+def answer(sysr, words, script):
+    """What is answered in words; nothing, where there is no answer."""
+    return subprocess.run([sysr, "explain", *words], input=script, capture_output=True).stdout.decode()
 
 
 def number(text):
@@ -190,13 +248,26 @@ def is_in_the_way(place, start, end, bend):
     return False
 
 
+def is_near(place, start, end, reach):
+    """Whether the place is so near to the line between two others."""
+    across, down = end[0] - start[0], end[1] - start[1]
+    length = (across ** 2 + down ** 2) ** 0.5
+    x, y = place[0] - start[0], place[1] - start[1]
+    ahead, aside = (x * across + y * down) / length, (x * down - y * across) / length
+    return abs(aside) < reach and -reach < ahead < length + reach
+
+
 def bend_of(start, end, before, places):
-    """How far an edge bends, with so many before it between the same users: round the circles of others."""
-    bend, others = 14 + 26 * before, [place for place in places if place not in (start, end)]
-    for _ in others if start != end else ():
+    """How far an edge bends, with so many before it between the same users: round the circles of others, if it can."""
+    bend = 14 + BEND * before
+    if start == end:
+        return bend
+    reach = RADIUS + 10 + (bend + BEND * MOST_BENDS) / 2
+    others = [place for place in places if place not in (start, end) and is_near(place, start, end, reach)]
+    for _ in range(MOST_BENDS):
         if not any(is_in_the_way(place, start, end, bend) for place in others):
             break
-        bend += 26
+        bend += BEND
     return bend
 
 
@@ -219,7 +290,7 @@ def drawn(owner, edges, style):
     width = max(x for x, _ in places.values()) + MARGIN
     height = max(y for _, y in places.values()) + MARGIN
     yield f'<svg viewBox="0 0 {width:.0f} {height:.0f}" width="{width:.0f}" height="{height:.0f}">'
-    for colour in ("#1a7f37", "#b3261e", "#aaa"):
+    for colour in ("#1a7f37", "#b3261e", "#aaa", "#d97706"):
         yield (f'<defs><marker id="head{colour[1:]}" orient="auto" markerUnits="userSpaceOnUse" markerWidth="12" '
             f'markerHeight="10" refX="8" refY="5"><polygon points="0 0, 12 5, 0 10" fill="{colour}"/></marker></defs>')
     yield style
@@ -229,7 +300,7 @@ def drawn(owner, edges, style):
         path, free = curve(start, end, bend_of(start, end, pairs[edge.by, edge.to] - 1, places.values()))
         labels.append(free_place(free, labels))
         x, y = labels[-1]
-        yield (f'<g class="edge stands" id="edge{at}"><path id="path{at}" d="{path}"/>'
+        yield (f'<g class="edge stands" id="edge{at}"><path id="path{at}" d="{path}"/>{near(path, style)}'
             f'<text x="{x:.0f}" y="{y:.0f}">@{edge.since}</text></g>')
     for user, (x, y) in places.items():
         name, owns = html.escape(user), ' data-owner="1"' if user == owner else ""
@@ -238,6 +309,11 @@ def drawn(owner, edges, style):
         yield f'<circle class="user" data-name="{name}"{owns} cx="{x:.0f}" cy="{y:.0f}" r="{RADIUS}"/>'
         yield f'<text x="{x:.0f}" y="{y + 4:.0f}">{name}</text>'
     yield "</svg>"
+
+
+def near(path, style):
+    """A wide path that nobody sees, for clicks; a picture has none."""
+    return f'<path class="near" d="{path}"/>' if style == PAGE_STYLE else ""
 
 
 def picture(owner, edges):
@@ -290,8 +366,43 @@ def history_of(sysr, privilege, table, script):
     return owner, edges_of(records(sysr, ["grants"], script), privilege, table)
 
 
-def page(title, owner, edges, script):
-    """The page."""
+def revocation_of(edge, privilege, table):
+    """The line that takes a grant from whom it was made to."""
+    word = privilege.partition("(")[0]
+    return f"{edge.by}: REVOKE {word}{f' ({edge.columns})' if edge.columns else ''} ON {table} FROM {edge.to}"
+
+
+def taken_by(sysr, line, edges, script):
+    """What the line would take, as numbers of edges, each with how it goes, and what is left to its user."""
+    found = {}
+    places = {(edge.since, edge.by, edge.to): at for at, edge in enumerate(edges)}
+    for row in records(sysr, ["if", line], script):
+        place = places.get((int(row["since"]), row["by"], row["user"]))
+        if place is not None:
+            found[place] = row["how"], row["outcome"]
+    return [[place, how, left] for place, (how, left) in found.items()]
+
+
+class Told:
+    """What is told on clicks: of each edge that stands what a REVOKE of it would take, and of each user why."""
+
+    def __init__(self, sysr, privilege, table, owner, edges, script):
+        self.users = sorted({owner, *(user for edge in edges for user in (edge.by, edge.to))})
+        with concurrent.futures.ThreadPoolExecutor(AT_ONCE) as pool:
+            takes = [pool.submit(taken_by, sysr, revocation_of(edge, privilege, table), edges, script)
+                if edge.fell is None else None for edge in edges]
+            whys = [pool.submit(answer, sysr, ["why", user, privilege, table], script) for user in self.users]
+            self.takes = [asked and asked.result() for asked in takes]
+            self.whys = dict(zip(self.users, (asked.result() for asked in whys)))
+
+
+def as_json(value):
+    """As a script may have it."""
+    return json.dumps(value).replace("<", "\\u003c")
+
+
+def page(title, owner, edges, script, told):
+    """The page; `told` may be nothing."""
     lines = script.decode(errors="replace").split("\n")
     first, last = int(owner["since"]), max(
         [int(owner["since"]), *(m for edge in edges for m in (edge.since, edge.fell, edge.option_end) if m)])
@@ -301,9 +412,12 @@ def page(title, owner, edges, script):
         "last": last,
         "svg": "\n".join(drawn(owner["user"], edges, PAGE_STYLE)),
         "rows": "\n".join(listed(edges, lines)),
-        "grants": json.dumps([{name: getattr(edge, name) for name in ("since", "to", "option", "fell", "option_end")}
-            for edge in edges]).replace("<", "\\u003c"),
-        "lines": json.dumps(moments(edges, first, lines)).replace("<", "\\u003c"),
+        "grants": as_json([{name: getattr(edge, name) for name in
+            ("since", "by", "to", "option", "fell", "how", "option_end")} for edge in edges]),
+        "lines": as_json(moments(edges, first, lines)),
+        "takes": as_json(told and told.takes),
+        "whys": as_json(told and told.whys),
+        "hint": "Click on a grant or on a user." if told else "",
     }
 
 
@@ -312,14 +426,18 @@ def main():
     words.add_argument("privilege", metavar="PRIVILEGE")
     words.add_argument("table", metavar="TABLE")
     words.add_argument("--picture", action="store_true", help="one picture of the whole time, as SVG")
+    words.add_argument("--quick", action="store_true", help="a page that tells nothing on clicks")
     words.add_argument("--sysr", default=SYSR, help="the program; the repository's own where it is not given")
     asked = words.parse_args()
     word, mark, column = "".join(asked.privilege.split()).partition("(")
     privilege, table, script = word.upper() + mark + column.lower(), asked.table.lower(), sys.stdin.buffer.read()
     owner, edges = history_of(asked.sysr, privilege, table, script)
     title = f"{privilege} on {table}, owned by {owner['user']} since @{owner['since']}"
-    told = picture(owner["user"], edges) if asked.picture else page(title, owner, edges, script)
-    sys.stdout.write(told)
+    if asked.picture:
+        sys.stdout.write(picture(owner["user"], edges))
+        return
+    told = None if asked.quick else Told(asked.sysr, privilege, table, owner["user"], edges, script)
+    sys.stdout.write(page(title, owner, edges, script, told))
 
 
 if __name__ == "__main__":
