@@ -100,7 +100,7 @@ def challenges(program, check):
     """Challenges that are answered by nothing: the password is not tried on them."""
     garbled, refused = bavgusen.ProtocolError, bavgusen.LoginError
     for name, change, wanted in (
-        ("another nonce", lambda text: "r=x" + text[3:], garbled),
+        ("another nonce", lambda text: "r=" + ("y" if text[2] == "x" else "x") + text[3:], garbled),
         ("the client's nonce alone", lambda text: text.replace(OWN, ""), garbled),
         ("few iterations", lambda text: text.replace("i=4096", "i=4095"), refused),
         ("iterations for hours", lambda text: text.replace("i=4096", "i=4096000000"), refused),

@@ -1,7 +1,7 @@
 """What `sysr explain` tells: worked rows, questions that have no answer, forms, long lists, and streams that break.
 
-The worked rows of grants have answers that were written by hand from the rules, in examples/explained. Scripts by chance
-are asked in explain_chance.py.
+The worked rows of grants have answers that were written by hand from the rules, in examples/explained. So has each
+sentence, in examples/sentences (explain_sentences.py). Scripts by chance are asked in explain_chance.py.
 """
 import csv
 import io
@@ -13,8 +13,9 @@ import subprocess
 import sys
 
 import explain_chance
+import explain_sentences
 import refusals
-from explain_chance import RIGHTS, WHY
+from explain_rows import RIGHTS, WHY
 from one_history import replies
 from reading import OF_MEMORY, left_out_of, left_out_told
 
@@ -100,8 +101,12 @@ def faults(explained):
         *((["why", "a", words, "t"], f"'{words}' is no privilege: write SELECT, INSERT, DELETE or UPDATE, or of a "
             "column SELECT(c) or UPDATE(c)") for words in ("", "REVOKE", "SELECT, INSERT", "INSERT(x)", "SELECT(x",
             "SELECT ON t TO b WITH GRANT OPTION", "SELECT(x, x)", "SELECT ON t TO a;")),
-        (["--format", "dot", "rights"], "rights has no dot: its formats are text and csv"),
-        (["--format", "dot", "if", "o: REVOKE SELECT ON t FROM a"], "if has no dot: its formats are text and csv"),
+        (["can", "a", "SELECT", "s"], "no table s"),
+        (["can", "a", "UPDATE(z)", "t"], "no column z in t"),
+        (["can", "1a", "SELECT", "t"], "'1a' is no name of a user or a table"),
+        *((["--format", "dot", *words], f"{words[0]} has no dot: its formats are text and csv") for words in (["rights"],
+            ["fell"], ["grants"], ["if", "o: REVOKE SELECT ON t FROM a"], ["cut", "a", "SELECT", "t"],
+            ["can", "a", "SELECT", "t"], ["diff"])),
         (["if", "o: REVOKE SELECT ON t FROM b"], "denied @2: o granted no SELECT(x) on t to b"),
         (["if", "o: REVOKE SELECT ON s FROM b"], "denied @2: no table s"),
         (["if", "o: SELECT * FROM t"], "no change: only a change can take a right"),
@@ -109,6 +114,9 @@ def faults(explained):
         (["if", "o: REVOKE SELECT ON t"], "error 4 at 21: not expected"),
         (["if", ""], "error 1 at 0: empty"),
         (["--at", "3", "rights"], "the script ends at @2"),
+        (["--at", "3", "diff"], "the script ends at @2"),
+        (["--at", "1", "diff", "--to", "3"], "the script ends at @2"),
+        (["--at", "2", "diff", "--to", "1"], "--to 1 is before --at 2"),
     ):
         seen = explained.ask(words, given)
         explained.check(f"explained: {words}", seen == (2, "", f"sysr: {told}\n"), seen)
@@ -119,6 +127,10 @@ def faults(explained):
         (["rights", "t"], "unexpected argument 't'"),
         (["--at", "1000000001", "rights"], "1000000001 is not in 0..=1000000000"),
         (["--at", "-1", "rights"], "-1"),
+        (["diff", "--to", "1000000001"], "1000000001 is not in 0..=1000000000"),
+        (["diff", "1"], "unexpected argument '1'"),
+        (["rights", "--to", "2"], "unexpected argument '--to'"),
+        (["can", "a", "SELECT"], "<TABLE>"),
         (["--format", "pdf", "rights"], "possible values: text, csv, dot"),
     ):
         status, out, err = explained.ask(words, given)
@@ -176,7 +188,8 @@ def long_chain(count):
 
 
 def long_lists(explained):
-    """A chain and a descent of 900 grants are folded for people, and whole for programs; a cut of 20 takes two lines."""
+    """A chain and a descent of 900 grants are folded for people, and whole for programs, as all else is; a cut of 20 takes
+    two lines."""
     given = [*long_chain(900)]
     status, out, err = explained.ask(["why", "u900", "SELECT", "t"], as_bytes(given))
     lines = out.splitlines()
@@ -199,6 +212,14 @@ def long_lists(explained):
         status, out, err = explained.ask(words, as_bytes(given))
         told = [re.sub("^  (revoked|falls): ", "", line).split()[0] for line in out.splitlines()[head:head + 900]]
         explained.check(f"whole: {words}", (status, err, told) == (0, "", [f"@{m}" for m in range(2, 902)]), out[:300])
+    status, out, err = explained.ask(["--at", "901", "diff"], as_bytes(given))
+    told = [line.split()[1] for line in out.splitlines()]
+    explained.check("whole: diff", (status, err, told) == (0, "", [f"@{m}" for m in range(2, 902)]), out[:300])
+    status, out, err = explained.ask(["--at", "901", "can", "u900", "INSERT", "t"], as_bytes(given))
+    explained.check("whole: can not", (status, out, err) == (1, "u900 may not grant INSERT on t @901\n", ""), out[:300])
+    status, out, err = explained.ask(["--at", "901", "can", "o", "INSERT", "t"], as_bytes(given))
+    told = ["o may grant INSERT on t @901", *(f"  to u{n}, who lacks it" for n in range(1, 901))]
+    explained.check("whole: can", (status, out.splitlines(), err) == (0, told, ""), out[:300])
     users = [f"u{n}" for n in range(20)]
     given = ["o: CREATE TABLE t (x INTEGER)",
         *(f"o: GRANT SELECT ON t TO {user} WITH GRANT OPTION" for user in users),
@@ -275,7 +296,8 @@ def ended(done):
 
 REFUSED = [["why", "d", "SELECT", "t"], ["--format", "csv", "why", "d", "SELECT", "t"], ["who", "t"],
     ["--format", "dot", "why", "d", "SELECT", "t"], ["--at", "6", "if", "a: REVOKE SELECT ON t FROM c"],
-    ["cut", "c", "SELECT", "t"]]
+    ["cut", "c", "SELECT", "t"], ["can", "a", "SELECT", "t"], ["--format", "csv", "can", "a", "SELECT", "t"],
+    ["--at", "2", "diff"], ["--at", "2", "--format", "csv", "diff"]]
 
 
 def refused_requests(program, check, preloaded, work, examples):
@@ -296,6 +318,7 @@ def played(program, check, examples):
     """Examples are names with their words, their lines and what is written for them."""
     explained = Explained(program, check)
     worked_rows(explained, examples)
+    explain_sentences.played(explained)
     faults(explained)
     forms(explained)
     cuts(explained)

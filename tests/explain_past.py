@@ -33,13 +33,6 @@ class Life:
     def key(self):
         return key(self.grant)
 
-    def is_of(self, grant):
-        return self.key() == key(grant)
-
-    def has_option(self):
-        """Whether it is in force with the option."""
-        return self.grant.option and not self.option_end
-
     def option_ended(self):
         """The moment from which it was not in force with the option: its own, if it was made without."""
         return self.option_end if self.grant.option else self.grant.moment
@@ -52,20 +45,27 @@ class Past:
         self.rights, self.moment, self.created, self.lines = rights, moment, created, lines
         self.by_moment = {change.moment: change for change in rights.changes}
         self.at = [{key(grant): grant for grant in rights.in_force(m)} for m in range(moment + 1)]
-        self.made, self.known = [*granted(rights.changes)], {}
+        self.made = [(grant, *self.ends(grant)) for grant in granted(rights.changes)]
+        self.known = {}
 
-    def life(self, grant, most):
-        """The life of a grant, as it is told at the moment `most`."""
-        def first(test):
-            return next((m for m in range(grant.moment, most + 1) if test(m)), None)
-        fell = first(lambda m: key(grant) not in self.at[m])
-        end = first(lambda m: key(grant) not in self.at[m] or not self.at[m][key(grant)].option)
-        return Life(grant, fell, end if grant.option else None, self.by_moment.get(fell), self.lines)
+    def ends(self, grant):
+        """The first moments at which a grant was not in force, and not with the option."""
+        name, moments = key(grant), range(grant.moment, self.moment + 1)
+        fell = next((m for m in moments if name not in self.at[m]), None)
+        end = next((m for m in moments if name not in self.at[m] or not self.at[m][name].option), None)
+        return fell, end
 
     def lives(self, most):
+        """The lives of all grants that were made, as they are told at the moment `most`."""
         if most not in self.known:
-            self.known[most] = [self.life(grant, most) for grant in self.made if grant.moment <= most]
+            self.known[most] = [*self.lives_until(most)]
         return self.known[most]
+
+    def lives_until(self, most):
+        for grant, *ends in self.made:
+            fell, end = (at if at and at <= most else None for at in ends)
+            if grant.moment <= most:
+                yield Life(grant, fell, end if grant.option else None, self.by_moment.get(fell), self.lines)
 
     def owners(self, most):
         return [[table, owner, "OWNER", "yes", str(moment), ""] for moment, table, owner in self.created
@@ -74,9 +74,25 @@ class Past:
     def since(self, table):
         return next(moment for moment, name, _ in self.created if name == table)
 
+    def owner(self, table):
+        return self.rights.owners[table]
+
+    def owns(self, user, atom):
+        return self.rights.owns(user, atom)
+
     def holds(self, user, atom, m):
-        return self.rights.owns(user, atom) or any(
+        return self.owns(user, atom) or any(
             (grant.to, grant.atom) == (user, atom) for grant in self.at[m].values())
+
+    def may_grant(self, user, atom, m):
+        return self.owns(user, atom) or any(
+            (grant.to, grant.atom, grant.option) == (user, atom, True) for grant in self.at[m].values())
+
+    def users(self, most):
+        """The users whom the changes up to the moment name, each once, in their order."""
+        named = {moment: [owner] for moment, _, owner in self.created}
+        named.update((change.moment, [change.by, *change.whom]) for change in self.rights.changes)
+        return list(dict.fromkeys(user for moment in sorted(named) if moment <= most for user in named[moment]))
 
     def is_revocation_of(self, moment, grant):
         change = self.by_moment[moment]

@@ -1,7 +1,7 @@
 """A second teller of what `sysr explain` says in words.
 
-It tells the same of a replay of all grants (explain_past.py) as LANGUAGE ("Rights explained") and the worked files say.
-Where an answer may choose, as of several chains that hold a right up, it is handed what was chosen, and tells the rest.
+It tells the same of a replay of all grants (explain_past.py) as LANGUAGE ("Rights explained") and the worked files
+say, whole. Where several chains hold a right up, it tells of the one that is chosen in explain_choice.py.
 """
 import itertools
 
@@ -10,13 +10,16 @@ from rights import REVOKE_OPTION
 # A list of more than MOST lines is told by its first and last ENDS; a chain in one line likewise.
 MOST_LINES, LINE_ENDS = 24, 10
 MOST_LINKS, LINK_ENDS = 8, 4
+# A line names so many users at most.
+MOST_USERS = 16
 # A row reaches so far whose line of the script stands beside it; else that stands below.
 WIDEST_ROW = 100
 
 
 def laid_out(rows):
     """Rows of two sides as lines: what stands on the right has one column, where it has room there."""
-    column = max((len(left) for left, right in rows if right and len(left) + 2 + len(right) <= WIDEST_ROW), default=0) + 2
+    lefts = (len(left) for left, right in rows if right and len(left) + 2 + len(right) <= WIDEST_ROW)
+    column = max(lefts, default=0) + 2
     for left, right in rows:
         if not right:
             yield left
@@ -39,7 +42,7 @@ def word_of(right):
     return right.partition("(")[0]
 
 
-def as_told(rights, columns=2):
+def as_told(rights, columns):
     """Rights of one word as a sentence names them, of a table with so many columns."""
     named = [right.removesuffix(")").partition("(")[2] for right in rights]
     if not named[0] or len(named) == columns:
@@ -59,10 +62,10 @@ def option_told(life):
 
 def chain_told(chain):
     """A chain in one line."""
-    links = [f" -@{grant.moment}-> {grant.to}" for grant in chain]
+    links = [f" -@{life.grant.moment}-> {life.grant.to}" for life in chain]
     if len(links) > MOST_LINKS:
         links[LINK_ENDS:-LINK_ENDS] = [f" .. {len(links) - 2 * LINK_ENDS} more .."]
-    return chain[0].by + "".join(links)
+    return chain[0].grant.by + "".join(links)
 
 
 def folded(lives):
@@ -88,11 +91,14 @@ def grouped(parts, key):
 
 
 class Teller:
-    """Tells of what a script of these lines left at a moment."""
+    """Tells of what a script of these lines left at a moment; of each table it is told how many columns it has."""
 
-    def __init__(self, past, given, m):
-        self.past, self.given, self.m = past, given, m
-        self.lives = past.lives(m)
+    def __init__(self, choice, given, widths):
+        self.choice, self.past, self.given, self.widths = choice, choice.past, given, widths
+        self.m, self.lives = choice.m, choice.lives
+
+    def named(self, table, rights):
+        return as_told(rights, self.widths[table])
 
     def quoted(self, moment):
         number = self.past.lines[moment]
@@ -100,27 +106,23 @@ class Teller:
 
     def owner(self, table, indent=""):
         since = self.past.since(table)
-        return f"{indent}{self.past.rights.owners[table]} owns {table} since @{since}", self.quoted(since)
+        return f"{indent}{self.past.owner(table)} owns {table} since @{since}", self.quoted(since)
 
     def life(self, life, indent="  ", front="", behind=""):
         grant = life.grant
         return f"{indent}{front}{arrow(grant)}{option_told(life)}{behind}", self.quoted(grant.moment)
 
-    def life_of(self, grant):
-        return next(life for life in self.lives if life.is_of(grant))
-
-    def given_to(self, user, atom):
-        return [life for life in self.lives if (life.grant.to, life.grant.atom) == (user, atom)]
-
-    def held(self, user, atom, chain):
+    def held(self, user, atom):
         """By which chain he holds it, and by what else."""
-        links = [[self.life(self.life_of(grant))] for grant in chain]
-        others = [[self.life(life)] for life in self.given_to(user, atom) if not life.fell and not life.is_of(chain[-1])]
+        chain = self.choice.held_by(user, atom)
+        standing = [life for life in self.choice.given(user, atom) if not life.fell]
+        links, others = ([[self.life(life)] for life in lives] for lives in (chain, standing[1:]))
         besides = [("  and besides by", "")] if others else []
         return [self.owner(atom[0], "  "), *folded_list(links, "  "), *besides, *folded_list(others, "  ")]
 
-    def lost(self, descents):
-        """How each grant fell; each descent leads from what the REVOKE named down to such a grant."""
+    def lost(self, user, atom):
+        """How each grant fell that was made to him."""
+        descents = map(self.choice.way_down, self.choice.given(user, atom))
         return folded_list([[*self.loss(descent)] for descent in descents], "  ")
 
     def loss(self, descent):
@@ -142,47 +144,44 @@ class Teller:
         yield "    so this one fell", ""
 
     def others(self, descent, fell):
-        """The grants to a grantor of the way down that were there until then, and why they kept nothing: one that he
+        """The grants to a grantor of the way down that were in force until then, and why they kept nothing: one that he
         made to himself in the grant that fell is none."""
+        before, after = self.past.at[fell - 1], self.past.at[fell]
         for support, unkept in zip(descent, descent[1:]):
-            for life in self.lives:
-                grant = life.grant
-                is_there = grant.moment < fell and (life.fell is None or life.fell >= fell)
-                if ((grant.to, grant.atom) == (support.grant.to, support.grant.atom) and is_there
-                        and not life.is_of(support.grant) and not life.is_of(unkept.grant)):
-                    reasons = ", and ".join(self.reasons(life, unkept, fell))
-                    yield f"    {arrow(grant)} did not keep @{unkept.grant.moment}: {reasons}", ""
+            for life in self.choice.given(support.grant.to, support.grant.atom):
+                if life.key() in before and life is not support and life is not unkept:
+                    reasons = self.reasons(life, before[life.key()].option, after.get(life.key()))
+                    if life.grant.moment >= unkept.grant.moment:
+                        reasons.append("is not earlier" if reasons else "it is not earlier")
+                    told = f"    {arrow(life.grant)} did not keep @{unkept.grant.moment}: {', and '.join(reasons)}"
+                    yield told, ""
 
-    def reasons(self, life, unkept, fell):
-        lacks = []
-        if life.fell == fell:
-            lacks.append("it fell by the same REVOKE")
-        elif not life.grant.option:
-            lacks.append("it has no option")
-        elif life.option_end and life.option_end < fell:
-            lacks.append(f"its option was gone since @{life.option_end}")
-        elif life.option_end == fell:
-            lacks.append("its option fell by the same REVOKE")
-        if life.grant.moment >= unkept.grant.moment:
-            lacks.append("is not earlier" if lacks else "it is not earlier")
-        return lacks
+    def reasons(self, life, had_option, left):
+        """What a grant lacked of which this is left, and which had the option until then or did not."""
+        if left is None:
+            return ["it fell by the same REVOKE"]
+        if not life.grant.option:
+            return ["it has no option"]
+        if not had_option:
+            return [f"its option was gone since @{life.option_end}"]
+        return [] if left.option else ["its option fell by the same REVOKE"]
 
-    def why(self, user, ways):
+    def why(self, user, table, atoms):
         """Why he holds atoms, or does not: of each the chain that holds it up, or the ways down to the grants lost."""
-        table = ways[0][0][0]
-        if self.past.rights.owns(user, ways[0][0]):
+        if self.past.owner(table) == user:
             return [*laid_out([self.owner(table)])]
         parts = []
-        for atom, chain, descents in ways:
-            rows = self.held(user, atom, chain) if chain else self.lost(descents)
-            has_option = any(life.has_option() for life in self.given_to(user, atom))
-            parts.append((atom[1], bool(chain), has_option, bool(descents), rows))
+        for atom in atoms:
+            holds, given = self.past.holds(user, atom, self.m), self.choice.given(user, atom)
+            rows = self.held(user, atom) if holds else self.lost(user, atom)
+            parts.append((atom[1], holds, self.past.may_grant(user, atom, self.m), bool(given), rows))
         rows = []
         for group in grouped(parts, lambda part: (part[1:4], tuple(part[4]))):
             _, holds, has_option, was_given, told = group[0]
-            head = f"{user} {'holds' if holds else 'lacks'} {as_told([part[0] for part in group])} on {table} @{self.m}"
+            rights = self.named(table, [part[0] for part in group])
+            head = f"{user} {'holds' if holds else 'lacks'} {rights} on {table} @{self.m}"
             head += ", with option" if has_option else ""
-            head += "" if holds or was_given else f": nobody ever granted it to {user}"
+            head += "" if was_given else f": nobody ever granted it to {user}"
             rows += [(head, ""), *told]
         return [*laid_out(rows)]
 
@@ -190,37 +189,40 @@ class Teller:
         """The grants that fell."""
         for lives in folded(life for life in self.lives if life.fell):
             life, grant = lives[0], lives[0].grant
-            yield (f"{arrow(grant)}, {as_told(rights_of(lives))} on {grant.atom[0]}{option_told(life)}, {life.how} "
+            table, rights = grant.atom[0], rights_of(lives)
+            yield (f"{arrow(grant)}, {self.named(table, rights)} on {table}{option_told(life)}, {life.how} "
                 f"@{life.fell} by {self.quoted(life.fell)}")
 
-    def who(self, table, atoms, chains):
-        """Who holds the atoms; `chains` has for each atom and holder the chain that holds it up, as told."""
-        parts, owner = [], self.past.rights.owners[table]
+    def who(self, table, atoms):
+        """Who holds the atoms, each with the chain that holds it up."""
+        parts, owner = [], self.past.owner(table)
         for atom in atoms:
             rows = []
-            for user in dict.fromkeys(life.grant.to for life in self.lives
-                    if life.grant.atom == atom and not life.fell and life.grant.to != owner):
-                option = any(life.has_option() for life in self.given_to(user, atom))
-                rows.append((f"  {user}{', with option' if option else ''}", chains[atom, user]))
+            holders = [life.grant.to for life in self.lives if life.grant.atom == atom and not life.fell]
+            for user in dict.fromkeys(holders):
+                option = ", with option" if self.past.may_grant(user, atom, self.m) else ""
+                if user != owner:
+                    rows.append((f"  {user}{option}", chain_told(self.choice.held_by(user, atom))))
             parts.append((atom[1], rows))
         rows = [self.owner(table)]
         for group in grouped(parts, lambda part: (word_of(part[0]), tuple(part[1]))):
             nobody = "" if group[0][1] else f": nobody but {owner}"
-            rows += [(f"{as_told([right for right, _ in group])} on {table} @{self.m}{nobody}", ""), *group[0][1]]
+            rights = self.named(table, [right for right, _ in group])
+            rows += [(f"{rights} on {table} @{self.m}{nobody}", ""), *group[0][1]]
         return [*laid_out(rows)]
 
     def taken(self):
         """The lives that the last change ended, or of which it ended the option."""
         return [life for life in self.lives if life.fell == self.m or life.grant.option and life.option_end == self.m]
 
-    def supposed(self):
-        """What the last change, which is only supposed, would take."""
+    def supposed(self, atoms):
+        """What the last change, which is only supposed, would take; the atoms are all of its table, in their order."""
         rows = [(f"@{self.m} would be {self.given[-1]}", "")]
         for _, group in itertools.groupby(folded(self.taken()), self.taking):
             rows.append(self.taking_told([*group]))
         if len(rows) == 1:
             rows.append(("  it takes nothing from anybody", ""))
-        return [*laid_out(rows)]
+        return [*laid_out([*rows, *((told, "") for told in self.outcomes(atoms))])]
 
     def taking(self, lives):
         """What grants of one statement that are told in one row have in common."""
@@ -232,44 +234,78 @@ class Teller:
         word = "option revoked" if life.fell != self.m else {"revoked": "revoked", "fell": "falls"}[life.how]
         named = [right for _, right in self.past.by_moment[self.m].atoms]
         row = f"  {word}: {arrow(life.grant)}" + "".join(f", {lives[0].grant.to}" for lives in group[1:])
-        row += "" if sorted(rights) == sorted(named) else f", {as_told(rights)}"
+        row += "" if sorted(rights) == sorted(named) else f", {self.named(life.grant.atom[0], rights)}"
         row += option_told(life) if life.fell == self.m else ""
         return row, self.quoted(life.grant.moment)
 
-    def outcomes(self, atoms, chains):
-        """What is left to each user of whom a grant is taken; `chains` has by what he keeps an atom, as told."""
-        taken = self.taken()
+    def outcomes(self, atoms):
+        """What is left to each user of whom a grant is taken."""
+        taken, table = self.taken(), atoms[0][0]
         for user in dict.fromkeys(life.grant.to for life in taken):
-            parts = [(atom[1], *self.outcome(user, atom, chains)) for atom in atoms
+            parts = [(atom[1], *self.outcome(user, atom)) for atom in atoms
                 if any((life.grant.to, life.grant.atom) == (user, atom) for life in taken)]
             for group in grouped(parts, lambda part: (word_of(part[0]), part[1:])):
                 _, verb, by = group[0]
-                yield f"  {user} would {verb} {as_told([right for right, *_ in group])} on {atoms[0][0]}{by}"
+                yield f"  {user} would {verb} {self.named(table, [right for right, *_ in group])} on {table}{by}"
 
-    def outcome(self, user, atom, chains):
-        if self.past.rights.owns(user, atom):
+    def outcome(self, user, atom):
+        if self.past.owns(user, atom):
             return "keep", " as its owner"
-        given = self.given_to(user, atom)
-        if all(life.fell for life in given):
+        chain = self.choice.held_by(user, atom)
+        if not chain:
             return "lose", ""
-        lost = any(life.grant.option and life.option_end == self.m for life in given)
-        keeps = any(life.has_option() for life in given)
-        return "keep", f" by {chains[atom, user]}" + (", but could not grant it on" if lost and not keeps else "")
+        lost = self.past.may_grant(user, atom, self.m - 1) and not self.past.may_grant(user, atom, self.m)
+        return "keep", f" by {chain_told(chain)}" + (", but could not grant it on" if lost else "")
 
-    def graph(self, atom, marked=()):
-        """The graph of one atom, as its first lines, its edges and its last; `marked` has a colour for keys of grants."""
-        table, right = atom
-        front = [f'digraph "{as_told([right])} on {table} @{self.m}" {{', "  rankdir=LR;",
-            f'  "{self.past.rights.owners[table]}" [peripheries=2];']
-        edges = [self.edge(life, dict(marked).get(life.key())) for life in self.lives if life.grant.atom == atom]
-        return front, edges, ["}"]
+    def cut(self, user, table, atoms):
+        """REVOKEs that take the atoms from him, those from the same users in one, and of at most 16 users a line."""
+        cuts = [(atom[1], cut) for atom in atoms if (cut := self.choice.cut(user, atom))]
+        for group in grouped(cuts, lambda cut: (cut[1][0], tuple(cut[1][1]))):
+            _, (by, whom) = group[0]
+            rights = self.named(table, [right for right, _ in group])
+            for at in range(0, len(whom), MOST_USERS):
+                yield f"{by}: REVOKE {rights} ON {table} FROM {', '.join(whom[at:at + MOST_USERS])}"
 
-    def edge(self, life, colour):
-        grant = life.grant
-        label = f"@{grant.moment}" + (f" - @{life.fell}" if life.fell else "")
-        is_bold = grant.option and life.option_end == life.fell
-        label += f", option - @{life.option_end}" if grant.option and not is_bold else ""
-        styles = ["bold"] * is_bold + ["dashed"] * bool(life.fell)
-        style = f'"{",".join(styles)}"' if len(styles) == 2 else "".join(styles) or "solid"
-        coloured = f", color={colour}" if colour else ""
-        return f'  "{grant.by}" -> "{grant.to}" [label="{label}", style={style}{coloured}];'
+    def uncut(self, user, table, atoms):
+        """Why there is no such REVOKE, if there is none."""
+        if self.past.owner(table) == user:
+            return f"{user} owns {table}: nothing takes it from an owner"
+        if any(self.past.holds(user, atom, self.m) for atom in atoms):
+            return None
+        rights = self.named(table, [right for _, right in atoms])
+        return f"{user} does not hold {rights} on {table}: there is nothing to take"
+
+    def can(self, user, table, atoms):
+        """Whom he could give atoms to, of each that he may grant, and what that would give."""
+        parts = [(atom[1], self.past.may_grant(user, atom, self.m), (*self.could_get(user, atom),)) for atom in atoms]
+        for group in grouped(parts, lambda part: (word_of(part[0]), part[1:])):
+            _, may_grant, users = group[0]
+            rights = self.named(table, [right for right, *_ in group])
+            yield f"{user} may {'' if may_grant else 'not '}grant {rights} on {table} @{self.m}"
+            yield from (f"  to {to}, who {lacks}" for to, lacks in users)
+
+    def could_get(self, user, atom):
+        for to in self.past.users(self.m) if self.past.may_grant(user, atom, self.m) else []:
+            if to != user and not self.past.may_grant(to, atom, self.m):
+                yield to, "has it without option" if self.past.holds(to, atom, self.m) else "lacks it"
+
+    def diff(self, since):
+        """What came, fell or lost its option behind a moment, each with the line by which it did."""
+        rows = [(f"came: {owner} owns {table}", self.quoted(moment)) for moment, table, owner in self.past.created
+            if since < moment <= self.m]
+        changed = [life for life in self.lives if self.change(life, since)]
+        for fold in folded(changed):
+            life, table = fold[0], fold[0].grant.atom[0]
+            word, moment = self.change(life, since)
+            told = f"{word}: {arrow(life.grant)}, {self.named(table, rights_of(fold))} on {table}{option_told(life)}"
+            rows.append((told, self.quoted(moment)))
+        return [*laid_out(rows)]
+
+    def change(self, life, since):
+        """In a word what became of a grant, and when, by what was in force then and is now."""
+        was, now = (self.past.at[m].get(life.key()) for m in (since, self.m))
+        if now and not was:
+            return "came", life.grant.moment
+        if was and not now:
+            return life.how, life.fell
+        return ("option revoked", life.option_end) if was and was.option and not now.option else None

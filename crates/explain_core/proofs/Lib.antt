@@ -1,3 +1,4 @@
+pub mod AlternativeLemmas
 pub mod Adding
 pub mod ChainLemmas
 pub mod CreationLemmas

@@ -1,3 +1,4 @@
+pub mod Alternatives
 pub mod Branches
 pub mod Chains
 pub mod Cuts

@@ -1,20 +1,22 @@
 //! What would take a privilege from a user.
-ghost use Rattle.std.specs.Prelude.{◌≡◌, ◌≤◌, ◌&&◌, ◌++◌, true, is_none, IfOk, All, drop, filter, length, take};
+ghost use Rattle.std.specs.Prelude.{◌≡◌, ◌≤◌, ◌&&◌, ◌++◌, ◌∷◌, [], true, is_none, IfOk, All, drop, filter, length, take};
 ghost use Rattle.std.specs.List.{list_any};
-ghost use Rattle.grants_core.specs.Content.{gives, has_made};
+ghost use Rattle.base_core.specs.Privileges.{same_atom};
+ghost use Rattle.base_core.specs.Users.{same_user};
+ghost use Rattle.grants_core.specs.Content.{gives, has_made, names};
 ghost use Rattle.grants_core.specs.History.{in_force_after};
 ghost use Rattle.explain_core.specs.Losses.{is_of_atom, holds_without, IsLoss, AreNeeded, AreAllOf};
 ghost use Rattle.explain_core.specs.Losses.{IsLossBy, IsLossAlong};
 ghost use Rattle.explain_core.specs.Cuts.{IsCut};
+ghost use Rattle.explain_core.specs.Listed.{AreSeen};
 
 use crate::history::History;
 use crate::life::Life;
-use crate::users::Users;
+use crate::users::{Users, users_of};
 use crate::why::Why;
 use base_core::{Atom, NoMemory, User};
 use grants_core::{Grant, KeptGrants, Owners};
 use std::alloc::Global;
-use std::slice;
 
 /// A revocation: its user, and from whom he revokes.
 #[derive(Drop)]
@@ -78,10 +80,27 @@ impl<'a> Standing<'a> {
         ensures { IfOk result (λ holds. holds ≡ holds_without self.now.owners.now
             self.now.grants.now self.now.atom.now user.now by.now whom.now) }
     {
-        let atoms = slice::from_ref(self.atom);
+        let whom = users_of(alloc, whom)?;
+        let holds = self.holds_without_these(alloc, user, by, &whom);
+        drop(whom);
+        holds
+    }
+
+    /// The same, by a set of these.
+    fn holds_without_these(
+        &self,
+        alloc: Global,
+        user: &User,
+        by: &User,
+        whom: &Users,
+    ) -> Result<bool, NoMemory>
+        requires { AreSeen whom.now }
+        ensures { IfOk result (λ holds. holds ≡ holds_without self.now.owners.now
+            self.now.grants.now self.now.atom.now user.now by.now whom.now.listed.items) }
+    {
         let mut kept = KeptGrants::new(alloc);
         for grant in self.grants {
-            if !grant.is_named(by, atoms, whom) {
+            if !is_named(grant, by, self.atom, whom) {
                 let Ok(()) = kept.add(self.owners, grant) else {
                     drop(kept);
                     return Err(NoMemory);
@@ -158,6 +177,24 @@ impl<'a> Standing<'a> {
         }
         Ok(None)
     }
+}
+
+/// Whether the user made the grant, of this atom.
+fn is_by(grant: &Grant, by: &User, atom: &Atom) -> bool
+    ensures { result ≡ (same_user by.now grant.now.grantor && same_atom atom.now grant.now.atom) }
+{
+    *by == grant.grantor && *atom == grant.atom
+}
+
+/// Whether a revocation of the atom by this user from these names the grant.
+fn is_named(grant: &Grant, by: &User, atom: &Atom, whom: &Users) -> bool
+    requires { AreSeen whom.now }
+    ensures { result ≡ names by.now (atom.now ∷ []) whom.now.listed.items grant.now }
+{
+    if !is_by(grant, by, atom) {
+        return false;
+    }
+    whom.has(&grant.grantee)
 }
 
 /// Whether one of the grants gives the user the atom.

@@ -38,6 +38,7 @@
 //! the one whom it names.
 #![tactic(auto)]
 
+mod alternative;
 mod chains;
 mod coming;
 mod cut;
@@ -51,8 +52,10 @@ mod taking;
 mod users;
 mod why;
 
+pub use alternative::{Alternative, Missing, alternatives};
 pub use cut::Cut;
 pub use history::History;
 pub use life::Life;
 pub use taking::{Taking, at_moment};
+pub use users::Users;
 pub use why::Why;

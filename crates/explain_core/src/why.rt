@@ -1,9 +1,10 @@
 //! Why a user holds a privilege.
-ghost use Rattle.std.specs.Prelude.{◌≡◌, ◌↔◌, true, false, IsTrue, IfOk, MatchOption, Some, None, slice_get};
+ghost use Rattle.std.specs.Prelude.{◌≡◌, ◌↔◌, ◌&&◌, true, false, not, is_none, is_some, IsTrue, IfOk, MatchOption, Some, None, slice_get};
 ghost use Rattle.std.specs.List.{list_any};
 ghost use Rattle.grants_core.specs.Owners.{owns};
 ghost use Rattle.grants_core.specs.Content.{gives};
 ghost use Rattle.grants_core.specs.History.{owners_after, in_force_after};
+ghost use Rattle.grants_core.specs.Noted.{may_grant_after};
 ghost use Rattle.explain_core.specs.declared.life.Life.{Life as lives};
 ghost use Rattle.explain_core.specs.Lives.{lives_of};
 ghost use Rattle.explain_core.specs.Chains.{CreatesAt, IsWhy, holds_after};
@@ -36,6 +37,21 @@ fn creates(change: &Change, user: &User, atom: &Atom) -> bool
         | Change::RevokeOption { .. }
         | Change::Other => false,
     }
+}
+
+/// Whether the life's grant is in force, and gives the user the atom with its option.
+fn is_optioned(life: &Life, user: &User, atom: &Atom) -> bool
+    ensures { result ≡ (is_none life.now.fell
+        && (not (is_some life.now.option_end) && gives user.now atom.now life.now.grant)) }
+{
+    life.fell.is_none() && life.option_end.is_none() && life.grant.gives(user, atom)
+}
+
+fn any_optioned(lives: &[Life], user: &User, atom: &Atom) -> bool
+    ensures { result ≡ list_any (λ life. is_none life.fell
+        && (not (is_some life.option_end) && gives user.now atom.now life.grant)) lives.now }
+{
+    lives.iter().any(|life| is_optioned(life, user, atom))
 }
 
 impl History {
@@ -76,6 +92,13 @@ impl History {
     {
         let _ = &self.lives;
         self.owns(user, atom) || self.standing(user, atom).is_some()
+    }
+
+    /// Whether the user may grant the atom on: he owns its table, or a grant in force gives it to him with its option.
+    pub fn may_grant(&self, user: &User, atom: &Atom) -> bool
+        ensures { result ≡ may_grant_after self.now user.now atom.now }
+    {
+        self.owns(user, atom) || any_optioned(&self.lives, user, atom)
     }
 
     /// Why the user holds the atom, or why he does not. `NoMemory` where a request for memory was

@@ -25,7 +25,7 @@ use Rattle.explain_records.specs.Outcomes.{is_to, left_text, outcome_at, outcome
 use Rattle.explain_records.proofs.OutcomeLemmas.{and-false}
 
 -- tests that agree find the same
-any-same : {A : Type 0} (p q : A → Bool) → ((x : A) → p x ≡ q x) → (xs : List A) → list_any p xs ≡ list_any q xs
+pub any-same : {A : Type 0} (p q : A → Bool) → ((x : A) → p x ≡ q x) → (xs : List A) → list_any p xs ≡ list_any q xs
 any-same p q same [] = refl
 any-same p q same (x ∷ xs) = ap (λ b. b || list_any p xs) (same x) ∙ ap (λ b. q x || b) (any-same p q same xs)
 
@@ -51,10 +51,10 @@ module _ (changes : List Change) (user : User) (atom : Atom) (lawful : AreLawful
   unfolding gives
   to-gives life = and-both (same_user life.grant.grantee user) (same_atom life.grant.atom atom)
 
-  stands-gives : (life : Life) → stands_to mine life ≡ (is_none life.fell && gives user atom life.grant)
+  pub stands-gives : (life : Life) → stands_to mine life ≡ (is_none life.fell && gives user atom life.grant)
   stands-gives life = ap (λ b. is_none life.fell && b) (to-gives life)
 
-  optioned-gives : (life : Life) → (is_none life.option_end && stands_to mine life) ≡ (is_none life.fell && (not (is_some life.option_end) && gives user atom life.grant))
+  pub optioned-gives : (life : Life) → (is_none life.option_end && stands_to mine life) ≡ (is_none life.fell && (not (is_some life.option_end) && gives user atom life.grant))
   optioned-gives life = ap (λ b. is_none life.option_end && b) (stands-gives life) ∙ by life.option_end (is_none life.fell) (gives user atom life.grant)
     where
       by : (end : Option Moment) (stands gives_it : Bool) → (is_none end && (stands && gives_it)) ≡ (stands && (not (is_some end) && gives_it))

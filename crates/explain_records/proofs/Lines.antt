@@ -1,6 +1,6 @@
 -- Records that are written one after another.
 use Rattle.std.proofs.Common.{◌≡◌, ◌<◌, ◌+◌, ℕ, suc, arith, refl, Bool, true, false, cond, List, [], ◌∷◌, ◌++◌, map, length, take, get_or, sym, ap, subst, ◌∙◌, append-nil, append_assoc}
-use Rattle.std.specs.List.{filter}
+use Rattle.std.specs.List.{filter, flat_map}
 use Rattle.std.proofs.lemmas.List.{map-append, take_more, length-take-le}
 use Rattle.std.proofs.lemmas.List.Concat.{flat_map-append}
 use Rattle.std.proofs.lemmas.List.Elements.{filter_more}
@@ -43,6 +43,16 @@ module _ {X : Type 0} (record_of : X → Fields) (test : X → Bool) where
       let x = get_or items i d in
       so_far ∙ ap (λ all. start ++ lines all)
       (sym (chosen-more items i d lt ∙ ap (λ b. chosen (take i items) ++ map record_of (cond b (x ∷ []) [])) fail ∙ append-nil (chosen (take i items))))
+
+-- the records of one more of the items, of which each has some
+pub lines-joined : {X : Type 0} (records : X → List Fields) (items : List X) (i : ℕ) (d : X) (start old new : List ℕ) → i < length items
+    → old ≡ start ++ lines (flat_map records (take i items)) → new ≡ old ++ lines (records (get_or items i d))
+    → new ≡ start ++ lines (flat_map records (take (i + 1) items))
+lines-joined records items i d start old new lt so_far grown =
+    let x = get_or items i d in
+    lines-behind start old new (flat_map records (take i items)) (records x) so_far grown
+    ∙ ap (λ all. start ++ lines all)
+    (sym (ap (flat_map records) (take_more items i d lt) ∙ flat_map-append records (take i items) (x ∷ []) ∙ ap (λ k. flat_map records (take i items) ++ k) (append-nil (records x))))
 
 -- the records of numbered items
 module _ {X : Type 0} (records : ℕ → X → List Fields) where

@@ -11,7 +11,7 @@ use Rattle.explain_records.specs.declared.outcomes.Outcome.{Outcome}
 use Rattle.explain_records.specs.Outcomes.{is_to, stands_to, outcome_at, outcome_of}
 use Rattle.explain_records.specs.Noted.{first_some, was_lost, taken_with, taken_among, standing_with, standing_among}
 
-or-false : (b : Bool) → (b || false) ≡ b
+pub or-false : (b : Bool) → (b || false) ≡ b
 or-false true = refl
 or-false false = refl
 
@@ -19,7 +19,7 @@ or-assoc : (a b c : Bool) → (a || (b || c)) ≡ ((a || b) || c)
 or-assoc true b c = refl
 or-assoc false b c = refl
 
-and-true : (b : Bool) → (b && true) ≡ b
+pub and-true : (b : Bool) → (b && true) ≡ b
 and-true true = refl
 and-true false = refl
 

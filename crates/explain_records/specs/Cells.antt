@@ -17,6 +17,12 @@ word_text words.OptionRevoked = codes "option revoked"
 word_text words.Loses = codes "loses"
 word_text words.Keeps = codes "keeps"
 word_text words.KeepsWithoutOption = codes "keeps without option"
+word_text words.Came = codes "came"
+word_text words.LostOption = codes "lost option"
+word_text words.Granted = codes "granted"
+word_text words.Created = codes "created"
+word_text words.Privilege = codes "privilege"
+word_text words.OptionAlone = codes "option"
 
 abbrev pub flag_text : Bool → List ℕ
 flag_text flag = if flag then codes "yes" else codes "no"

@@ -6,3 +6,6 @@ pub mod Cuttings
 pub mod Outcomes
 pub mod Noted
 pub mod Consequences
+pub mod Differences
+pub mod Held
+pub mod Givings

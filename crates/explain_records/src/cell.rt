@@ -1,5 +1,5 @@
 //! What stands in the records of rights.
-ghost use Rattle.std.specs.Prelude.{◌≡◌, ◌≤◌, ◌+◌, ◌++◌, ◌∷◌, [], length, decimal, OnOk};
+ghost use Rattle.std.specs.Prelude.{◌≡◌, ◌<◌, ◌≤◌, ◌+◌, ◌++◌, ◌∷◌, [], length, decimal, OnOk};
 ghost use Rattle.base_core.specs.Words.{IsName};
 ghost use Rattle.reply_core.specs.Texts.{joined, kind_text};
 ghost use Rattle.export_core.specs.Record.{IsBegun, IsPlain, comma, field_text, text_in};
@@ -29,6 +29,12 @@ pub enum Word {
     Loses,
     Keeps,
     KeepsWithoutOption,
+    Came,
+    LostOption,
+    Granted,
+    Created,
+    Privilege,
+    OptionAlone,
 }
 
 /// What stands in a record as a field.
@@ -42,8 +48,9 @@ pub enum Cell {
     Word(Word),
 }
 
-fn word_text(word: Word) -> &'static [u8]
+pub fn word_text(word: Word) -> &'static [u8]
     ensures text { result.now ≡ word_text word }
+    ensures some { 0 < length result.now }
     ensures plain { IsPlain result.now }
 {
     match word {
@@ -57,6 +64,12 @@ fn word_text(word: Word) -> &'static [u8]
         Word::Loses => b"loses",
         Word::Keeps => b"keeps",
         Word::KeepsWithoutOption => b"keeps without option",
+        Word::Came => b"came",
+        Word::LostOption => b"lost option",
+        Word::Granted => b"granted",
+        Word::Created => b"created",
+        Word::Privilege => b"privilege",
+        Word::OptionAlone => b"option",
     }
 }
 

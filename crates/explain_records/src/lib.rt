@@ -19,6 +19,9 @@
 mod cell;
 mod consequences;
 mod cutting;
+mod differences;
+mod givings;
+mod held;
 mod lives;
 mod outcomes;
 mod past;
@@ -28,6 +31,9 @@ mod writing;
 
 pub use consequences::consequences_records;
 pub use cutting::cut_records;
+pub use differences::{Difference, difference_of, differences_records};
+pub use givings::{Gain, gain_of, givings_records, may_grant, users_named};
+pub use held::Held;
 pub use lives::{fallen_records, grants_records};
 pub use outcomes::{Outcome, Outcomes};
 pub use past::Numbered;

@@ -24,7 +24,7 @@ const GRANTS_HEAD: &[u8] =
 
 impl<'a> Numbered<'a> {
     /// How the grant fell; nothing of one in force.
-    fn how(&self, life: &Life) -> Cell
+    pub fn how(&self, life: &Life) -> Cell
         ensures { cell_text result ≡ how_text self.now.history.now life.now }
     {
         let Some(at) = life.fell else {

@@ -280,7 +280,8 @@ impl<'a> Told<'a> {
     /// Writes the chain by which he holds it.
     fn put_held(&self, writer: &mut Writer<Vec<u8>>, chain: &[Grant]) -> Result<(), NoMemory>
         requires between { IsBetween writer.old }
-        requires some { (front : List grants) × (last : grants) × (chain.now ≡ front ++ last ∷ []) }
+        requires some { (front : List grants) × (last : grants)
+            × (chain.now ≡ front ++ last ∷ []) }
         ensures text { (front : List grants) (last : grants) → chain.now ≡ front ++ last ∷ []
             → OnOk result (text_in writer.new ≡ text_in writer.old ++ lines
             (chain_steps self.now.past.numbers.now self.now.user self.now.atom last.moment

@@ -7,6 +7,8 @@ use Rattle.explain_words.specs.declared.format.Format.{Format}
 use Rattle.explain_words.specs.declared.format.Format.TheVariants as formats
 use Rattle.explain_records.specs.Consequences.{if_answer}
 use Rattle.explain_records.specs.Cuttings.{IsCutAnswer}
+use Rattle.explain_records.specs.Differences.{diff_answer}
+use Rattle.explain_records.specs.Givings.{can_answer}
 use Rattle.explain_records.specs.Steps.{IsWhyAnswer}
 use Rattle.explain_records.specs.Records.{fell_answer, grants_answer, rights_answer, who_answer}
 use Rattle.explain_text.specs.Asking.{IsAsked, is_yes}
@@ -24,6 +26,9 @@ AreRecords changes numbers (asks.Who table atoms) text = text ≡ who_answer cha
 AreRecords changes numbers (asks.Why user table atoms) text =
     IsWhyAnswer changes numbers user atoms.items text
 AreRecords changes numbers asks.If text = text ≡ if_answer changes numbers
+AreRecords changes numbers (asks.Diff at) text = text ≡ diff_answer changes numbers at.0
+AreRecords changes numbers (asks.Can user table atoms) text =
+    text ≡ can_answer changes user atoms.items
 AreRecords changes numbers (asks.Cut user table atoms) text =
     IsCutAnswer changes user atoms.items text
 
@@ -35,6 +40,8 @@ is_of_records asks.Fell = false
 is_of_records (asks.Who table atoms) = false
 is_of_records (asks.Why user table atoms) = false
 is_of_records asks.If = false
+is_of_records (asks.Diff at) = false
+is_of_records (asks.Can user table atoms) = false
 is_of_records (asks.Cut user table atoms) = false
 
 -- a text answers what is asked in this form
@@ -54,6 +61,8 @@ may_remark asks.Rights = false
 may_remark asks.Fell = false
 may_remark asks.Grants = false
 may_remark asks.If = false
+may_remark (asks.Diff at) = false
+may_remark (asks.Can user table atoms) = false
 
 -- What was written, and what is said of it, answer a question whose words say something at these tables: whether
 -- the answer is yes is exact.

@@ -12,6 +12,7 @@ use Rattle.tables_core.specs.Contents.{Table, table_of}
 use Rattle.grants_core.specs.Owners.{owns}
 use Rattle.grants_core.specs.declared.grant.Change.{Change}
 use Rattle.grants_core.specs.History.{owners_after}
+use Rattle.grants_core.specs.Noted.{may_grant_after}
 use Rattle.monitor_core.specs.Atoms.{atoms_of_one}
 use Rattle.monitor_core.specs.Verdict.{columns_of}
 use Rattle.reply_core.specs.Texts.{joined}
@@ -66,9 +67,13 @@ IsAsked tables (questions.If line) asked = asked ≡ asks.If
 IsAsked tables (questions.Cut u words t) (asks.Cut user table atoms) =
     NameHolding tables u.now words.now t.now user table atoms.items
 IsAsked tables (questions.Cut u words t) _ = ⊥
+IsAsked tables (questions.Can u words t) (asks.Can user table atoms) =
+    NameHolding tables u.now words.now t.now user table atoms.items
+IsAsked tables (questions.Can u words t) _ = ⊥
+IsAsked tables (questions.Diff at) asked = asked ≡ asks.Diff (record { 0 = at })
 
 -- whether the answer to what is asked is yes: that he holds all of it; of what would take it, that he does not
--- own it; and any other question has no no
+-- own it; of whom he could give it to, that he may grant all of it; and any other question has no no
 abbrev pub is_yes : List Change → Asked → Bool
 is_yes changes (asks.Why user table atoms) = list_all (holds_after changes user) atoms.items
 is_yes changes (asks.Who table atoms) = true
@@ -76,5 +81,7 @@ is_yes changes asks.Rights = true
 is_yes changes asks.Fell = true
 is_yes changes asks.Grants = true
 is_yes changes asks.If = true
+is_yes changes (asks.Diff at) = true
+is_yes changes (asks.Can user table atoms) = list_all (may_grant_after changes user) atoms.items
 is_yes changes (asks.Cut user table atoms) =
     not (list_any (owns (owners_after changes) user) atoms.items)

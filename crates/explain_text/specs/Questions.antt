@@ -14,6 +14,8 @@ word questions.Fell = codes "fell"
 word questions.Grants = codes "grants"
 word (questions.If line) = codes "if"
 word (questions.Cut user privilege table) = codes "cut"
+word (questions.Can user privilege table) = codes "can"
+word (questions.Diff at) = codes "diff"
 
 -- the word for the user; or nothing
 abbrev pub user_word : Question → List ℕ
@@ -24,6 +26,8 @@ user_word questions.Fell = []
 user_word questions.Grants = []
 user_word (questions.If line) = []
 user_word (questions.Cut user privilege table) = user.now
+user_word (questions.Can user privilege table) = user.now
+user_word (questions.Diff at) = []
 
 -- the word for the table; or nothing
 abbrev pub table_word : Question → List ℕ
@@ -34,6 +38,8 @@ table_word questions.Fell = []
 table_word questions.Grants = []
 table_word (questions.If line) = []
 table_word (questions.Cut user privilege table) = table.now
+table_word (questions.Can user privilege table) = table.now
+table_word (questions.Diff at) = []
 
 -- the words for the privilege; or nothing
 abbrev pub privilege_words : Question → List ℕ
@@ -45,6 +51,8 @@ privilege_words questions.Fell = []
 privilege_words questions.Grants = []
 privilege_words (questions.If line) = []
 privilege_words (questions.Cut user privilege table) = privilege.now
+privilege_words (questions.Can user privilege table) = privilege.now
+privilege_words (questions.Diff at) = []
 
 -- whether there is a graph of what is asked: of why a user holds a privilege, and of who does
 abbrev pub has_graph : Question → Bool
@@ -55,6 +63,8 @@ has_graph questions.Fell = false
 has_graph questions.Grants = false
 has_graph (questions.If line) = false
 has_graph (questions.Cut user privilege table) = false
+has_graph (questions.Can user privilege table) = false
+has_graph (questions.Diff at) = false
 
 -- whether it can be answered in this form
 abbrev pub has_format : Question → Format → Bool

@@ -14,6 +14,8 @@ supposed_line questions.Fell = None
 supposed_line questions.Grants = None
 supposed_line (questions.If line) = Some line.now
 supposed_line (questions.Cut user privilege table) = None
+supposed_line (questions.Can user privilege table) = None
+supposed_line (questions.Diff at) = None
 
 -- the core with the change of a supposed line; where none is supposed, the core as it is
 abbrev pub Supposes : Option (List ℕ) → World → World → Type 0

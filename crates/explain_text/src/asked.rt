@@ -3,13 +3,14 @@ ghost use Rattle.std.specs.Prelude.{◌≡◌, IfOk, option_map};
 ghost use Rattle.std.specs.List.{list_all, list_any};
 ghost use Rattle.grants_core.specs.Owners.{owns};
 ghost use Rattle.grants_core.specs.History.{owners_after};
+ghost use Rattle.grants_core.specs.Noted.{may_grant_after};
 ghost use Rattle.explain_core.specs.Chains.{holds_after};
 ghost use Rattle.explain_text.specs.Asking.{IsAsked, NameAsked, NameHolding, is_yes};
 
 use crate::fault::Unanswered;
 use crate::question::Question;
 use crate::words::{atoms_named, table_of, user_of};
-use base_core::{Atom, Name, User};
+use base_core::{Atom, Moment, Name, User};
 use explain_core::History;
 use explain_words::atoms_of_table;
 use monitor_core::columns_of;
@@ -44,6 +45,16 @@ pub enum Asked {
         table: Name,
         atoms: Vec<Atom>,
     },
+    /// Whom the user could give these privileges on the table to.
+    Can {
+        user: User,
+        table: Name,
+        atoms: Vec<Atom>,
+    },
+    /// What came, fell and changed since the moment.
+    Diff {
+        at: Moment,
+    },
 }
 
 /// Whether the user holds all of the atoms.
@@ -51,6 +62,13 @@ fn holds_all(history: &History, user: &User, atoms: &[Atom]) -> bool
     ensures { result ≡ list_all (holds_after history.now user.now) atoms.now }
 {
     atoms.iter().all(|atom| history.holds(user, atom))
+}
+
+/// Whether the user may grant all of the atoms.
+fn may_grant_all(history: &History, user: &User, atoms: &[Atom]) -> bool
+    ensures { result ≡ list_all (may_grant_after history.now user.now) atoms.now }
+{
+    atoms.iter().all(|atom| history.may_grant(user, atom))
 }
 
 /// Whether the user owns the table of one of the atoms.
@@ -88,6 +106,15 @@ impl Asked {
             Question::Fell => Asked::Fell,
             Question::Grants => Asked::Grants,
             Question::If { .. } => Asked::If,
+            Question::Can {
+                user,
+                privilege,
+                table,
+            } => {
+                let (user, table, atoms) = holding(alloc, tables, user, privilege, table)?;
+                Asked::Can { user, table, atoms }
+            }
+            Question::Diff { at } => Asked::Diff { at: Moment(at) },
             Question::Cut {
                 user,
                 privilege,
@@ -100,14 +127,21 @@ impl Asked {
     }
 
     /// Whether the answer is yes, by this history: that the user holds all that was asked; of what would take it, that
-    /// he does not own the table. Any other question is not one of yes or no, and its answer is yes.
+    /// he does not own the table; of whom he could give it to, that he may grant all of it on. Any other question is
+    /// not one of yes or no, and its answer is yes.
     pub fn is_yes(&self, history: &History) -> bool
         ensures { result ≡ is_yes history.now self.now }
     {
         match self {
             Asked::Why { user, atoms, .. } => holds_all(history, user, atoms),
             Asked::Cut { user, atoms, .. } => !owns_any(history, user, atoms),
-            Asked::Who { .. } | Asked::Rights | Asked::Fell | Asked::Grants | Asked::If => true,
+            Asked::Can { user, atoms, .. } => may_grant_all(history, user, atoms),
+            Asked::Who { .. }
+            | Asked::Rights
+            | Asked::Fell
+            | Asked::Grants
+            | Asked::If
+            | Asked::Diff { .. } => true,
         }
     }
 }

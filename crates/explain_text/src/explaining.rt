@@ -4,6 +4,8 @@ ghost use Rattle.std.specs.Io.KnownBytes.{Appends, Keeps};
 ghost use Rattle.system_core.specs.Journal.{changes, tables_at};
 ghost use Rattle.explain_records.specs.Consequences.{if_answer};
 ghost use Rattle.explain_records.specs.Cuttings.{IsCutAnswer};
+ghost use Rattle.explain_records.specs.Differences.{diff_answer};
+ghost use Rattle.explain_records.specs.Givings.{can_answer};
 ghost use Rattle.explain_records.specs.Records.{fell_answer, who_answer};
 ghost use Rattle.explain_records.specs.Steps.{IsWhyAnswer};
 ghost use Rattle.explain_text.specs.Answering.{AnswersQuestion, IsAnswerTo, may_remark};
@@ -12,15 +14,15 @@ ghost use Rattle.explain_text.specs.declared.fault.Unanswered.{Unanswered as rea
 use crate::asked::Asked;
 use crate::fault::{ExplainFault, Unanswered};
 use crate::question::Question;
-use base_core::{Atom, Name, NoMemory, Sink, User, write_all};
+use base_core::{Atom, Moment, Name, NoMemory, Sink, User, write_all};
 use explain_core::History;
 use explain_records::{
-    consequences_records, cut_records, fallen_records, grants_records, holders_records,
-    reasons_records, rights_records,
+    consequences_records, cut_records, differences_records, fallen_records, givings_records,
+    grants_records, holders_records, reasons_records, rights_records,
 };
 use explain_words::{
-    Format, Past, Prose, put_all_fallen, put_consequences, put_cuts, put_grants_graph, put_holders,
-    put_reasons_of, put_why_graph, uncut_remark,
+    Format, Past, Prose, put_all_fallen, put_consequences, put_cuts, put_differences, put_givings,
+    put_grants_graph, put_holders, put_reasons_of, put_why_graph, uncut_remark,
 };
 use load_core::Replayed;
 use std::alloc::Global;
@@ -111,6 +113,44 @@ fn if_told(alloc: Global, past: &Past<'_>, format: Format) -> Result<Vec<u8>, No
     text.finish()
 }
 
+/// Whom the user could give the atoms to.
+fn can_told(
+    alloc: Global,
+    past: &Past<'_>,
+    user: &User,
+    table: &Name,
+    atoms: &[Atom],
+    format: Format,
+) -> Result<Vec<u8>, NoMemory>
+    ensures { format ≡ Format.Csv → IfOk result
+        (λ text. text.items ≡ can_answer past.now.history.now user.now atoms.now) }
+{
+    if format == Format::Csv {
+        return givings_records(alloc, past.history, user, atoms);
+    }
+    let mut text = Prose::new(alloc);
+    put_givings(&mut text, alloc, past, user, table, atoms)?;
+    text.finish()
+}
+
+/// What came, fell and changed since the moment.
+fn diff_told(
+    alloc: Global,
+    past: &Past<'_>,
+    at: Moment,
+    format: Format,
+) -> Result<Vec<u8>, NoMemory>
+    ensures { format ≡ Format.Csv → IfOk result
+        (λ text. text.items ≡ diff_answer past.now.history.now past.now.lines.now at.0) }
+{
+    if format == Format::Csv {
+        return differences_records(alloc, &past.numbered(), at);
+    }
+    let mut text = Prose::new(alloc);
+    put_differences(&mut text, alloc, past, at)?;
+    text.finish()
+}
+
 /// What would take the atoms from the user.
 fn cut_told(
     alloc: Global,
@@ -148,6 +188,8 @@ fn text_of(
         Asked::Fell => fell_told(alloc, past, format),
         Asked::Grants => grants_records(alloc, &past.numbered()),
         Asked::If => if_told(alloc, past, format),
+        Asked::Diff { at } => diff_told(alloc, past, *at, format),
+        Asked::Can { user, table, atoms } => can_told(alloc, past, user, table, atoms, format),
         Asked::Cut { user, table, atoms } => cut_told(alloc, past, user, table, atoms, format),
     }
 }
@@ -163,7 +205,9 @@ fn remark_of(alloc: Global, past: &Past<'_>, asked: &Asked) -> Result<Option<Vec
         | Asked::Rights
         | Asked::Fell
         | Asked::Grants
-        | Asked::If => Ok(None),
+        | Asked::If
+        | Asked::Can { .. }
+        | Asked::Diff { .. } => Ok(None),
     }
 }
 

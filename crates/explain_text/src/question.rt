@@ -36,6 +36,16 @@ pub enum Question<'a> {
         privilege: &'a str,
         table: &'a str,
     },
+    /// Whom the user could give the privilege to.
+    Can {
+        user: &'a str,
+        privilege: &'a str,
+        table: &'a str,
+    },
+    /// What came, fell and changed since the moment of this number.
+    Diff {
+        at: u64,
+    },
 }
 
 impl<'a> Question<'a> {
@@ -51,6 +61,8 @@ impl<'a> Question<'a> {
             Question::Grants => b"grants",
             Question::If { .. } => b"if",
             Question::Cut { .. } => b"cut",
+            Question::Can { .. } => b"can",
+            Question::Diff { .. } => b"diff",
         }
     }
 
@@ -59,12 +71,14 @@ impl<'a> Question<'a> {
         ensures { result.now ≡ user_word self.now }
     {
         match self {
-            Question::Why { user, .. } | Question::Cut { user, .. } => *user,
+            Question::Why { user, .. } | Question::Cut { user, .. } | Question::Can { user, .. } =>
+                *user,
             Question::Who { .. }
             | Question::Rights
             | Question::Fell
             | Question::Grants
-            | Question::If { .. } => "",
+            | Question::If { .. }
+            | Question::Diff { .. } => "",
         }
     }
 
@@ -75,8 +89,13 @@ impl<'a> Question<'a> {
         match self {
             Question::Why { table, .. }
             | Question::Who { table, .. }
-            | Question::Cut { table, .. } => *table,
-            Question::Rights | Question::Fell | Question::Grants | Question::If { .. } => "",
+            | Question::Cut { table, .. }
+            | Question::Can { table, .. } => *table,
+            Question::Rights
+            | Question::Fell
+            | Question::Grants
+            | Question::If { .. }
+            | Question::Diff { .. } => "",
         }
     }
 
@@ -85,7 +104,9 @@ impl<'a> Question<'a> {
         ensures { result.now ≡ privilege_words self.now }
     {
         match self {
-            Question::Why { privilege, .. } | Question::Cut { privilege, .. } => *privilege,
+            Question::Why { privilege, .. }
+            | Question::Cut { privilege, .. }
+            | Question::Can { privilege, .. } => *privilege,
             Question::Who {
                 privilege: Some(privilege),
                 ..
@@ -97,7 +118,8 @@ impl<'a> Question<'a> {
             | Question::Rights
             | Question::Fell
             | Question::Grants
-            | Question::If { .. } => "",
+            | Question::If { .. }
+            | Question::Diff { .. } => "",
         }
     }
 
@@ -112,7 +134,9 @@ impl<'a> Question<'a> {
             | Question::Rights
             | Question::Fell
             | Question::Grants
-            | Question::Cut { .. } => None,
+            | Question::Cut { .. }
+            | Question::Can { .. }
+            | Question::Diff { .. } => None,
         }
     }
 
@@ -126,7 +150,9 @@ impl<'a> Question<'a> {
             | Question::Fell
             | Question::Grants
             | Question::If { .. }
-            | Question::Cut { .. } => false,
+            | Question::Cut { .. }
+            | Question::Can { .. }
+            | Question::Diff { .. } => false,
         }
     }
 

@@ -7,35 +7,24 @@ use crate::prose::Prose;
 use crate::rows::Rows;
 use crate::teller::Teller;
 use base_core::{Atom, Name, NoMemory, User};
-use explain_core::Life;
-use grants_core::{Holding, Key};
+use explain_records::Held;
+use grants_core::{Grant, Holding, Key};
 use indexmap::IndexMap;
 use std::alloc::Global;
 
-/// The first grant in force by which somebody holds a privilege, and whether one has the option.
-#[derive(Clone, Copy)]
-struct Held {
-    number: u64,
-    option: bool,
-}
-
-/// For each user and privilege how he holds it, in the order of the first grants.
-type Holders = IndexMap<Holding, Held>;
+/// For each user and privilege the number of the first grant in force by which he holds it, in the order of these.
+type Holders = IndexMap<Holding, u64>;
 
 /// Notes a grant in force.
-fn note(holders: &mut Holders, life: &Life) -> Result<(), NoMemory> {
-    let Atom { table, kind } = life.grant.atom;
+fn note(holders: &mut Holders, grant: &Grant) -> Result<(), NoMemory> {
+    let Atom { table, kind } = grant.atom;
     let holding = Holding {
-        user: life.grant.grantee,
+        user: grant.grantee,
         privilege: Key(Atom { table, kind }),
     };
-    let option = life.option_end.is_none();
-    if let Some(held) = holders.get_mut(&holding) {
-        held.option |= option;
-        return Ok(());
+    if holders.get(&holding).is_none() {
+        holders.insert(holding, grant.number)?;
     }
-    let number = life.grant.number;
-    holders.insert(holding, Held { number, option })?;
     Ok(())
 }
 
@@ -50,7 +39,7 @@ fn holders_of(
     for life in past.history.lives() {
         let grant = &life.grant;
         if life.fell.is_none() && grant.atom.table == *table && grant.grantee != *owner {
-            note(&mut holders, life)?;
+            note(&mut holders, grant)?;
         }
     }
     Ok(holders)
@@ -64,23 +53,24 @@ struct Group {
 }
 
 /// A row for who holds it: `  cy, with option   ann -@25-> cy`.
-fn push_holder(teller: &mut Teller<'_>, user: &User, held: Held) {
+fn push_holder(teller: &mut Teller<'_>, user: &User, option: bool, number: u64) {
     let mut left = teller.indented(2);
     left.put_name(&user.0);
-    if held.option {
+    if option {
         left.put(b", with option");
     }
     let mut right = teller.indented(0);
-    let chain = right.found(teller.past.chain_to(teller.alloc, held.number));
+    let chain = right.found(teller.past.chain_to(teller.alloc, number));
     put_chain(&mut right, &chain);
     teller.rows.push(left, right);
 }
 
 /// The rows of an atom's holders.
-fn push_holders(teller: &mut Teller<'_>, holders: &Holders, atom: &Atom) {
-    for (holding, held) in holders.iter() {
+fn push_holders(teller: &mut Teller<'_>, holders: &Holders, held: &Held, atom: &Atom) {
+    for (holding, number) in holders.iter() {
         if holding.privilege.0 == *atom {
-            push_holder(teller, &holding.user, *held);
+            let option = held.has_with_option(&holding.user, atom);
+            push_holder(teller, &holding.user, option, *number);
         }
     }
 }
@@ -107,11 +97,12 @@ fn add_atom(
 fn groups_of(
     teller: &mut Teller<'_>,
     holders: &Holders,
+    held: &Held,
     atoms: &[Atom],
 ) -> Result<Vec<Group>, NoMemory> {
     let mut groups = Vec::new(teller.alloc);
     for atom in atoms {
-        push_holders(teller, holders, atom);
+        push_holders(teller, holders, held, atom);
         let rows = teller.take_rows();
         add_atom(teller.alloc, &mut groups, atom, rows)?;
     }
@@ -151,7 +142,8 @@ fn grouped(
     atoms: &[Atom],
 ) -> Result<Vec<Group>, NoMemory> {
     let holders = holders_of(teller.alloc, &teller.past, table, &owned.owner)?;
-    groups_of(teller, &holders, atoms)
+    let held = Held::read(teller.alloc, teller.past.history)?;
+    groups_of(teller, &holders, &held, atoms)
 }
 
 /// The owner's row, and behind it those of each group.

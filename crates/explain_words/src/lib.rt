@@ -4,7 +4,9 @@
 //! the number of each change's line. Of it there are the reasons why a user holds privileges or lost
 //! them ([`put_reasons_of`], [`put_why_graph`]); who holds them ([`put_holders`],
 //! [`put_grants_graph`]); all that fell ([`put_all_fallen`]); what the last change took
-//! ([`put_consequences`]); and what would take a privilege ([`put_cuts`]). Records of the same are in
+//! ([`put_consequences`]); what came and fell since a moment ([`put_differences`]);
+//! whom a user could give a privilege to ([`put_givings`]); and what would take a privilege
+//! ([`put_cuts`]). Records of the same are in
 //! `explain_records`, whose contracts say them to the byte.
 //!
 //! ```text
@@ -26,10 +28,12 @@
 #![tactic(auto)]
 
 mod cutting;
+mod differences;
 mod dot;
 mod fallen;
 mod folds;
 mod format;
+mod giving;
 mod held;
 mod holders;
 mod hypothesis;
@@ -45,9 +49,11 @@ mod shortage;
 mod teller;
 
 pub use cutting::{put_cuts, uncut_remark};
+pub use differences::put_differences;
 pub use dot::{put_grants_graph, put_why_graph};
 pub use fallen::put_all_fallen;
 pub use format::Format;
+pub use giving::put_givings;
 pub use holders::put_holders;
 pub use hypothesis::put_consequences;
 pub use past::Past;

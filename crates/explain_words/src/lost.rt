@@ -5,113 +5,42 @@ use crate::past::Past;
 use crate::prose::Prose;
 use crate::rows::{Shown, shown_at};
 use crate::teller::Teller;
-use base_core::{Moment, NoMemory};
-use explain_core::Life;
-use grants_core::Grant;
-use std::alloc::Global;
+use base_core::Moment;
+use explain_core::{Alternative, Life, Missing, alternatives};
 
-/// A grant that could have kept another one, which was made at this moment.
-#[derive(Clone, Copy)]
-struct Other {
-    life: Life,
-    unkept: Moment,
-}
-
-/// Whether the life is of another grant than these two, of which the first supported the second:
-/// one to the same user as the first, that was there until the moment.
-fn is_other(life: &Life, support: &Grant, unkept: &Grant, at: Moment) -> bool {
-    let is_there = match life.fell {
-        Some(fell) => fell.0 >= at.0,
-        None => true,
-    };
-    life.grant.grantee == support.grantee
-        && life.grant.number != support.number
-        && life.grant.number != unkept.number
-        && life.grant.moment.0 < at.0
-        && is_there
-}
-
-/// Appends those of the lives that could have kept the second of these grants in place of the
-/// first.
-fn push_others(
-    others: &mut Vec<Other>,
-    lives: &[Life],
-    support: &Grant,
-    unkept: &Grant,
-    at: Moment,
-) -> Result<(), NoMemory> {
-    for life in lives {
-        if is_other(life, support, unkept, at) {
-            others.reserve(1)?;
-            others.push_reserved(Other {
-                life: *life,
-                unkept: unkept.moment,
-            });
-        }
-    }
-    Ok(())
-}
-
-/// For each grant of a descent but the first, the grants that could have kept it.
-fn others_of(
-    alloc: Global,
-    lives: &[Life],
-    descent: &[Life],
-    at: Moment,
-) -> Result<Vec<Other>, NoMemory> {
-    let mut others = Vec::new(alloc);
-    for step in 1..descent.len() {
-        let support = &descent[step - 1].grant;
-        let unkept = &descent[step].grant;
-        push_others(&mut others, lives, support, unkept, at)?;
-    }
-    Ok(others)
-}
-
-/// What a grant lacked, whose option may have ended by the REVOKE of this moment or before.
-fn put_lack_of_option(text: &mut Prose, life: &Life, at: Moment) -> bool {
-    if life.fell == Some(at) {
-        text.put(b"it fell by the same REVOKE");
-        return true;
-    }
-    if !life.grant.option {
-        text.put(b"it has no option");
-        return true;
-    }
-    match life.option_end {
-        Some(end) if end.0 < at.0 => {
+/// What a grant was missing, as a sentence has it.
+fn put_missing(text: &mut Prose, missing: Missing) {
+    match missing {
+        Missing::Itself => text.put(b"it fell by the same REVOKE"),
+        Missing::Option => text.put(b"it has no option"),
+        Missing::OptionSince(end) => {
             text.put(b"its option was gone since ");
             text.put_moment(end);
-            true
         }
-        Some(end) if end.0 == at.0 => {
-            text.put(b"its option fell by the same REVOKE");
-            true
-        }
-        _ => false,
+        Missing::OptionNow => text.put(b"its option fell by the same REVOKE"),
     }
 }
 
 /// Why a grant did not keep the other one.
-fn put_reasons(text: &mut Prose, other: &Other, at: Moment) {
-    let has_lack = put_lack_of_option(text, &other.life, at);
-    if other.life.grant.moment.0 < other.unkept.0 {
-        return;
+fn put_reasons(text: &mut Prose, other: &Alternative) {
+    match other.missing {
+        Some(missing) => {
+            put_missing(text, missing);
+            if other.is_late {
+                text.put(b", and is not earlier");
+            }
+        }
+        None => text.put(b"it is not earlier"),
     }
-    text.put(if has_lack {
-        b", and is not earlier".as_slice()
-    } else {
-        b"it is not earlier".as_slice()
-    });
 }
 
 /// That a grant did not keep another one, and why.
-fn put_other(text: &mut Prose, other: &Other, at: Moment) {
+fn put_other(text: &mut Prose, other: &Alternative) {
     put_arrow(text, &other.life.grant);
     text.put(b" did not keep ");
     text.put_moment(other.unkept);
     text.put(b": ");
-    put_reasons(text, other, at);
+    put_reasons(text, other);
 }
 
 /// A grant that has fallen at the moment.
@@ -128,16 +57,16 @@ fn put_end(text: &mut Prose, past: &Past<'_>, life: &Life, at: Moment) {
 
 impl<'a> Teller<'a> {
     /// That a grant did not keep another one, and why.
-    fn push_other(&mut self, other: &Other, at: Moment) {
+    fn push_other(&mut self, other: &Alternative) {
         let mut left = self.indented(4);
-        put_other(&mut left, other, at);
+        put_other(&mut left, other);
         self.rows.push_alone(left);
     }
 
-    fn push_all_others(&mut self, others: &[Other], at: Moment) {
+    fn push_all_others(&mut self, others: &[Alternative]) {
         for index in 0..others.len() {
             match shown_at(index, others.len()) {
-                Shown::Item => self.push_other(&others[index], at),
+                Shown::Item => self.push_other(&others[index]),
                 Shown::More(count) => self.rows.push_more(4, count),
                 Shown::Nothing => {}
             }
@@ -208,8 +137,10 @@ impl<'a> Teller<'a> {
 
     fn push_descent_and_others(&mut self, lives: &[Life], descent: &[Life], at: Moment) {
         self.push_descent(descent, at);
-        let others = self.rows.found(others_of(self.alloc, lives, descent, at));
-        self.push_all_others(&others, at);
+        let others = self
+            .rows
+            .found(alternatives(self.alloc, lives, descent, at));
+        self.push_all_others(&others);
     }
 
     /// How a grant fell, and why no other of these lives, which are all of its privilege, kept it.

@@ -69,13 +69,6 @@ pub fn lives_of(alloc: Global, past: &Past<'_>, atom: &Atom) -> Result<Vec<Life>
     Ok(lives)
 }
 
-/// Whether one of the lives stands with the option.
-fn is_optioned(given: &[Life]) -> bool {
-    given
-        .iter()
-        .any(|life| life.fell.is_none() && life.option_end.is_none())
-}
-
 fn one_atom(alloc: Global, atom: &Atom) -> Result<Vec<Atom>, NoMemory> {
     let mut atoms = Vec::new(alloc);
     push_atom(&mut atoms, atom)?;
@@ -83,10 +76,11 @@ fn one_atom(alloc: Global, atom: &Atom) -> Result<Vec<Atom>, NoMemory> {
 }
 
 /// What is told of an atom that the user holds by this chain, where these grants of it were made to
-/// him.
+/// him, and whether he may grant it on.
 fn held_part(
     teller: &mut Teller<'_>,
     atoms: Vec<Atom>,
+    option: bool,
     table: &Name,
     owned: &Owned,
     chain: &[Grant],
@@ -99,7 +93,7 @@ fn held_part(
     }
     Part {
         holds: true,
-        option: is_optioned(given),
+        option,
         given: true,
         atoms,
         rows: teller.take_rows(),
@@ -145,9 +139,10 @@ fn part_of(
     let atoms = teller.rows.found(atoms);
     let lives = lives_beside(teller, user, atom, &why);
     let lives = teller.rows.found(lives);
+    let option = teller.past.history.may_grant(user, atom);
     Ok(match &why {
-        Why::Owns { .. } => held_part(teller, atoms, &atom.table, owned, &[], &lives),
-        Why::Holds { chain } => held_part(teller, atoms, &atom.table, owned, chain, &lives),
+        Why::Owns { .. } => held_part(teller, atoms, option, &atom.table, owned, &[], &lives),
+        Why::Holds { chain } => held_part(teller, atoms, option, &atom.table, owned, chain, &lives),
         Why::Lacks { given } => lost_part(teller, atoms, &lives, given),
     })
 }

@@ -21,14 +21,16 @@
 mod command_line;
 mod commands;
 mod explain_commands;
+mod questions;
 mod reading;
 mod reading_flags;
 mod users;
 mod values;
 
 pub use command_line::{
-    CommandLine, Explaining, JournalSync, OwnFolder, Running, Serving, StatusForm, options, refuse,
+    CommandLine, JournalSync, OwnFolder, Running, Serving, StatusForm, options, refuse,
 };
 pub use commands::VERSION;
+pub use questions::Explaining;
 pub use reading::Reading;
 pub use users::UserSocketWord;

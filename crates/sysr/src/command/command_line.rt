@@ -1,16 +1,15 @@
 //! What the command line says.
 ghost use Rattle.std.specs.Prelude.{◌<◌, ◌≤◌, IfOk, IfSome};
-ghost use Rattle.sysr.specs.Ranges.{AreApart, AreAsked, IsChunk, IsIdle, IsMoment, IsMostSessions, IsPort, ServesInRange, IsInRange};
+ghost use Rattle.sysr.specs.Ranges.{AreApart, AreAsked, IsChunk, IsIdle, IsMostSessions, IsPort, ServesInRange, IsInRange};
 
 use crate::command::commands::program;
+use crate::command::questions::{Explaining, explaining_of, word_of};
 use crate::command::reading::{Reading, limits_of, reading_of};
 use crate::command::users::{UserSocketWord, user_of, user_sockets_of};
 use crate::command::values::refused;
 use base_core::{Limits, User};
 use clap::error::ErrorKind;
 use clap::{ArgMatches, Error};
-use explain_text::Question;
-use explain_words::Format;
 use lines_core::{NO_MEMORY, SessionFault, fault_text, give_up};
 use std::alloc::Global;
 use std::convert::AsStr;
@@ -33,8 +32,6 @@ const MAX_OPEN: u32 = 1_000_000;
 const GRACE: u32 = 10;
 
 const MAX_GRACE: u32 = 86_400;
-
-const MAX_MOMENT: u32 = 1_000_000_000;
 
 const CHECKPOINT_EVERY: u32 = 100_000;
 
@@ -157,17 +154,6 @@ pub enum StatusForm {
     Prometheus,
     /// One object of JSON.
     Json,
-}
-
-/// What is to be explained of a journal or a script: a question, as of which moment, if not at its
-/// end, and in which form; and how standard input is read, or which server's folder is.
-#[derive(Clone, Copy)]
-pub struct Explaining<'a> {
-    pub data: Option<&'a str>,
-    pub reading: Reading,
-    pub at: Option<u64>,
-    pub format: Format,
-    pub question: Question<'a>,
 }
 
 // clap has refused a number out of range, so that the last is for no chunk at all.
@@ -330,82 +316,6 @@ fn running_of<'a>(matches: &ArgMatches<'a>) -> Running<'a>
         load: matches.get_str("load"),
         journal: matches.get_str("journal"),
         audit: matches.get_flag("audit"),
-    }
-}
-
-// clap has refused a number out of range.
-fn moment_of(matches: &ArgMatches<'_>) -> Option<u64>
-    ensures { IsMoment result }
-{
-    let moment = matches.get_one::<u32>("at")?;
-    Some(moment.min(MAX_MOMENT) as u64)
-}
-
-// clap has refused another word.
-fn format_of(matches: &ArgMatches<'_>) -> Format {
-    match matches.get_str("format") {
-        Some("csv") => Format::Csv,
-        Some("dot") => Format::Dot,
-        _ => Format::Text,
-    }
-}
-
-// clap has refused a command line without a word that is required.
-fn word_of<'a>(matches: &ArgMatches<'a>, id: &str) -> &'a str {
-    matches.get_str(id).unwrap_or("")
-}
-
-fn why_of<'a>(matches: &ArgMatches<'a>) -> Question<'a> {
-    Question::Why {
-        user: word_of(matches, "user"),
-        privilege: word_of(matches, "privilege"),
-        table: word_of(matches, "table"),
-    }
-}
-
-fn cut_of<'a>(matches: &ArgMatches<'a>) -> Question<'a> {
-    Question::Cut {
-        user: word_of(matches, "user"),
-        privilege: word_of(matches, "privilege"),
-        table: word_of(matches, "table"),
-    }
-}
-
-// clap has refused a command line without a question.
-fn question_of<'a>(matches: &ArgMatches<'a>) -> Question<'a> {
-    if let Some(why) = matches.subcommand_matches("why") {
-        return why_of(why);
-    }
-    if let Some(who) = matches.subcommand_matches("who") {
-        return Question::Who {
-            table: word_of(who, "table"),
-            privilege: who.get_str("privilege"),
-        };
-    }
-    if let Some(supposed) = matches.subcommand_matches("if") {
-        return Question::If {
-            line: word_of(supposed, "line"),
-        };
-    }
-    if let Some(cut) = matches.subcommand_matches("cut") {
-        return cut_of(cut);
-    }
-    match matches.subcommand_name() {
-        Some("fell") => Question::Fell,
-        Some("grants") => Question::Grants,
-        _ => Question::Rights,
-    }
-}
-
-fn explaining_of<'a>(matches: &ArgMatches<'a>) -> Explaining<'a>
-    ensures { IsInRange (CommandLine.Explain result) }
-{
-    Explaining {
-        data: matches.get_str("data"),
-        reading: reading_of(matches),
-        at: moment_of(matches),
-        format: format_of(matches),
-        question: question_of(matches),
     }
 }
 

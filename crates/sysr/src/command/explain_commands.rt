@@ -43,6 +43,36 @@ const CUT: &str = "\
 sysr explain cut eve SELECT pay < pay.journal
 writes lines that take it from eve, as few as that takes.";
 
+const DIFF: &str = "\
+sysr explain --format csv diff --at 1200 --to 1350 < pay.journal
+lists the rights that came between the two moments, those that fell, and those that lost their
+option.";
+
+fn to_arg<'a>(alloc: Global) -> Arg<'a> {
+    let help = "The later moment; that of the last change, if it is not given";
+    taking(
+        value_arg(alloc, "to", "n", help),
+        clap::value_parser!(u32).range(0..=1000000000),
+    )
+}
+
+const CAN: &str = "\
+sysr explain can bob SELECT pay < pay.journal
+lists whom bob could give it to, and to whom that would be new.";
+
+fn can_command<'a>(alloc: Global) -> Made<'a> {
+    let about = "Whom the user could give the privilege to";
+    let made = command(alloc, "can", about, CAN);
+    let made = with(made, user_arg(alloc));
+    let made = with(made, privilege_arg(alloc));
+    with(made, table_arg(alloc))
+}
+
+fn diff_command<'a>(alloc: Global) -> Made<'a> {
+    let about = "Which rights came, fell and lost their option behind the moment of --at";
+    with(command(alloc, "diff", about, DIFF), to_arg(alloc))
+}
+
 fn at_arg<'a>(alloc: Global) -> Arg<'a> {
     let help = "Answers as of the moment behind the m-th change, from 0 to 1,000,000,000";
     let arg = taking(
@@ -124,5 +154,7 @@ pub fn explain_command<'a>(alloc: Global) -> Made<'a> {
     let made = with_command(made, command(alloc, "fell", fell, FELL));
     let made = with_command(made, command(alloc, "grants", grants, GRANTS));
     let made = with_command(made, if_command(alloc));
-    with_command(made, cut_command(alloc))
+    let made = with_command(made, cut_command(alloc));
+    let made = with_command(made, can_command(alloc));
+    with_command(made, diff_command(alloc))
 }
