@@ -5,6 +5,7 @@ from dataclasses import dataclass
 COLUMNS = 32
 CHUNK = 64
 LOOK_UP = "SELECT name FROM t WHERE amount = 0"
+RANGE = "SELECT name FROM t WHERE amount >= 7 AND amount < 12"
 POINTS = 90_000
 
 
@@ -54,11 +55,11 @@ def many_conditions():
     return "SELECT c0 FROM t WHERE " + " AND ".join(met + [f"c{COLUMNS - 1} < 5"])
 
 
-def points(rows, statement):
+def points(rows, statement, look_up=LOOK_UP):
     """90,000 statements for rows by chance, none for a row twice until half of them had one. The index is made before."""
     picked = random.Random(1976).sample(range(rows), min(POINTS, rows // 2))
-    counted = [statement % {"row": row} for row in picked * (POINTS // len(picked))]
-    return Kind("statement", filled(rows) + 2 * [LOOK_UP], counted, len(counted), (True,))
+    counted = [statement % {"row": row, "end": row + 5} for row in picked * (POINTS // len(picked))]
+    return Kind("statement", filled(rows) + 2 * [look_up], counted, len(counted), (True,))
 
 
 def look_ups():
@@ -70,11 +71,17 @@ def look_ups():
         for rows in (1_000, 100_000, 900_000) if name != "delete" or rows >= POINTS}
 
 
-def indexed(rows):
+def few_rows():
+    """Kinds that look five rows up whose numbers are side by side, in small and in large tables."""
+    statement = "SELECT name FROM t WHERE amount >= %(row)d AND amount < %(end)d"
+    return {f"select five of {rows}": points(rows, statement, RANGE) for rows in (1_000, 100_000, 900_000)}
+
+
+def indexed(rows, look_up=LOOK_UP):
     """INSERTs into a table with an index: before each thousand of them a row is looked up, else the index would go."""
     table, *inserts = filled(rows)
-    counted = [line for start in range(1_000, rows, 1_000) for line in (LOOK_UP, *inserts[start:start + 1_000])]
-    return Kind("statement", [table, *inserts[:1_000], LOOK_UP], counted, len(counted), (True,))
+    counted = [line for start in range(1_000, rows, 1_000) for line in (look_up, *inserts[start:start + 1_000])]
+    return Kind("statement", [table, *inserts[:1_000], look_up], counted, len(counted), (True,))
 
 
 def kinds():
@@ -84,12 +91,14 @@ def kinds():
     return {
         "inserts": Kind("statement", filled(0), filled(200_000)[1:], 200_000),
         "indexed inserts": indexed(200_000),
+        "inserts in order": indexed(200_000, RANGE),
         "mix": Kind("statement", filled(0), list(mix(20_000)), 20_000, (False, True)),
         "filter": Kind("row", filled(100_000), ranges, 100_000 * len(ranges)),
         "conditions": Kind("row", wide(10_000), [many_conditions()] * 20, 20 * 10_000),
         "select": Kind("row", filled(100_000), ["SELECT * FROM t"] * 10, 10 * 100_000),
         "export": Kind("row", filled(100_000) + ["CHECKPOINT"] + steps, ["EXPORT 1"] * 10, 10 * 100_000),
         **look_ups(),
+        **few_rows(),
     }
 
 

@@ -1,10 +1,10 @@
-"""Look-ups by equality, with and without what the program keeps to find rows by a value.
+"""Look-ups by equality and by ranges, which the program finds by an index by value, or by one in order.
 
 A long script by chance is played as it is, and once more with each `column = v` written as `column >= v AND column <= v`,
-which goes over all rows. Both have to be answered alike, and as sqlite3 answers, which keeps indexes of its own. A table has
-some thousands of rows, and another one passes now and then the number from which on indexes are made. Rows are inserted,
-changed and deleted all the while, also in the columns that are asked for, and checkpoints are taken and exported. That
-indexes are made at all is seen by the requests for memory that they take.
+which an index in order finds. Both have to be answered alike, and as sqlite3 answers, which keeps indexes of its own. A table
+has some thousands of rows, and another one passes now and then the number from which on indexes are made; below that each
+look-up goes over all rows. Rows are inserted, changed and deleted all the while, also in the columns that are asked for, and
+checkpoints are taken and exported. That indexes are made at all is seen by the requests for memory that they take.
 """
 import functools
 import random
@@ -70,11 +70,21 @@ class Lookups:
             return f"it's row {pick.randint(0, ROWS):05}" if pick.random() < 0.9 else pick.choice(("", ",", '"a"', "x" * 300))
         return pick.choice(("", "a", "b,c", "\u20ac"))
 
+    def range(self, column):
+        """Both ends of a range, of few values mostly, and now and then only one."""
+        pick, value = self.random, self.value(column)
+        if isinstance(value, int):
+            other = min(value + pick.choices((0, 1, 5, 40, 2 * ROWS), (30, 30, 25, 14, 1))[0], 2**63 - 1)
+        else:
+            other = pick.choices((value, value + "0", value[:-1] + "~", self.value(column)), (33, 33, 33, 1))[0]
+        ends = [(column, pick.choice((">", ">=")), value), (column, pick.choice(("<", "<=")), other)]
+        return ends if pick.random() < 0.98 else [pick.choice(ends)]
+
     def conditions(self):
-        """Columns, comparisons and values: an equality mostly, and now and then more."""
+        """Columns, comparisons and values: an equality or a range mostly, and now and then more."""
         pick = self.random
         asked = pick.choices(("id", "name", "kind"), (70, 25, 5))[0]
-        found = [(asked, "=", self.value(asked))]
+        found = [(asked, "=", self.value(asked))] if pick.random() < 0.6 else self.range(asked)
         while pick.random() < 0.3:
             column = pick.choice(("id", "name", "kind", "note"))
             found.append((column, pick.choice(("=", "<>", "<", ">=")), self.value(column)))
@@ -195,14 +205,16 @@ def requests_of(requests, program, rows, filters):
 
 def indexed(program, check, preloaded, work):
     """A column that is asked for by equality a second time gets an index, which takes requests, if the table has rows
-    enough. Later look-ups by that column take no more than the first; a range makes none."""
+    enough, and so does one that is asked for by a range. Later look-ups by that column take about as many as the first;
+    `<>` makes none."""
     requests = refusals.Requests(preloaded, work)
     for rows in (10, INDEXED - 1, INDEXED, 3_000):
-        for kind, equal, ranged in (("numbers", "id = 7", "id >= 7 AND id <= 7"),
-                ("texts", "name = 'row 7'", "name >= 'row 7' AND name <= 'row 7'")):
-            first, second, *later = requests_of(requests, program, rows, 5 * [equal])
+        for kind, asked in (("numbers by value", "id = 7"), ("texts by value", "name = 'row 7'"),
+                ("numbers in order", "id >= 7 AND id <= 7"), ("texts in order", "name >= 'row 7' AND name <= 'row 7'"),
+                ("numbers from one on", "id > 5 AND id < 8"), ("numbers up to one", "id < 3")):
+            first, second, *later = requests_of(requests, program, rows, 5 * [asked])
             made = second > first + 5 if rows >= INDEXED else second == first
             check(f"an index of {kind}, {rows} rows", made, (first, second))
-            check(f"one index of {kind}, {rows} rows", later == 3 * [first], (first, later))
-            taken = requests_of(requests, program, rows, 4 * [ranged])
-            check(f"no index of {kind} by ranges, {rows} rows", len(set(taken)) == 1, taken)
+            check(f"one index of {kind}, {rows} rows", len(set(later)) == 1 and later[0] <= first + 1, (first, later))
+        taken = requests_of(requests, program, rows, 4 * ["id <> 7"])
+        check(f"no index by `<>`, {rows} rows", len(set(taken)) == 1, taken)

@@ -1,1 +1,4 @@
+pub mod IntervalLemmas
 pub mod ListedLemmas
+pub mod RangedLemmas
+pub mod RankLemmas

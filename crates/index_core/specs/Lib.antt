@@ -1,2 +1,5 @@
 pub mod Fingerprint
 pub mod Listed
+pub mod Ranged
+pub mod Rank
+pub mod Within

@@ -1,5 +1,5 @@
 //! An index of one column.
-ghost use Rattle.std.specs.Prelude.{◌≡◌, ℕ, [], IfOk, OnOk, length, true};
+ghost use Rattle.std.specs.Prelude.{◌≡◌, ℕ, [], IfOk, OnOk, length};
 ghost use Rattle.std.specs.List.{Contains};
 ghost use Rattle.std.specs.List.Sorted.{IsStrictlyIncreasing};
 ghost use Rattle.base_core.specs.declared.value.Value.{Value as values};
@@ -7,6 +7,7 @@ ghost use Rattle.index_core.specs.Listed.{listed};
 
 use crate::fingerprint::fingerprint;
 use crate::numbers::Numbers;
+use crate::rising::put_in_order;
 use base_core::{NoMemory, Value};
 use indexmap::IndexMap;
 use std::alloc::Global;
@@ -17,28 +18,6 @@ use std::alloc::Global;
 pub struct Index {
     alloc: Global,
     lists: IndexMap<u64, Numbers>,
-}
-
-/// Puts numbers in rising order, each once.
-fn put_in_order(numbers: &mut Vec<u64>)
-    ensures rising { IsStrictlyIncreasing numbers.new.items }
-    ensures all { (n : ℕ) → Contains numbers.old.items n → Contains numbers.new.items n }
-    ensures only { (n : ℕ) → Contains numbers.new.items n → Contains numbers.old.items n }
-{
-    numbers.sort_unstable();
-    numbers.dedup();
-}
-
-/// Whether each number is below the next.
-fn are_rising(numbers: &[u64]) -> bool
-    ensures { result ≡ true → IsStrictlyIncreasing numbers.now }
-{
-    for at in 1..numbers.len() {
-        if numbers[at] <= numbers[at - 1] {
-            return false;
-        }
-    }
-    true
 }
 
 impl Index {
@@ -102,9 +81,7 @@ impl Index {
             → Contains (listed self.now value.now) n) }
     {
         let mut numbers = Vec::from_slice(self.alloc, self.listed(value))?;
-        if !are_rising(numbers.as_slice()) {
-            put_in_order(&mut numbers);
-        }
+        put_in_order(&mut numbers);
         Ok(numbers)
     }
 }

@@ -5,6 +5,7 @@ pub mod ColumnLemmas
 pub mod ContentsLemmas
 pub mod FittingLemmas
 pub mod IndexLemmas
+pub mod IntervalLemmas
 pub mod NewRowLemmas
 pub mod NumberLemmas
 pub mod PickingLemmas

@@ -1,27 +1,34 @@
 //! The indexes of one table.
-ghost use Rattle.std.specs.Prelude.{◌≡◌, ◌==◌, ◌<◌, [], List, Some, IfSome, filter, length, map, not, slice_get, position};
+ghost use Rattle.std.specs.Prelude.{◌≡◌, ◌<◌, [], List, Some, IfSome, filter, length, map, not, slice_get};
 ghost use Rattle.std.specs.List.{Contains};
+ghost use Rattle.std.specs.List.Sorted.{IsStrictlyIncreasing};
 ghost use Rattle.base_core.specs.declared.value.Value.{Value as values};
 ghost use Rattle.base_core.specs.Filter.{at_index, cell_meets, column_index};
 ghost use Rattle.index_core.specs.Listed.{listed};
+ghost use Rattle.index_core.specs.Ranged.{ranged};
 ghost use Rattle.tables_core.specs.Contents.{assigned_row, satisfies};
 ghost use Rattle.tables_core.specs.Indexing.{Numbered, EachLists, ListAll, ListsEachPassing, assigns};
 ghost use Rattle.tables_core.specs.Picking.{rows_at, without_rows};
 
 use crate::column_index::ColumnIndex;
+use crate::interval::interval_at;
 use crate::listed::keep_chosen;
+use crate::listing::Listing;
 use crate::resolved::Resolved;
 use crate::rows::NumberedRow;
 use base_core::{Assignment, Column, Comparison, Condition, Row, Value, column_index};
 use copyup_core::Store;
-use index_core::Index;
+use index_core::{Index, Interval, OrderedIndex};
 use std::alloc::Global;
 
-/// How many columns of a table are kept in mind.
-const MOST: usize = 4;
+/// How many columns of a table are kept in mind. One that is asked for in both ways counts twice.
+const MOST: usize = 8;
 
-/// An index serves where there are at least so many times the rows that it lists.
-const FRACTION: usize = 8;
+/// An index by value serves where there are more than so many times the rows that it lists.
+const VALUE_FRACTION: usize = 8;
+
+/// An index in order serves where there are at least so many times the rows that it lists.
+const ORDER_FRACTION: usize = 4;
 
 /// The columns that were asked for, with their indexes.
 #[derive(Drop)]
@@ -32,19 +39,21 @@ pub struct Indexes {
     kept: Vec<ColumnIndex>,
 }
 
-/// The place of the column that a condition compares by `=` with a value of its type. None for any
-/// other condition.
-fn place_of(columns: &[Column], condition: &Condition) -> Option<usize>
-    ensures { IfSome result (λ place.
-        column_index columns.now condition.now.column ≡ Some place) }
+/// The place of the column that a condition compares with a value of its type, and whether it asks
+/// for values in their order, as any comparison but `=` does. None for `<>`, which no index serves.
+fn asked_of(columns: &[Column], condition: &Condition) -> Option<(usize, bool)>
+    ensures { IfSome result (λ asked.
+        column_index columns.now condition.now.column ≡ Some asked.0) }
 {
-    let Comparison::Equal = condition.comparison else {
-        return None;
+    let in_order = match condition.comparison {
+        Comparison::Equal => false,
+        Comparison::NotEqual => return None,
+        _ => true,
     };
     let place = column_index(columns, condition.column)?;
     let column = columns.get(place)?;
     if condition.literal.has_type(column.ty) {
-        Some(place)
+        Some((place, in_order))
     } else {
         None
     }
@@ -134,24 +143,29 @@ impl Indexes {
         }
     }
 
-    /// Among those that are kept in mind, which is the column at this place.
-    fn position(&self, place: usize) -> Option<usize>
-        ensures value { result ≡ position (λ column. column.place == place) self.now.kept.items }
-        ensures within { IfSome result (λ at. at < length self.now.kept.items) }
+    /// Where this question for the column at this place is kept in mind.
+    fn position(&self, place: usize, in_order: bool) -> Option<usize>
+        ensures { IfSome result (λ at. at < length self.now.kept.items) }
     {
-        self.kept.iter().position(|column| column.place == place)
+        self.kept.iter().position(|column| column.place == place && column.in_order == in_order)
     }
 
-    /// The index of the column at this place, if there is one.
+    /// The index by value of the column at this place, if there is one.
     fn index_at(&self, place: usize) -> Option<&Index>
         ensures { IfSome result (λ index. (r : Numbered) (v : values)
             → EachLists self.now.kept.items r
             → slice_get r.1.values place ≡ Some v
             → Contains (listed index.now v) r.0) }
     {
-        let at = self.position(place)?;
-        let column = &self.kept[at];
-        column.index.as_ref()
+        for column in self.kept.as_slice() {
+            if column.place != place {
+                continue;
+            }
+            if let Some(Listing::ByValue(index)) = &column.index {
+                return Some(index);
+            }
+        }
+        None
     }
 
     /// A column without an index, among those that are kept in mind.
@@ -162,31 +176,22 @@ impl Indexes {
     }
 
     /// Keeps in mind that a column was asked for, and makes its index where it was before.
-    fn ask(&mut self, place: usize, rows: &Store<Row>)
+    fn ask(&mut self, place: usize, in_order: bool, rows: &Store<Row>)
         ensures { ListAll self.old.kept.items rows.now.contents
             → ListAll self.new.kept.items rows.now.contents }
     {
-        if let Some(at) = self.position(place) {
+        if let Some(at) = self.position(place, in_order) {
             self.kept[at].ask(self.alloc, rows);
         } else if self.kept.len() < MOST {
-            drop(self.kept.push(ColumnIndex::asked_once(place)));
+            drop(self.kept.push(ColumnIndex::asked_once(place, in_order)));
         } else if let Some(at) = self.idle() {
-            self.kept[at].turn_to(place);
+            self.kept[at].turn_to(place, in_order);
         }
     }
 
-    /// Asks for the column that a condition compares by `=`.
-    fn ask_for(&mut self, columns: &[Column], rows: &Store<Row>, condition: &Condition)
-        ensures { ListAll self.old.kept.items rows.now.contents
-            → ListAll self.new.kept.items rows.now.contents }
-    {
-        if let Some(place) = place_of(columns, condition) {
-            self.ask(place, rows);
-        }
-    }
-
-    /// Prepares for a look-up of the rows that a filter chooses: a column with an `=` gets an index
-    /// once it is asked for again, where there are many rows.
+    /// Prepares for a look-up of the rows that a filter chooses: a column gets an index once it is
+    /// asked for again, where there are many rows. Both ends of an interval are one question, where
+    /// they stand side by side.
     pub fn prepare(&mut self, columns: &[Column], rows: &Store<Row>, filter: &[Condition])
         ensures { ListAll self.old.kept.items rows.now.contents
             → ListAll self.new.kept.items rows.now.contents }
@@ -194,16 +199,24 @@ impl Indexes {
         if rows.len() < self.least {
             return;
         }
+        let mut last = None;
         for condition in filter {
-            self.ask_for(columns, rows, condition);
+            let Some((place, in_order)) = asked_of(columns, condition) else {
+                continue;
+            };
+            if in_order && last == Some(place) {
+                continue;
+            }
+            self.ask(place, in_order, rows);
+            last = Some(place);
         }
     }
 
-    /// The index that lists the rows which meet a condition on the column at this place.
+    /// The index by value that lists the rows which meet a condition on the column at this place.
     fn serving(&self, place: Option<usize>, condition: &Condition) -> Option<&Index>
         ensures { IfSome result (λ index. ListsEachPassing self.now.kept.items
             (λ r. cell_meets condition.now (at_index r.1.values place))
-            index.now condition.now.literal) }
+            (listed index.now condition.now.literal)) }
     {
         match condition.comparison {
             Comparison::Equal => self.index_at(place?),
@@ -211,12 +224,12 @@ impl Indexes {
         }
     }
 
-    /// Of the indexes that list the rows which the filter chooses the one that lists fewest, and
-    /// the value for which it does.
+    /// Of the indexes by value that list the rows which the filter chooses the one that lists
+    /// fewest, and the value for which it does.
     fn best<'a>(&'a self, conditions: &Resolved<'a, Condition>) -> Option<(&'a Index, &'a Value)>
         ensures { IfSome result (λ best. ListsEachPassing self.now.kept.items
             (satisfies conditions.now.columns.now conditions.now.items.now)
-            best.0.now best.1.now) }
+            (listed best.0.now best.1.now)) }
     {
         let mut best = None;
         let mut fewest = usize::MAX;
@@ -234,6 +247,66 @@ impl Indexes {
         best
     }
 
+    /// Of the indexes in order that list the rows which the filter chooses, and fewer numbers than
+    /// `fewest`, the one that lists fewest, and the interval in which it does.
+    fn narrowest<'a>(
+        &'a self,
+        conditions: &Resolved<'_, Condition>,
+        fewest: usize,
+    ) -> Option<(&'a OrderedIndex, Interval)>
+        ensures { IfSome result (λ best. ListsEachPassing self.now.kept.items
+            (satisfies conditions.now.columns.now conditions.now.items.now)
+            (ranged best.0.now best.1)) }
+    {
+        let mut best = None;
+        let mut fewest = fewest;
+        for column in self.kept.as_slice() {
+            let Some(Listing::InOrder(index)) = &column.index else {
+                continue;
+            };
+            let Some(interval) = interval_at(conditions, column.place) else {
+                continue;
+            };
+            let count = index.count(interval);
+            if count >= fewest {
+                continue;
+            }
+            fewest = count;
+            best = Some((index, interval));
+        }
+        best
+    }
+
+    /// Numbers in rising order, among which are those of all rows that the filter chooses, in a
+    /// table of so many rows. None where no index lists few rows for it, or memory is refused.
+    fn candidates(&self, conditions: &Resolved<'_, Condition>, rows: usize) -> Option<Vec<u64>>
+        ensures rising { IfSome result (λ numbers. IsStrictlyIncreasing numbers.items) }
+        ensures all { IfSome result (λ numbers. ListsEachPassing self.now.kept.items
+            (satisfies conditions.now.columns.now conditions.now.items.now)
+            numbers.items) }
+    {
+        let by_value = self.best(conditions);
+        let few = match by_value {
+            Some((index, literal)) => index.count(literal),
+            None => usize::MAX,
+        };
+        let narrow = few.min(rows / ORDER_FRACTION + 1);
+        if let Some((index, interval)) = self.narrowest(conditions, narrow) {
+            let Ok(numbers) = index.numbers(interval) else {
+                return None;
+            };
+            return Some(numbers);
+        }
+        if few >= rows / VALUE_FRACTION {
+            return None;
+        }
+        let (index, literal) = by_value?;
+        let Ok(numbers) = index.numbers(literal) else {
+            return None;
+        };
+        Some(numbers)
+    }
+
     /// The numbers of the rows that the filter chooses, in rising order, found by an index. None
     /// where no index lists few rows for it, or memory is refused.
     pub fn find(&self, conditions: &Resolved<'_, Condition>, rows: &Store<Row>) -> Option<Vec<u64>>
@@ -249,13 +322,7 @@ impl Indexes {
         if self.kept.is_empty() {
             return None;
         }
-        let (index, literal) = self.best(conditions)?;
-        if index.count(literal) >= rows.len() / FRACTION {
-            return None;
-        }
-        let Ok(mut numbers) = index.numbers(literal) else {
-            return None;
-        };
+        let mut numbers = self.candidates(conditions, rows.len())?;
         keep_chosen(conditions, rows, &mut numbers);
         Some(numbers)
     }

@@ -55,11 +55,14 @@
 //!
 //! # How rows are found
 //!
-//! A table with many rows, 256 or more, keeps an [`Index`](index_core::Index) of a column that is
-//! asked for by `column = literal` again. `prepare`, `update` and `delete` ask, each for the columns
-//! of its filter; at most four columns of a table are kept in mind. `select`, `update` and `delete`
-//! take the index that lists fewest rows for its literal. Where these are fewer than an eighth of
-//! the table's, they go over them in the order of their numbers, and else over all rows.
+//! A table with many rows, 256 or more, keeps an index of a column that is asked for again: an
+//! [`Index`](index_core::Index) by value where `column = literal` asks for it, and an
+//! [`OrderedIndex`](index_core::OrderedIndex) where `<`, `<=`, `>` or `>=` does. `prepare`, `update`
+//! and `delete` ask, each for the columns of its filter; at most eight such questions about a table
+//! are kept in mind. `select`, `update` and `delete` take the index that lists fewest rows, one by
+//! value for its literal, and one in order for the interval that all conditions on its column leave.
+//! Where these are fewer than an eighth of the table's, or in order a quarter at most, they go over
+//! them in the order of their numbers, and else over all rows.
 //!
 //! An index lists each row that it must, and may list more: an `insert` notes its row and an
 //! `update` the new values of the columns that it assigns, and nothing is ever taken out. So each
@@ -95,9 +98,12 @@
 //! for each row that the filter chooses. By an index they go over the rows that it lists instead,
 //! each with a look-up by its number.
 //!
-//! To make an index takes one walk over the rows. With it each `insert` takes a look-up by hash
-//! more, and so does each row that an `update` changes in its column. It takes 37 bytes for each
-//! value that it lists, 8 for each number where a value has several, and room to grow.
+//! To make an index takes one walk over the rows, and one in order a sort besides. With one by value
+//! each `insert` takes a look-up by hash more, and so does each row that an `update` changes in its
+//! column. With one in order each takes an entry at the end of a list, which the next question about
+//! the column puts in order. An index by value takes 37 bytes for each value that it lists, 8 for
+//! each number where a value has several, and room to grow, and one in order 16 for each number, and
+//! room to grow.
 //!
 //! `begin`, `left` and `abandon` are constant, but that once in 2^64 captures `begin` goes over the
 //! tables. `capture_step` of k copies k rows at most, each by sharing its values, and goes over the
@@ -115,8 +121,10 @@ mod column_index;
 mod columns;
 mod filter;
 mod indexes;
+mod interval;
 mod laws;
 mod listed;
+mod listing;
 mod resolved;
 mod rows;
 mod scan;

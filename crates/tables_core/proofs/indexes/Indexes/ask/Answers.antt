@@ -6,7 +6,7 @@ pub returns-in-Some : goal.returns-in-Some
 returns-in-Some c =
     let items = c.args.self.now.kept.items in
     let rows = c.args.rows.now.contents in
-    all-set items rows c.in-Some.at c.index_mut.result.now c.ask.new.self c.in-Some.ensures.within c.index_mut.ensures.value c.ask.ensures
+    all-set items rows c.in-Some.at c.index_mut.result.now c.ask.new.self c.in-Some.ensures c.index_mut.ensures.value c.ask.ensures
 
 pub returns-then-len-lt-MOST : goal.returns-then-len-lt-MOST
 returns-then-len-lt-MOST c = λ h.

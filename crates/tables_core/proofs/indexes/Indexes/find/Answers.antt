@@ -6,7 +6,7 @@ use Rattle.tables_core.proofs.indexes.Indexes.find.Goals as goal
 pub keep_chosen-requires-clause-covers : goal.keep_chosen-requires-clause-covers
 keep_chosen-requires-clause-covers c =
     let test = satisfies c.args.conditions.now.columns.now c.args.conditions.now.items.now in
-    covers-listed c.args.self.now.kept.items c.args.rows.now.contents test c.in_ok-index.index.now c.in_ok-index.literal.now c.in-Ok.numbers.items c.in_ok-index.ensures c.in-Ok.ensures.all c.requires
+    covers-listed c.args.self.now.kept.items c.args.rows.now.contents test c.in_ok-numbers.numbers.items c.in_ok-numbers.ensures.all c.requires
 
 pub returns-clause-found : goal.returns-clause-found
 returns-clause-found c = search rules

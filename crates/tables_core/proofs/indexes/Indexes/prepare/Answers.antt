@@ -1,4 +1,4 @@
 use Rattle.tables_core.proofs.indexes.Indexes.prepare.Goals as goal
 
 pub loop-condition-preserved : goal.loop-condition-preserved
-loop-condition-preserved c = λ h. c.ask_for.ensures (c.loop-condition.invariant h)
+loop-condition-preserved c = λ h. c.ask.ensures (c.loop-condition.invariant h)

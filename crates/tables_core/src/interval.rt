@@ -1,0 +1,63 @@
+//! The interval of values that a filter leaves to one column.
+ghost use Rattle.std.specs.Prelude.{◌≡◌, Option, List, true, slice_get};
+ghost use Rattle.base_core.specs.declared.value.Value.{Value as values};
+ghost use Rattle.base_core.specs.Filter.{at_index, cell_meets, is_chosen};
+ghost use Rattle.tables_core.specs.Indexing.{IsCellWithin, IsCellKept};
+
+use crate::resolved::Resolved;
+use base_core::Condition;
+use index_core::Interval;
+
+/// The interval of the values that meet a condition besides.
+fn narrowed(so_far: Option<Interval>, condition: &Condition) -> Interval
+    ensures { (cell : Option values)
+        → IsCellKept so_far cell
+        → cell_meets condition.now cell ≡ true
+        → IsCellWithin result cell }
+{
+    match so_far {
+        Some(interval) => interval.narrowed(condition.comparison, &condition.literal),
+        None => Interval::whole().narrowed(condition.comparison, &condition.literal),
+    }
+}
+
+/// The interval where a condition on the column at this index has to be met too. None where no
+/// condition so far was on the column at this place.
+fn with_condition(
+    so_far: Option<Interval>,
+    condition: &Condition,
+    index: Option<usize>,
+    place: usize,
+) -> Option<Interval>
+    ensures { (row : List values)
+        → IsCellKept so_far (slice_get row place)
+        → cell_meets condition.now (at_index row index) ≡ true
+        → IsCellKept result (slice_get row place) }
+{
+    let Some(at) = index else {
+        return so_far;
+    };
+    if at != place {
+        return so_far;
+    }
+    Some(narrowed(so_far, condition))
+}
+
+/// An interval within which each row that the filter chooses has its value at this place. None
+/// where no condition is on the column there.
+pub fn interval_at(conditions: &Resolved<'_, Condition>, place: usize) -> Option<Interval>
+    ensures { (row : List values)
+        → is_chosen conditions.now.columns.now conditions.now.items.now row ≡ true
+        → IsCellKept result (slice_get row place) }
+{
+    let mut interval = None;
+    for (at, condition) in conditions.items().iter().enumerate() {
+        interval = with_condition(
+            interval,
+            condition,
+            conditions.index_of(at, condition),
+            place,
+        );
+    }
+    interval
+}
