@@ -22,6 +22,7 @@ NAMED = re.compile(r"`([\w.-]+)` has these lines")
 OTHER_PROGRAMS = "Exports and rights in other programs"
 SECTIONS = (
     ("docs/FROM-SQL.md", "Beyond one machine"),
+    ("docs/FROM-SQL.md", "Tables that go along"),
     ("docs/FROM-SQL.md", "Moving to PostgreSQL, and looking at one"),
     ("docs/WHY.md", "Asking your own PostgreSQL"),
 )

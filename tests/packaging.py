@@ -223,10 +223,11 @@ def units(program, check, folder):
     if shutil.which("systemd-analyze") is None:
         print("no systemd-analyze: the units were not verified")
         return
-    paths = [os.path.join(folder, name) for name in ("sysr.service", "sysr.socket")]
+    paths = [os.path.join(folder, name) for name in ("sysr.service", "sysr.socket", "sysr-follower.service")]
     for path in paths:
+        text = content(PACKAGING, os.path.basename(path)).replace("/usr/local/bin/sysr", program)
         with open(path, "w", encoding="utf-8") as made:
-            made.write(content(PACKAGING, os.path.basename(path)).replace("/usr/local/bin/sysr", program))
+            made.write(text.replace("/usr/local/share/sysr/tools", os.path.join(os.path.dirname(PACKAGING), "tools")))
     words = ["systemd-analyze", "verify", "--man=no", *paths]
     done = subprocess.run(words, capture_output=True, text=True, timeout=WAIT)
     told = [line for line in (done.stdout + done.stderr).splitlines() if "sysr" in line]

@@ -14,11 +14,12 @@ class Names:
 
     def __init__(self, schema: str, prefix: str, kept: Kept):
         self.schema, self.prefix = schema, prefix
-        self.roles: dict[str, str] = {}
-        for user in kept.users():
-            role = prefix + user
-            is_reserved = role in ("public", "none") or role.startswith("pg_")
-            self.roles[user] = "user-" + role if is_reserved else role
+        self.roles: dict[str, str] = {user: self.role_for(user) for user in kept.users()}
+
+    def role_for(self, user: str) -> str:
+        role = self.prefix + user
+        is_reserved = role in ("public", "none") or role.startswith("pg_")
+        return "user-" + role if is_reserved else role
 
     def role(self, user: str) -> str:
         return identifier(self.roles[user])

@@ -1,11 +1,12 @@
 """Names and texts of SQL, rights as `sysr explain` writes them, and what is told of what cannot be carried."""
 import collections
+import contextlib
 import dataclasses
 import json
 import os
 import sys
 from collections.abc import Callable, Iterable, Iterator
-from typing import NoReturn, Optional
+from typing import NoReturn, Optional, TextIO
 
 BY_COLUMN = ("SELECT", "UPDATE")
 WORDS = ("SELECT", "INSERT", "DELETE", "UPDATE")
@@ -84,6 +85,19 @@ def write_report(path: Optional[str], told: Iterable[Told]) -> None:
     try:
         with open(path, "w", encoding="utf-8") as file:
             file.writelines(lines)
+    except OSError as why:
+        fail(f"{path}: {why.strerror}")
+
+
+@contextlib.contextmanager
+def opened_report(path: Optional[str]) -> Iterator[TextIO]:
+    """The report, to which lines are added as they come: a file, or standard error."""
+    if path is None:
+        yield sys.stderr
+        return
+    try:
+        with open(path, "a", encoding="utf-8") as file:
+            yield file
     except OSError as why:
         fail(f"{path}: {why.strerror}")
 

@@ -53,6 +53,7 @@ abbrev pub IsInRange : CommandLine → Type 0
 IsInRange (asked.Run r) = IsChunk r.chunk × AreAsked r.limits
 IsInRange (asked.Journal folder reading) = AreAsked reading.limits
 IsInRange (asked.Dump load folder reading) = AreAsked reading.limits
+IsInRange (asked.Stream folder limits from) = AreAsked limits
 IsInRange (asked.Serve s sockets) = ServesInRange s
 IsInRange (asked.Verifier user) = Unit {0}
 IsInRange (asked.Stop control) = Unit {0}

@@ -1,11 +1,13 @@
 //! `sysr run` answers the lines of standard input on standard output, and `sysr serve` those of
 //! sessions over TCP. `sysr journal` writes the accepted changes of standard input as lines, and
-//! `sysr dump` lines that make what it leaves. `sysr explain` says why somebody holds a right that
-//! these lines make, or how he lost it. `sysr stop` tells a server to stop, `sysr status` asks how it
-//! fares, and `sysr reload` has it read its file of users anew, for which `sysr verifier` makes a line.
+//! `sysr dump` lines that make what it leaves. `sysr stream` writes what each of the changes did, as
+//! records. `sysr explain` says why somebody holds a right that these lines make, or how he lost it.
+//! `sysr stop` tells a server to stop, `sysr status` asks how it fares, and `sysr reload` has it read
+//! its file of users anew, for which `sysr verifier` makes a line.
 //!
 //! Each line of `run` is `user: statement`, and what was read is answered before more is read. What
-//! `journal`, `dump` and `explain` read is a journal, or with `--script` what `run` reads. The exit
+//! `journal`, `dump` and `explain` read is a journal, or with `--script` what `run` reads; `stream`
+//! reads a journal, and tells what was read before it reads more. The exit
 //! status is 0 where the input was read to its end, whatever the replies; 1 where the program itself
 //! could not go on, with the reason on standard error, where lines were left out and that is to be
 //! strict, or where an explanation is that somebody does not hold a right, or owns what could be
@@ -24,7 +26,8 @@
 //!
 //! The one contract: what the crates below promise of readers and writers is promised of these
 //! commands, each joined with its streams as the words say. Where `journal` and `dump` end without
-//! a fault, what they wrote is whole (`specs/Joints.antt`); what `run` and `serve` leave was kept
+//! a fault, what they wrote is whole (`specs/Joints.antt`), and so is what `stream` told
+//! (`specs/Streamed.antt`); what `run` and `serve` leave was kept
 //! in the journal that is named, from where it was opened (`specs/Kept.antt`). Where a file of
 //! users is named, whoever `serve` served has logged in, or came in at the socket of the user that
 //! he was. What `verifier` wrote is the line of a user of the password that it read
@@ -34,7 +37,8 @@
 //! What is written for what was read is the contract of [`answered`](run_core::answered); what a
 //! journal's file gets that of [`LineKeeper`](journal_core::LineKeeper); what a file makes
 //! that of [`load`](load_core::load), and standard input that of [`replay`](load_core::replay); what
-//! a dump says that of [`write_dump`](dump_core::write_dump); what is explained that of
+//! a dump says that of [`write_dump`](dump_core::write_dump), and a stream that of
+//! [`stream`](stream_core::stream); what is explained that of
 //! [`explain`](explain_text::explain); what the command line may say that of
 //! [`options`](crate::command::options); and what the threads of a server do to its core that of
 //! [`serve_on`](serving_core::serve_on).
@@ -71,6 +75,7 @@ mod report;
 mod running;
 mod serving_in_folder;
 mod socket_files;
+mod streaming;
 mod syncing;
 mod system_users;
 mod users;
@@ -87,6 +92,7 @@ use crate::recording::{dump, journal};
 use crate::reloading::reload;
 use crate::running::run;
 use crate::serving_in_folder::serve_in_folder;
+use crate::streaming::streamed;
 use crate::verifying::verifier;
 use lines_core::{NO_MEMORY, give_up};
 use run_core::{fill_closed_streams, input, output};
@@ -138,6 +144,15 @@ where
             data,
             reading,
         } => dumped(host, load, data, reading),
+        CommandLine::Stream { data, limits, from } => {
+            streamed(
+                host,
+                &mut changes_of(host, data)?,
+                &mut output(host)?,
+                limits,
+                from,
+            )
+        }
         CommandLine::Serve(asked, sockets) => match asked.data {
             None => {
                 let (ended, _) = serve(host, rt, asked, sockets.as_slice())?;

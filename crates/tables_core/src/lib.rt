@@ -117,6 +117,7 @@
 mod bounds;
 mod capture;
 mod captured;
+mod chosen;
 mod column_index;
 mod columns;
 mod filter;

@@ -4,6 +4,8 @@ ghost use Rattle.tables_core.specs.Capture.{KeepsDue, due_for};
 ghost use Rattle.tables_core.specs.Contents.{empty_table, with_row, without_chosen_rows, with_updated_rows, selected_rows};
 ghost use Rattle.tables_core.specs.Fitting.{ColumnsDiffer, ValuesFit, AssignmentsFit, IsWellTyped};
 
+mod foreseeing;
+
 use crate::captured::Captured;
 use crate::indexes::Indexes;
 use crate::listed::rows_listed;

@@ -7,6 +7,8 @@ ghost use Rattle.base_core.specs.Words.{same_name};
 ghost use Rattle.tables_core.specs.Contents.{Moves, all_rows, empty_table, with_row, without_chosen_rows, with_updated_rows, selected_rows, table_of, column_of, with_change};
 ghost use Rattle.tables_core.specs.Fitting.{ColumnsDiffer, ValuesFit, AssignmentsFit, IsWellTyped};
 
+mod foreseeing;
+
 use crate::capture::{next_number, walk_on};
 use crate::rows::NumberedRow;
 use crate::table::Table;

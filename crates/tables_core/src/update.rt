@@ -29,7 +29,7 @@ fn set_value(values: &mut ValuesBuilder, index: Option<usize>, value: Value)
 }
 
 /// A row with the values after the assignments.
-fn with_assignments(
+pub fn with_assignments(
     alloc: Global,
     sets: &Resolved<'_, Assignment>,
     values: &[Value],

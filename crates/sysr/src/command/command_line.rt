@@ -53,6 +53,13 @@ pub enum CommandLine<'a> {
         data: Option<&'a str>,
         reading: Reading,
     },
+    /// To write what each of the changes did that stand on standard input, or in this server's folder, behind the
+    /// moment `from`.
+    Stream {
+        data: Option<&'a str>,
+        limits: Limits,
+        from: u64,
+    },
     /// To serve sessions, at these socket files of users' own too.
     Serve(Serving<'a>, Vec<UserSocketWord>),
     /// To make this user's line of a file of users.
@@ -375,6 +382,13 @@ pub fn options<'a, S: AsStr>(alloc: Global, words: &'a [S]) -> Result<CommandLin
             load: dump.get_str("load"),
             data: dump.get_str("data"),
             reading: reading_of(dump),
+        });
+    }
+    if let Some(stream) = matches.subcommand_matches("stream") {
+        return Ok(CommandLine::Stream {
+            data: stream.get_str("data"),
+            limits: limits_of(stream),
+            from: stream.get_one::<u32>("from").unwrap_or(0) as u64,
         });
     }
     if let Some(journal) = matches.subcommand_matches("journal") {

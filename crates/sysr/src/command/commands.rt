@@ -42,6 +42,12 @@ that were denied or refused, or that say no statement, are left out, which it te
 error. The status is 0 if all was written, and 1 if not, or if with --strict something was left
 out.";
 
+const FORM_OF_A_STREAM: &str = "\
+It reads a journal, carries out its changes, and writes what each of them did: a record for each table
+that was made, each row that was inserted, updated or deleted, and each grant that was made, lost its
+option or fell. What was read is told before more is read, as in `tail -F -n +1 pay.journal | sysr
+stream`. The status is 0 if all was told, and 1 if not, or if a line says no change that is done.";
+
 const FORM_OF_A_STOP: &str = "\
 The server takes no further session, and each session answers the lines that it was sent, and ends;
 then the server ends. At a second stop, or behind its grace, sessions are cut. The status is 0 once
@@ -211,6 +217,27 @@ fn dump_command<'a>(alloc: Global) -> Made<'a> {
     let made = command(alloc, "dump", about, FORM_OF_A_DUMP);
     let made = with(made, load_arg(alloc));
     with_reading(alloc, made, false)
+}
+
+fn from_arg<'a>(alloc: Global) -> Arg<'a> {
+    let help = "Leaves out what the changes up to this moment did, from 0 to 1,000,000,000";
+    taking(
+        value_arg(alloc, "from", "m", help),
+        clap::value_parser!(u32).range(0..=1000000000),
+    )
+}
+
+fn folder_arg<'a>(alloc: Global) -> Arg<'a> {
+    let help = "Reads the changes of this folder of a server, in place of standard input";
+    value_arg(alloc, "data", "DIR", help)
+}
+
+fn stream_command<'a>(alloc: Global) -> Made<'a> {
+    let about = "Writes what each change of the journal on standard input did, as records";
+    let made = command(alloc, "stream", about, FORM_OF_A_STREAM);
+    let made = with(made, from_arg(alloc));
+    let made = with(made, folder_arg(alloc));
+    with(made, changes_arg(alloc))
 }
 
 fn port_arg<'a>(alloc: Global) -> Arg<'a> {
@@ -418,6 +445,7 @@ pub fn program<'a>(alloc: Global) -> Made<'a> {
     let made = with_command(bare(alloc), run_command(alloc));
     let made = with_command(made, journal_command(alloc));
     let made = with_command(made, dump_command(alloc));
+    let made = with_command(made, stream_command(alloc));
     let made = with_command(made, serve_command(alloc));
     let made = with_command(made, stop_command(alloc));
     let made = with_command(made, status_command(alloc));

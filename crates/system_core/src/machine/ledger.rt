@@ -11,6 +11,8 @@ ghost use Rattle.monitor_core.specs.Atoms.{columns_given};
 ghost use Rattle.capture_core.specs.Capturing.{begin_lack, CanGoOn, TellsProgress};
 ghost use Rattle.system_core.specs.Standing.{AgreeOn, database_of, checkpointing, after_begin, after_step};
 
+mod granting;
+
 use crate::machine::carry::carry_out;
 use crate::machine::change::changes_of;
 use crate::machine::event::Entry;

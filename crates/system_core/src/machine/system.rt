@@ -1,5 +1,6 @@
 //! The core: one event after another, each a step of the machine.
-//! `describing` has what is told of a statement that is only described, and `imaging` the images that are kept.
+//! `describing` has what is told of a statement that is only described, `granting` the grants that a statement would
+//! make, and `imaging` the images that are kept.
 ghost use Rattle.std.specs.Prelude.{ℕ, ◌≡◌, ◌↔◌, ◌<◌, ◌≤◌, ◌++◌, ◌∷◌, [], true, false, not, length, Ok, Some, IsSome, IsTrue, is_some, IfOk, MatchResult};
 ghost use Rattle.base_core.specs.Full.{IsFull};
 ghost use Rattle.grants_core.specs.History.{in_force_after};
@@ -13,6 +14,7 @@ ghost use Rattle.system_core.specs.Judging.{checkpoint_checks, verdict_of};
 ghost use Rattle.system_core.specs.Step.{change_reply, lack_reply, CarriesOut, Responds, Advances, GivesUp, Step, Run, IsRunOfSome};
 
 mod describing;
+mod granting;
 mod imaging;
 
 use crate::machine::checkpoints::{judged_at, listed, may_export};

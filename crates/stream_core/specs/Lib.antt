@@ -1,0 +1,9 @@
+pub mod Effects
+pub mod Lines
+pub mod Records
+pub mod Cells
+pub mod Losses
+pub mod Updates
+pub mod Streams
+pub mod Streamer
+pub mod Streaming
