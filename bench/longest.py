@@ -1,4 +1,4 @@
-"""How long a session holds up all others by one statement on 900,000 rows, by kind. See longest.sh.
+"""How long a session holds up all others by a statement on 900,000 rows, by kind. See longest.sh.
 
 Another session INSERTs one row after another meanwhile; its longest wait is at least the turn that the statement takes.
 Other work of the machine only makes it longer, so of some rounds the shortest is told.
@@ -9,6 +9,7 @@ import sys
 import tempfile
 
 from pauses import MOST, Session, free_port, longest, row
+from scripts import making
 
 ROUNDS = 5
 COUNT = 32
@@ -18,21 +19,23 @@ MET = [f"name < 'row {MOST + n}'" for n in range(COUNT - 1)]
 EACH = " AND ".join([*MET, "name < ''"])
 
 LOOK_UP = f"SELECT name FROM t WHERE {ONE}"
+INDEXED = making(MOST) * [LOOK_UP]
 
-# Of each kind the statements before and the one that is measured.
+# Of each kind the statements before, and those that are measured.
 KINDS = {
     "INSERT of a row": ([], "INSERT INTO t VALUES ('row', 0)"),
     "SELECT of 5 rows by a range of numbers": ([], f"SELECT name FROM t WHERE amount >= {MOST - 5} AND amount < {MOST}"),
     "SELECT of 5 rows by a range of texts": ([], f"SELECT name FROM t WHERE name >= 'row {MOST - 5}'"),
     f"SELECT of no row by {COUNT} conditions on texts": ([], f"SELECT name FROM t WHERE {EACH}"),
     "SELECT of a row by =, the first": ([], LOOK_UP),
-    "SELECT of a row by =, the second: it makes an index": ([LOOK_UP], LOOK_UP),
-    "SELECT of a row by =, later": (2 * [LOOK_UP], LOOK_UP),
+    "SELECT of a row by =, the second: it begins an index": ([LOOK_UP], LOOK_UP),
+    "SELECT of a row by =, each of those that make it": ([LOOK_UP], *(making(MOST) - 1) * [LOOK_UP]),
+    "SELECT of a row by =, later": (INDEXED, LOOK_UP),
     "SELECT of all rows": ([], "SELECT * FROM t"),
     "SELECT of all rows, one of two columns": ([], "SELECT name FROM t"),
-    "UPDATE of a row by an index": (2 * [LOOK_UP], f"UPDATE t SET name = 'new' WHERE {ONE}"),
+    "UPDATE of a row by an index": (INDEXED, f"UPDATE t SET name = 'new' WHERE {ONE}"),
     "UPDATE of all rows": ([], "UPDATE t SET amount = 7"),
-    "DELETE of a row by an index": (2 * [LOOK_UP], f"DELETE FROM t WHERE {ONE}"),
+    "DELETE of a row by an index": (INDEXED, f"DELETE FROM t WHERE {ONE}"),
     "DELETE of all rows": ([], "DELETE FROM t"),
     "CHECKPOINT": ([], "CHECKPOINT"),
     "EXPORT": (["CHECKPOINT"], "EXPORT 1"),
@@ -64,8 +67,8 @@ class Reader(Session):
         return [self.reader.readline() for _ in range(int(head.split()[1]))]
 
 
-def measured(program, filled, before, statement):
-    """The longest wait of another session while a new server carries the statement out, in milliseconds."""
+def measured(program, filled, before, statements):
+    """The longest wait of another session while a new server carries the statements out, in milliseconds."""
     port = free_port()
     words = ["--port", str(port), "--workers", "2", "--sessions", "2", "--load", filled]
     child = subprocess.Popen([program, "serve", *words], stdout=subprocess.PIPE)
@@ -77,7 +80,7 @@ def measured(program, filled, before, statement):
         for line in before:
             ann.whole(line)
         ann.settle()
-        return longest(eve, lambda: ann.whole(statement))
+        return longest(eve, lambda: [ann.whole(line) for line in statements])
     finally:
         child.kill()
         child.wait()
@@ -89,8 +92,8 @@ def main(program):
         with open(filled, "w", encoding="utf-8") as script:
             script.write("ann: CREATE TABLE t (name TEXT, amount INTEGER)\n")
             script.writelines(f"ann: {row(n)}\n" for n in range(MOST))
-        for name, (before, statement) in KINDS.items():
-            found = [measured(program, filled, before, statement) for _ in range(ROUNDS)]
+        for name, (before, *statements) in KINDS.items():
+            found = [measured(program, filled, before, statements) for _ in range(ROUNDS)]
             print(f"{name + ':':<55}{min(found):>10.2f} ms", flush=True)
 
 

@@ -21,6 +21,7 @@ import time
 
 from load_table import free_port
 from postgres import running
+from scripts import making
 
 SECONDS, ROUNDS = 3, 5
 ROWS = 100_000
@@ -231,8 +232,8 @@ def fetched(server, reader, seconds):
 def measured(ours, theirs, scripts, seconds, found):
     """One round of all cases, each in turn at both servers."""
     with by_socket(ours.port, ONE_ROW) as look_up:
-        # (the second makes the index)
-        if [look_up(), look_up()] != [1, 1]:
+        # (these make the index)
+        if any(look_up() != 1 for _ in range(making(ROWS))):
             sys.exit("a row was not found")
     for (name, script), mode, clients in ((s, m, c) for s in scripts.items() for m in MODES for c in CLIENTS):
         pair = [benched(server, script, mode, clients, seconds) for server in (ours, theirs)]

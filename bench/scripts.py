@@ -55,11 +55,16 @@ def many_conditions():
     return "SELECT c0 FROM t WHERE " + " AND ".join(met + [f"c{COLUMNS - 1} < 5"])
 
 
+def making(rows):
+    """So many questions about a column make its index at most: from the second on each adds 8,192 rows, or a 64th."""
+    return 3 + rows // max(8_192, rows // 64)
+
+
 def points(rows, statement, look_up=LOOK_UP):
     """90,000 statements for rows by chance, none for a row twice until half of them had one. The index is made before."""
     picked = random.Random(1976).sample(range(rows), min(POINTS, rows // 2))
     counted = [statement % {"row": row, "end": row + 5} for row in picked * (POINTS // len(picked))]
-    return Kind("statement", filled(rows) + 2 * [look_up], counted, len(counted), (True,))
+    return Kind("statement", filled(rows) + making(rows) * [look_up], counted, len(counted), (True,))
 
 
 def look_ups():

@@ -4,7 +4,8 @@ A long script by chance is played as it is, and once more with each `column = v`
 which an index in order finds. Both have to be answered alike, and as sqlite3 answers, which keeps indexes of its own. A table
 has some thousands of rows, and another one passes now and then the number from which on indexes are made; below that each
 look-up goes over all rows. Rows are inserted, changed and deleted all the while, also in the columns that are asked for, and
-checkpoints are taken and exported. That indexes are made at all is seen by the requests for memory that they take.
+checkpoints are taken and exported. Shorter scripts change a larger table while its indexes are made, each by several
+questions. That indexes are made at all is seen by the requests for memory that they take.
 """
 import functools
 import random
@@ -17,6 +18,8 @@ SEED = 1976
 STATEMENTS = 100_000
 ROWS = 3_000
 CHUNK = 64
+# Three questions make an index of so many rows. Behind them come so many statements, in so many scripts.
+LARGE, LATER, SCRIPTS = 20_000, 150, 20
 # So many statements come between a checkpoint and its export, which is finished by then.
 BETWEEN = 5_000
 COLUMNS = {"big": ("id", "name", "kind", "note"), "small": ("id", "name", "kind", "note")}
@@ -188,6 +191,16 @@ def script(statements=STATEMENTS):
     return lookups.given, lookups.ranged, lookups.wanted
 
 
+def half_made(seed):
+    """The same of a table so large that each index is made by several questions, while its rows change."""
+    lookups = Lookups(seed)
+    for _ in range(LARGE):
+        lookups.insert("big")
+    for _ in range(LATER):
+        lookups.random.choices((lookups.select, lookups.update, lookups.delete, lookups.insert), (50, 25, 12, 13))[0]("big")
+    return lookups.given, lookups.ranged, lookups.wanted
+
+
 def requests_of(requests, program, rows, filters):
     """How many requests for memory each of these look-ups takes more, in a table of so many rows."""
     front = ["own: CREATE TABLE t (id INTEGER, name TEXT)", *(
@@ -206,7 +219,7 @@ def requests_of(requests, program, rows, filters):
 def indexed(program, check, preloaded, work):
     """A column that is asked for by equality a second time gets an index, which takes requests, if the table has rows
     enough, and so does one that is asked for by a range. Later look-ups by that column take about as many as the first;
-    `<>` makes none."""
+    `<>` makes none, nor does what most rows have. Where there are many rows, several questions make it."""
     requests = refusals.Requests(preloaded, work)
     for rows in (10, INDEXED - 1, INDEXED, 3_000):
         for kind, asked in (("numbers by value", "id = 7"), ("texts by value", "name = 'row 7'"),
@@ -218,3 +231,11 @@ def indexed(program, check, preloaded, work):
             check(f"one index of {kind}, {rows} rows", len(set(later)) == 1 and later[0] <= first + 1, (first, later))
         taken = requests_of(requests, program, rows, 4 * ["id <> 7"])
         check(f"no index by `<>`, {rows} rows", len(set(taken)) == 1, taken)
+        first, *later = requests_of(requests, program, rows, 4 * ["id >= 0"])
+        check(f"no index of which most rows are asked for, {rows} rows", len(set(later)) == 1 and later[0] <= first,
+            (first, later))
+    # Each question lists 8,192 rows.
+    for kind, asked in (("by value", "id = 7"), ("in order", "id > 5 AND id < 8")):
+        first, *steps, later, last = requests_of(requests, program, 20_000, 6 * [asked])
+        check(f"an index {kind} of 20,000 rows is made in three steps",
+            all(step > first + 5 for step in steps) and later == last <= first + 1, (first, steps, later, last))

@@ -70,17 +70,33 @@ def looked_up():
     return ["run"], [f"ann: {statement}" for statement in given], wanted
 
 
+def half_made():
+    """The same of a table with so many rows that two questions make its index, whose rows change in between; and how many
+    lines come before the first question."""
+    rows = 8_300
+    front = ["CREATE TABLE t (x INTEGER)", *(f"INSERT INTO t VALUES ({number})" for number in range(rows))]
+    given = ["SELECT * FROM t WHERE x = 7", "SELECT * FROM t WHERE x = 7", "UPDATE t SET x = 8299 WHERE x = 7",
+        "UPDATE t SET x = 7 WHERE x = 8298", "INSERT INTO t VALUES (7)", "SELECT * FROM t WHERE x = 7",
+        "SELECT * FROM t WHERE x = 8299", "DELETE FROM t WHERE x = 7", "SELECT * FROM t WHERE x = 7"]
+    at = rows + 1
+    wanted = [*(f"done @{moment}" for moment in range(1, at + 1)), *2 * [f"rows 1 @{at}", "row,7"],
+        *(f"done @{at + more}" for more in (1, 2, 3)), f"rows 2 @{at + 3}", *2 * ["row,7"], f"rows 2 @{at + 3}",
+        *2 * ["row,8299"], f"done @{at + 4}", f"rows 0 @{at + 4}"]
+    return ["run"], [f"ann: {statement}" for statement in (*front, *given)], wanted, len(front)
+
+
 class Script:
     """Lines that the program answers where no request for memory is refused."""
 
     def __init__(self, program, words, lines):
-        self.program, self.words, self.lines = program, [*words, "--audit"], lines
+        self.program, self.words, self.lines = program, words, lines
         self.full = self.answered(lines)
 
-    def run(self, lines, **more):
+    def run(self, lines, audit=("--audit",), **more):
         """Status, the lines written, and standard error."""
         given = "\n".join(lines).encode()
-        done = subprocess.run([self.program, *self.words], input=given, capture_output=True, timeout=WAIT, **more)
+        words = [self.program, *self.words, *audit]
+        done = subprocess.run(words, input=given, capture_output=True, timeout=WAIT, **more)
         return done.returncode, done.stdout.decode().split("\n"), done.stderr.decode()
 
     def answered(self, lines):
@@ -115,9 +131,9 @@ class Script:
         for at in range(begun, begun + steps):
             yield [*without[:at], [*without[at], "checkpoint 1 abandoned"], *without[at + 1:]]
 
-    def outputs(self, steps):
-        """Each output that may stand, as lines."""
-        told = [self.full, *(answer for at in range(len(self.lines)) for answer in self.lacking(at))]
+    def outputs(self, steps, front=0):
+        """Each output that may stand, as lines, where no request of the first lines was refused."""
+        told = [self.full, *(answer for at in range(front, len(self.lines)) for answer in self.lacking(at))]
         told += self.given_up(steps) if steps else []
         return {tuple(line for reply in answer for line in reply) for answer in told}
 
@@ -135,9 +151,9 @@ class Requests:
         with open(self.told, encoding="ascii") as file:
             return seen, int(file.read())
 
-    def one_by_one(self, run):
-        """What comes of a run whose first request is refused, its second, and so on, while there is one."""
-        for request in range(1, 10_000):
+    def one_by_one(self, run, first=1):
+        """What comes of a run of which this request is refused, the next, and so on, while there is one."""
+        for request in range(first, first + 10_000):
             seen, made = self.counted(run, request)
             if made < request:
                 return
@@ -146,15 +162,19 @@ class Requests:
 
 def each_request(program, check, requests):
     scripts = {name: (example(name), *more) for name, more in SCRIPTS.items()} | {"looked_up": (looked_up(), 0, [])}
-    for name, ((words, given, wanted), steps, behind) in scripts.items():
+    scripts["half_made"] = (half_made(), 0, [])
+    for name, ((words, given, wanted, *fronts), steps, behind) in scripts.items():
         probes = [line for line in [*behind, f"{given[0].split(':')[0]}: CHECKPOINTS"] for _ in range(2)]
         script = Script(program, words, [*given, *probes])
         whole = [line for reply in script.full for line in reply]
         audited = wanted.pop() if wanted[-1].startswith("audit") else whole[-1]
         check(f"{name}: without a refusal", whole[:len(wanted)] == wanted and whole[-1] == audited, whole)
-        allowed, ended, seen = script.outputs(steps), 0, set()
+        front = sum(fronts)
+        # (a longer script makes a few requests more before its last lines)
+        allowed, ended, seen = script.outputs(steps, max(front - 10, 0)), 0, set()
         played = functools.partial(script.run, script.lines)
-        for request, status, lines, err in requests.one_by_one(played):
+        first = requests.counted(functools.partial(script.run, script.lines[:front], audit=[]))[1] if front else 1
+        for request, status, lines, err in requests.one_by_one(played, first):
             if status == 1:
                 # (before the first line is read, or in the audit)
                 good = err == "sysr: no memory\n" and lines[:-1] in ([], whole[:-1])

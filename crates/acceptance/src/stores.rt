@@ -88,11 +88,7 @@ fn removed_items_give_their_room_back(rt: HostRuntime) {
 }
 
 /// A step of one item.
-fn step(
-    rt: &impl Abort,
-    store: &mut Store<Item>,
-    out: &mut Vec<(u64, Item)>,
-) -> Result<usize, NoMemory> {
+fn step(rt: &impl Abort, store: &mut Store<Item>, out: &mut Vec<Item>) -> Result<usize, NoMemory> {
     assert!(rt; store.active());
     store.capture_step(out, 1)
 }
@@ -108,7 +104,7 @@ fn a_refused_step(rt: HostRuntime) {
     store.begin();
     assert!(rt; step(&rt, &mut store, &mut out) == Ok(1));
     assert!(rt; step(&rt, &mut store, &mut out) == Err(NoMemory));
-    assert!(rt; store.left() == 1 && out.as_slice() == [(0, Item(50))].as_slice());
+    assert!(rt; store.left() == 1 && out.as_slice() == [Item(50)].as_slice());
     drop(store);
 }
 

@@ -1,18 +1,15 @@
 -- What comes of the tables of an image, row by row and table by table.
-use Rattle.std.proofs.Common.{◌≡◌, ℕ, zero, suc, ◌+◌, ◌-◌, ◌<◌, ◌≤◌, length, Bool, true, false, cond, List, [], ◌∷◌, ◌++◌, take, drop, map, Option, Some, None, IfSome, refl, sym, ap, ◌∙◌, subst, arith, append_assoc}
-use Rattle.std.specs.List.{slice_get, prefix_len, take_while}
-use Rattle.std.specs.Option.{option_map}
+use Rattle.std.proofs.Common.{◌≡◌, ℕ, zero, suc, ◌+◌, ◌<◌, ◌≤◌, length, List, [], ◌∷◌, ◌++◌, take, drop, set, get_or, Some, None, refl, sym, ap, ◌∙◌, arith, append_assoc, take-append-drop}
+use Rattle.std.specs.List.{slice_get}
 use Rattle.std.proofs.lemmas.List.{append-nil, length-append}
-use Rattle.std.proofs.lemmas.Option.{slice_get-map}
-use Rattle.base_core.specs.Words.{same_name}
 use Rattle.base_core.specs.declared.name.Name.{Name}
 use Rattle.base_core.specs.declared.value.Row.{Row}
 use Rattle.tables_core.specs.Contents.{Table}
 use Rattle.tables_core.specs.declared.tables.TableView.{TableView}
-use Rattle.capture_core.specs.Filling.{Head, head, heads, image_under, is_of, rows_of, images_under, Filled, completed, IsNext}
+use Rattle.capture_core.specs.Filling.{Head, heads, image_under, images_under, Filled, completed}
 
 -- ---- places of a list
-pub drop-at : {X : Type 0} (xs : List X) (n : ℕ) (x : X) → slice_get xs n ≡ Some x → drop n xs ≡ x ∷ drop (n + 1) xs
+drop-at : {X : Type 0} (xs : List X) (n : ℕ) (x : X) → slice_get xs n ≡ Some x → drop n xs ≡ x ∷ drop (n + 1) xs
 drop-at [] n x found = cc
 drop-at (y ∷ ys) zero x found =
     let same : y ≡ x = cc in
@@ -21,111 +18,78 @@ drop-at (y ∷ ys) (suc n) x found =
     let next : suc n + 1 ≡ suc (n + 1) = omega arith in
     drop-at ys n x found ∙ ap (λ k. x ∷ drop k (y ∷ ys)) (sym next)
 
-pub drop-past : {X : Type 0} (xs : List X) (n : ℕ) → slice_get xs n ≡ None → drop n xs ≡ []
+drop-past : {X : Type 0} (xs : List X) (n : ℕ) → slice_get xs n ≡ None → drop n xs ≡ []
 drop-past [] zero none = refl
 drop-past [] (suc n) none = refl
 drop-past (x ∷ xs) zero none = cc
 drop-past (x ∷ xs) (suc n) none = drop-past xs n none
 
-slice_get-take : {X : Type 0} (xs : List X) (count n : ℕ) → n < count → slice_get (take count xs) n ≡ slice_get xs n
-slice_get-take [] zero n within = refl
-slice_get-take [] (suc count) n within = refl
-slice_get-take (x ∷ xs) zero n within = absurd (omega (arith, within))
-slice_get-take (x ∷ xs) (suc count) zero within = refl
-slice_get-take (x ∷ xs) (suc count) (suc n) within = slice_get-take xs count n (omega (arith, within))
+-- the lists from a place on
+drop-there : (rest : List (List Row)) (n : ℕ) → n < length rest → drop n rest ≡ get_or rest n [] ∷ drop (n + 1) rest
+drop-there [] n lt = absurd (omega arith)
+drop-there (r ∷ rs) zero lt = refl
+drop-there (r ∷ rs) (suc n) lt =
+    let next : suc n + 1 ≡ suc (n + 1) = omega arith in
+    drop-there rs n (omega arith) ∙ ap (λ k. get_or rs n [] ∷ drop k (r ∷ rs)) (sym next)
 
-slice_get-past : {X : Type 0} (xs : List X) (count n : ℕ) → count ≤ n → slice_get (take count xs) n ≡ None
-slice_get-past [] zero n past = refl
-slice_get-past [] (suc count) n past = refl
-slice_get-past (x ∷ xs) zero n past = refl
-slice_get-past (x ∷ xs) (suc count) zero past = absurd (omega (arith, past))
-slice_get-past (x ∷ xs) (suc count) (suc n) past = slice_get-past xs count n (omega (arith, past))
+-- and where another was written at the place
+drop-set : (rest : List (List Row)) (n : ℕ) (x : List Row) → n < length rest → drop n (set rest n x) ≡ x ∷ drop (n + 1) rest
+drop-set [] n x lt = absurd (omega arith)
+drop-set (r ∷ rs) zero x lt = refl
+drop-set (r ∷ rs) (suc n) x lt =
+    let next : suc n + 1 ≡ suc (n + 1) = omega arith in
+    drop-set rs n x (omega arith) ∙ ap (λ k. x ∷ drop k (r ∷ rs)) (sym next)
 
 -- ---- the head that comes next
-pub heads-within : (tables : List (Name × Table)) (count n : ℕ) → n < count → slice_get (heads count tables) n ≡ option_map head (slice_get tables n)
-heads-within tables count n within = slice_get-take (map head tables) count n within ∙ slice_get-map head tables n
+pub heads-some : (tables : List (Name × Table)) (count n : ℕ) (h : Head) → slice_get (heads count tables) n ≡ Some h → n < count
+heads-some [] zero n h found = cc
+heads-some [] (suc count) n h found = cc
+heads-some (t ∷ ts) zero n h found = cc
+heads-some (t ∷ ts) (suc count) zero h found = omega arith
+heads-some (t ∷ ts) (suc count) (suc n) h found = omega (arith, heads-some ts count n h found)
 
-pub heads-past : (tables : List (Name × Table)) (count n : ℕ) → count ≤ n → slice_get (heads count tables) n ≡ None
-heads-past tables count n past = slice_get-past (map head tables) count n past
-
-pub heads-some : {X : Type 0} (xs : List X) (count n : ℕ) (x : X) → slice_get (take count xs) n ≡ Some x → n < count
-heads-some [] zero n x found = cc
-heads-some [] (suc count) n x found = cc
-heads-some (y ∷ ys) zero n x found = cc
-heads-some (y ∷ ys) (suc count) zero x found = omega arith
-heads-some (y ∷ ys) (suc count) (suc n) x found = omega (arith, heads-some ys count n x found)
-
--- ---- a table is whole
--- the first of the items is of another table
-abbrev pub StartsElsewhere : Head → List (Name × (ℕ × Row)) → Type 0
-StartsElsewhere h [] = Unit {0}
-StartsElsewhere h (i ∷ is) = is_of h i ≡ false
-
-elsewhere : (h : Head) (hs : List Head) (rows : List Row) (items : List (Name × (ℕ × Row))) → StartsElsewhere h items → images_under (h ∷ hs) rows items ≡ image_under h rows ∷ images_under hs [] items
-elsewhere h hs rows [] other = ap (λ r. image_under h r ∷ images_under hs [] []) (append-nil rows)
-elsewhere h hs rows (i ∷ is) other =
-    by (is_of h i) other
-  where
-    by : (b : Bool) → b ≡ false → image_under h (rows ++ rows_of (take (cond b (1 + prefix_len (is_of h) is) 0) (i ∷ is))) ∷ images_under hs [] (drop (cond b (1 + prefix_len (is_of h) is) 0) (i ∷ is)) ≡ image_under h rows ∷ images_under hs [] (i ∷ is)
-    by true at = cc
-    by false at = ap (λ r. image_under h r ∷ images_under hs [] (i ∷ is)) (append-nil rows)
-
-pub completed-closed : (hs : List Head) (f : Filled) (h : Head) (items : List (Name × (ℕ × Row))) → slice_get hs (length f.whole) ≡ Some h → StartsElsewhere h items
-    → completed hs (record { whole = f.whole ++ image_under h f.rows ∷ []; rows = [] }) items ≡ completed hs f items
-completed-closed hs f h items found other =
-    let long : length (f.whole ++ image_under h f.rows ∷ []) ≡ length f.whole + 1 = length-append f.whole (image_under h f.rows ∷ []) in
-    let rest : List Head = drop (length f.whole + 1) hs in
-    ap (λ n. (f.whole ++ image_under h f.rows ∷ []) ++ images_under (drop n hs) [] items) long
-    ∙ (append_assoc f.whole (image_under h f.rows ∷ []) (images_under rest [] items)
-    ∙ (ap (λ l. f.whole ++ l) (sym (elsewhere h rest f.rows items other))
-    ∙ ap (λ l. f.whole ++ images_under l f.rows items) (sym (drop-at hs (length f.whole) h found))))
-
--- ---- a row is put into its table
-here : (h : Head) (hs : List Head) (rows : List Row) (i : Name × (ℕ × Row)) (is : List (Name × (ℕ × Row))) → is_of h i ≡ true → images_under (h ∷ hs) (rows ++ i.1.1 ∷ []) is ≡ images_under (h ∷ hs) rows (i ∷ is)
-here h hs rows i is own =
-    by (is_of h i) own
-  where
-    by : (b : Bool) → b ≡ true → images_under (h ∷ hs) (rows ++ i.1.1 ∷ []) is ≡ image_under h (rows ++ rows_of (take (cond b (1 + prefix_len (is_of h) is) 0) (i ∷ is))) ∷ images_under hs [] (drop (cond b (1 + prefix_len (is_of h) is) 0) (i ∷ is))
-    by true at =
-        let next : suc (prefix_len (is_of h) is) ≡ 1 + prefix_len (is_of h) is = omega arith in
-        ap (λ r. image_under h r ∷ images_under hs [] (drop (prefix_len (is_of h) is) is)) (append_assoc rows (i.1.1 ∷ []) (rows_of (take_while (is_of h) is)))
-        ∙ ap (λ n. image_under h (rows ++ rows_of (take n (i ∷ is))) ∷ images_under hs [] (drop n (i ∷ is))) next
-    by false at = cc
-
-pub completed-put : (hs : List Head) (f : Filled) (i : Name × (ℕ × Row)) (items : List (Name × (ℕ × Row))) → IsNext hs f i.0
-    → completed hs (record f { rows = f.rows ++ i.1.1 ∷ [] }) items ≡ completed hs f (i ∷ items)
-completed-put hs f i items next = by (slice_get hs (length f.whole)) refl next
-  where
-    by : (o : Option Head) → slice_get hs (length f.whole) ≡ o → IfSome o (λ h. same_name h.name i.0 ≡ true)
-        → completed hs (record f { rows = f.rows ++ i.1.1 ∷ [] }) items ≡ completed hs f (i ∷ items)
-    by None none _ =
-        ap (λ l. f.whole ++ images_under l (f.rows ++ i.1.1 ∷ []) items) (drop-past hs (length f.whole) none)
-        ∙ ap (λ l. f.whole ++ images_under l f.rows (i ∷ items)) (sym (drop-past hs (length f.whole) none))
-    by (Some h) found own =
-        let rest : List Head = drop (length f.whole + 1) hs in
-        ap (λ l. f.whole ++ images_under l (f.rows ++ i.1.1 ∷ []) items) (drop-at hs (length f.whole) h found)
-        ∙ (ap (λ l. f.whole ++ l) (here h rest f.rows i items own)
-        ∙ ap (λ l. f.whole ++ images_under l f.rows (i ∷ items)) (sym (drop-at hs (length f.whole) h found)))
-
--- ---- all tables are whole
-pub completed-whole : (hs : List Head) (f : Filled) (items : List (Name × (ℕ × Row))) → slice_get hs (length f.whole) ≡ None → completed hs f items ≡ f.whole
-completed-whole hs f items none =
-    ap (λ l. f.whole ++ images_under l f.rows items) (drop-past hs (length f.whole) none) ∙ append-nil f.whole
+pub heads-there : (tables : List (Name × Table)) (count n : ℕ) → n < count → count ≤ length tables → slice_get (heads count tables) n ≡ None → ⊥
+heads-there [] count n lt le none = absurd (omega arith)
+heads-there (t ∷ ts) zero n lt le none = absurd (omega arith)
+heads-there (t ∷ ts) (suc count) zero lt le none = cc
+heads-there (t ∷ ts) (suc count) (suc n) lt le none = heads-there ts count n (omega arith) (omega arith) none
 
 -- the head of a table that is looked at
 abbrev pub head_seen : TableView → Head
 head_seen v = record { name = v.name; owner = v.owner; columns = v.columns.now }
 
--- what stands at the last place of a list is its last item
-pub last_of : {X : Type 0} (xs ys : List X) (x y : X) → xs ≡ ys ++ x ∷ [] → slice_get xs (length xs - 1) ≡ Some y → y ≡ x
-last_of xs ys x y parts found =
-    let long : length (ys ++ x ∷ []) ≡ length ys + 1 = length-append ys (x ∷ []) in
-    let at_end : length (ys ++ x ∷ []) - 1 ≡ length ys = omega (arith, long) in
-    let P : List _ → Type 0 = λ l. slice_get l (length l - 1) ≡ Some y in
-    let there : slice_get (ys ++ x ∷ []) (length ys) ≡ Some y = ap (slice_get (ys ++ x ∷ [])) (sym at_end) ∙ subst P parts found in
-    let is : Some y ≡ Some x = sym there ∙ end ys x in
-    cc
-  where
-    end : {X : Type 0} (ys : List X) (x : X) → slice_get (ys ++ x ∷ []) (length ys) ≡ Some x
-    end [] x = refl
-    end (y ∷ ys) x = end ys x
+-- ---- a table that has given all is whole
+pub completed-closed : (hs : List Head) (f : Filled) (h : Head) (rest : List (List Row)) → slice_get hs (length f.whole) ≡ Some h → length f.whole < length rest → get_or rest (length f.whole) [] ≡ []
+    → completed hs (record { whole = f.whole ++ image_under h f.rows ∷ []; rows = [] }) rest ≡ completed hs f rest
+completed-closed hs f h rest found lt none =
+    let n : ℕ = length f.whole in
+    let long : length (f.whole ++ image_under h f.rows ∷ []) ≡ n + 1 = length-append f.whole (image_under h f.rows ∷ []) in
+    let later : List Head = drop (n + 1) hs in
+    let others : List (List Row) = drop (n + 1) rest in
+    let rows : f.rows ≡ f.rows ++ get_or rest n [] = sym (append-nil f.rows) ∙ ap (λ l. f.rows ++ l) (sym none) in
+    ap (λ m. (f.whole ++ image_under h f.rows ∷ []) ++ images_under (drop m hs) [] (drop m rest)) long
+    ∙ (append_assoc f.whole (image_under h f.rows ∷ []) (images_under later [] others)
+    ∙ (ap (λ l. f.whole ++ image_under h l ∷ images_under later [] others) rows
+    ∙ (ap (λ l. f.whole ++ images_under (h ∷ later) f.rows l) (sym (drop-there rest n lt))
+    ∙ ap (λ l. f.whole ++ images_under l f.rows (drop n rest)) (sym (drop-at hs n h found)))))
+
+-- ---- the next table gives its first rows
+images_under-taken : (hs : List Head) (rows more : List Row) (rest : List (List Row)) (k : ℕ) → images_under hs (rows ++ take k more) (drop k more ∷ rest) ≡ images_under hs rows (more ∷ rest)
+images_under-taken [] rows more rest k = refl
+images_under-taken (h ∷ hs) rows more rest k =
+    ap (λ l. image_under h l ∷ images_under hs [] rest) (append_assoc rows (take k more) (drop k more) ∙ ap (λ l. rows ++ l) (take-append-drop k more))
+
+pub completed-taken : (hs : List Head) (f : Filled) (rest : List (List Row)) (k : ℕ) → length f.whole < length rest
+    → completed hs (record f { rows = f.rows ++ take k (get_or rest (length f.whole) []) }) (set rest (length f.whole) (drop k (get_or rest (length f.whole) []))) ≡ completed hs f rest
+completed-taken hs f rest k lt =
+    let n : ℕ = length f.whole in
+    let more : List Row = get_or rest n [] in
+    let next : List Head = drop n hs in
+    ap (λ l. f.whole ++ images_under next (f.rows ++ take k more) l) (drop-set rest n (drop k more) lt)
+    ∙ (ap (λ l. f.whole ++ l) (images_under-taken next f.rows more (drop (n + 1) rest) k)
+    ∙ ap (λ l. f.whole ++ images_under next f.rows l) (sym (drop-there rest n lt)))
+
+-- ---- all tables are whole
+pub completed-whole : (hs : List Head) (f : Filled) (rest : List (List Row)) → slice_get hs (length f.whole) ≡ None → completed hs f rest ≡ f.whole
+completed-whole hs f rest none =
+    ap (λ l. f.whole ++ images_under l f.rows (drop (length f.whole) rest)) (drop-past hs (length f.whole) none) ∙ append-nil f.whole

@@ -1,5 +1,6 @@
 pub mod ImageLemmas
 pub mod FillingLemmas
+pub mod GivenLemmas
 pub mod BeginLemmas
 pub mod TakingLemmas
 pub mod FingerprintLemmas

@@ -1,9 +1,8 @@
 -- What a capture stands for, and what each call makes of it.
-use Rattle.std.specs.Prelude.{ℕ, ◌≡◌, ◌+◌, ◌-◌, ◌<◌, ◌≤◌, nat_le, nat_lt, if◌then◌else◌, is_some, List, ◌++◌, length, Option, Some, None, option_map}
+use Rattle.std.specs.Prelude.{ℕ, ◌≡◌, ◌+◌, ◌-◌, ◌<◌, ◌≤◌, nat_le, nat_lt, if◌then◌else◌, is_some, List, ◌++◌, length, take, sum_by, Option, Some, None, option_map}
 use Rattle.std.specs.Arc.{arc_value}
 use Rattle.base_core.specs.declared.name.Name.{Name}
 use Rattle.base_core.specs.declared.value.Moment.{Moment}
-use Rattle.base_core.specs.declared.value.Row.{Row}
 use Rattle.base_core.specs.declared.lack.Lack.{Lack}
 use Rattle.base_core.specs.declared.lack.Lack.TheVariants.{Full, Busy}
 use Rattle.base_core.specs.declared.lack.What.TheVariants.{Checkpoints}
@@ -14,18 +13,15 @@ use Rattle.capture_core.specs.declared.image.Image.{Image}
 use Rattle.capture_core.specs.declared.progress.Progress.{Progress}
 use Rattle.capture_core.specs.declared.progress.Progress.TheVariants.{Idle, Left, Done}
 use Rattle.capture_core.specs.Image.{image, records}
-use Rattle.capture_core.specs.Filling.{Filled, heads, completed}
+use Rattle.capture_core.specs.Filling.{Filled, completed_from, AreGiven}
 
--- an active capture: its number and point; how many records are left; how many tables there were,
--- and these as far as they are filled; the rows that were taken and wait to be put into them; and
--- the grants that were taken
+-- an active capture: its number and point; how many records are left; its tables, as far as they are
+-- filled; and the grants that were taken
 pub record ActiveCapture : Type 0 where
   pub number : ℕ
   pub point : Moment
   pub left : ℕ
-  pub count : ℕ
   pub filled : Filled
-  pub waiting : List (Name × (ℕ × Row))
   pub grants : List Grant
 
 -- how many checkpoints were begun, and the capture that is active, if one is
@@ -38,16 +34,18 @@ abbrev pub coming : ActiveCapture → Database → List Grant → Image
 coming a d grants = record {
   number = a.number;
   point = a.point;
-  tables = completed (heads a.count d.tables) a.filled (a.waiting ++ d.rest);
+  tables = completed_from d a.filled;
   grants = a.grants ++ grants;
 }
 
 -- of the active capture, if one is: its tables are still there; one record at least is left, and one
--- for each row and grant that is due
+-- for each row and grant that is due; and the tables that are whole have given all
 abbrev pub CanGoOn : Option ActiveCapture → Database → List Grant → Type 0
 CanGoOn None d grants = Unit {0}
 CanGoOn (Some a) d grants =
-    (a.count ≤ length d.tables) × (0 < a.left) × (length d.rest + length grants ≤ a.left)
+    (length d.rest ≤ length d.tables) × (0 < a.left)
+    × (sum_by length d.rest + length grants ≤ a.left)
+    × AreGiven (take (length a.filled.whole) d.rest)
 
 -- a checkpoint in progress: how many records are left, and the image to come, whose number and point
 -- are the checkpoint's

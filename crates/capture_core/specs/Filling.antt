@@ -1,12 +1,11 @@
 -- An image's tables while rows come in, table after table.
-use Rattle.std.specs.Prelude.{ℕ, Bool, List, [], ◌∷◌, ◌++◌, length, map, take, drop, slice_get, IfSome, ◌≡◌, true}
-use Rattle.std.specs.List.{prefix_len, take_while}
-use Rattle.base_core.specs.Words.{same_name}
+use Rattle.std.specs.Prelude.{ℕ, List, [], ◌∷◌, ◌++◌, length, map, take, drop, ◌≡◌}
+use Rattle.std.specs.List.{AllByRecursion}
 use Rattle.base_core.specs.declared.name.Name.{Name}
 use Rattle.base_core.specs.declared.name.User.{User}
 use Rattle.base_core.specs.declared.value.Row.{Row}
 use Rattle.base_core.specs.declared.value.Column.{Column}
-use Rattle.tables_core.specs.Contents.{Table}
+use Rattle.tables_core.specs.Contents.{Table, Database}
 use Rattle.capture_core.specs.declared.image.TableImage.{TableImage}
 
 -- a table but for its rows
@@ -27,31 +26,36 @@ abbrev pub image_under : Head → List Row → TableImage
 image_under h rows =
     record { name = h.name; owner = h.owner; columns = h.columns; rows = rows }
 
--- whether a numbered row is of the table of this head
-abbrev pub is_of : Head → Name × (ℕ × Row) → Bool
-is_of h taken = same_name h.name taken.0
-
--- the rows without names and numbers
-abbrev pub rows_of : List (Name × (ℕ × Row)) → List Row
-rows_of items = map (λ taken. taken.1.1) items
-
--- the images of the tables of these heads: each takes the rows of its name that come next, and the
+-- the images of the tables of these heads: each gets the rows that it has still to give, and the
 -- first one has some already
-abbrev pub images_under : List Head → List Row → List (Name × (ℕ × Row)) → List TableImage
-images_under [] rows items = []
-images_under (h ∷ hs) rows items =
-    image_under h (rows ++ rows_of (take_while (is_of h) items))
-    ∷ images_under hs [] (drop (prefix_len (is_of h) items) items)
+abbrev pub images_under : List Head → List Row → List (List Row) → List TableImage
+images_under [] rows rest = []
+images_under (h ∷ hs) rows [] = []
+images_under (h ∷ hs) rows (more ∷ rest) =
+    image_under h (rows ++ more) ∷ images_under hs [] rest
 
 -- the tables that are whole, and the rows so far of the one that comes next
 pub record Filled : Type 0 where
   pub whole : List TableImage
   pub rows : List Row
 
--- what comes of it once these rows are in
-abbrev pub completed : List Head → Filled → List (Name × (ℕ × Row)) → List TableImage
-completed hs f items = f.whole ++ images_under (drop (length f.whole) hs) f.rows items
+-- what comes of it once the rows are in that the tables have still to give
+abbrev pub completed : List Head → Filled → List (List Row) → List TableImage
+completed hs f rest =
+    f.whole ++ images_under (drop (length f.whole) hs) f.rows (drop (length f.whole) rest)
 
--- whether the table that comes next, if one does, has this name
-abbrev pub IsNext : List Head → Filled → Name → Type 0
-IsNext hs f name = IfSome (slice_get hs (length f.whole)) (λ h. same_name h.name name ≡ true)
+-- the same, of the tables that a capture covers
+abbrev pub completed_from : Database → Filled → List TableImage
+completed_from d f = completed (heads (length d.rest) d.tables) f d.rest
+
+-- each of these tables has given all its rows
+abbrev pub AreGiven : List (List Row) → Type 0
+AreGiven rest = AllByRecursion (λ rows. rows ≡ []) rest
+
+-- rows go from the tables into what is filled: the same comes of it, and the tables that are whole
+-- have given all
+pub record PassesRows (old new : Database) (before after : Filled) : Type 0 where
+  pub tables : new.tables ≡ old.tables
+  pub covered : length new.rest ≡ length old.rest
+  pub given : AreGiven (take (length after.whole) new.rest)
+  pub same : completed_from new after ≡ completed_from old before

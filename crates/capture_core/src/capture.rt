@@ -1,5 +1,5 @@
 //! A checkpoint that is being captured.
-ghost use Rattle.std.specs.Prelude.{◌≡◌, ◌+◌, ◌^◌, ◌<◌, [], max, length, Err, Some, None, option_map, option_and_then, MatchOption, IsOk, IfOk, OnOk, OnErr};
+ghost use Rattle.std.specs.Prelude.{◌≡◌, ◌+◌, ◌^◌, ◌<◌, [], max, length, sum_by, Err, Some, None, option_map, option_and_then, MatchOption, IsOk, IfOk, OnOk, OnErr};
 ghost use Rattle.capture_core.specs.Image.{row_total};
 ghost use Rattle.capture_core.specs.Capturing.{begin_lack, newly_begun, in_progress, taken_off, CanGoOn, TellsProgress};
 
@@ -30,8 +30,8 @@ impl Model for Capture {
 
 /// How many records there are to take: one at least.
 fn records(tables: &Tables, rights: &Graph) -> u64
-    requires { length tables.now.rest + length rights.now.rest < 2 ^ 63 }
-    ensures { result ≡ max (length tables.now.rest + length rights.now.rest) 1 }
+    requires { sum_by length tables.now.rest + length rights.now.rest < 2 ^ 63 }
+    ensures { result ≡ max (sum_by length tables.now.rest + length rights.now.rest) 1 }
 {
     let records = tables.left() as u64 + rights.left();
     records.max(1)
@@ -82,7 +82,7 @@ impl Capture {
     /// - Else `Full`, of checkpoints, where as many were begun as there may be.
     ///
     /// After each of these nothing has changed, and no number is used up.
-    #[tactic(auto, using(crate::proofs::BeginLemmas::length_all_rows))]
+    #[tactic(auto, using(crate::proofs::BeginLemmas::length_all_rows, crate::proofs::BeginLemmas::sum_rows_by_table))]
     pub fn begin(
         &mut self,
         tables: &mut Tables,
@@ -112,7 +112,7 @@ impl Capture {
         rights.begin();
         self.begun += 1;
         let left = records(tables, rights);
-        self.active = Some(Active::new(self.alloc, self.begun, point, left, tables.len()));
+        self.active = Some(Active::new(self.alloc, self.begun, point, left));
         Ok(self.begun)
     }
 

@@ -1,13 +1,14 @@
 //! The tables of an image, filled row by row.
-ghost use Rattle.std.specs.Prelude.{◌≡◌, ℕ, List, [], ◌∷◌, ◌++◌, ◌-◌, reverse, slice_get, option_map, None, OnOk, OnErr, length};
-ghost use Rattle.capture_core.specs.Filling.{heads, head, completed, IsNext};
+ghost use Rattle.std.specs.Prelude.{◌≡◌, ◌+◌, ◌<◌, ◌≤◌, [], ◌∷◌, ◌++◌, min, length, take, sum_by, slice_get, option_map, None, IfOk, OnOk, OnErr};
+ghost use Rattle.tables_core.specs.Contents.{rest_at, with_rows_given};
+ghost use Rattle.capture_core.specs.Filling.{heads, completed_from, AreGiven, PassesRows};
 
 use crate::image::TableImage;
-use base_core::{Name, NoMemory, Row, Sequence};
+use base_core::{NoMemory, Row, Sequence};
 use std::alloc::Global;
 use std::marker::Model;
 use std::mem;
-use tables_core::{NumberedRow, TableView, Tables};
+use tables_core::{TableView, Tables};
 
 /// The tables that are whole, in order, and the rows so far of the one that comes next.
 #[derive(Drop)]
@@ -26,9 +27,7 @@ impl Model for Filling {
 }
 
 impl Filling {
-    ghost use Rattle.std.specs.Prelude.{ℕ, List, [], ◌∷◌, ◌++◌};
-    ghost use Rattle.base_core.specs.declared.value.Row.{Row as rows};
-    ghost use Rattle.base_core.specs.declared.name.Name.{Name as names};
+    ghost use Rattle.std.specs.Prelude.{[], ◌∷◌, ◌++◌};
     ghost use Rattle.capture_core.specs.Filling.{image_under};
 
     /// These tables, which are whole. It takes no memory.
@@ -49,25 +48,18 @@ impl Filling {
         self.whole
     }
 
-    /// The table that comes next, of the first `count`.
-    fn next<'a>(&self, tables: &'a Tables, count: usize) -> Option<TableView<'a>>
-        ensures { option_map
+    /// The table that comes next, of those that the capture covers.
+    fn next<'a>(&self, tables: &'a Tables) -> Option<TableView<'a>>
+        ensures head { option_map
             (λ v. record { name = v.name; owner = v.owner; columns = v.columns.now }) result
-            ≡ slice_get (heads count tables.now.tables) (length self.now.whole) }
+            ≡ slice_get (heads (length tables.now.rest) tables.now.tables)
+            (length self.now.whole) }
+        ensures there { length tables.now.rest ≤ length tables.now.tables }
     {
-        if self.whole.len() < count {
+        if self.whole.len() < tables.covered() {
             tables.at(self.whole.len())
         } else {
             None
-        }
-    }
-
-    /// For how many rows room is made at once: as many as the table that comes next has now, where
-    /// none is in yet. So a long list need not grow, which would move it.
-    fn rows_ahead(&self, tables: &Tables, count: usize) -> usize {
-        match self.next(tables, count) {
-            Some(table) if self.rows.is_empty() => table.rows.len(),
-            _ => 0,
         }
     }
 
@@ -95,83 +87,95 @@ impl Filling {
         Ok(())
     }
 
-    /// Goes on to the table of this name, whose next row comes now.
-    pub(crate) fn reach(
-        &mut self,
-        tables: &Tables,
-        count: usize,
-        name: Name,
-    ) -> Result<(), NoMemory>
-        ensures next { OnOk result (IsNext (heads count tables.now.tables) self.new name) }
-        ensures same { (number : ℕ) (row : rows) (items : List (names × (ℕ × rows)))
-            → completed (heads count tables.now.tables) self.new ((name, (number, row)) ∷ items)
-            ≡ completed (heads count tables.now.tables) self.old ((name, (number, row)) ∷ items) }
+    /// The table that comes next has given all, so it is whole.
+    fn close_next(&mut self, tables: &Tables) -> Result<(), NoMemory>
+        requires next { length self.old.whole < length tables.now.rest }
+        requires given { rest_at (length self.old.whole) tables.now ≡ [] }
+        ensures longer { OnOk result (length self.new.whole ≡ length self.old.whole + 1) }
+        ensures same { completed_from tables.now self.new ≡ completed_from tables.now self.old }
+        ensures err { OnErr result (self.new ≡ self.old) }
     {
-        while let Some(table) = self.next(tables, count) {
-            if table.name == name {
-                return Ok(());
-            }
-            self.close(&table)?;
+        match self.next(tables) {
+            Some(table) => self.close(&table),
+            None => unreachable!(),
+        }
+    }
+
+    /// Makes room for all rows of the table that comes next, where none is in yet. So a long list
+    /// need not grow, which would move it.
+    fn make_room(&mut self, tables: &Tables) -> Result<(), NoMemory>
+        ensures { self.new ≡ self.old }
+    {
+        if self.rows.is_empty() {
+            self.rows.reserve_exact(tables.left_at(self.whole.len()))?;
         }
         Ok(())
     }
 
-    /// Puts the last of the rows that wait into the table of its name.
-    fn put_last(
-        &mut self,
-        tables: &Tables,
-        count: usize,
-        waiting: &mut Vec<(Name, NumberedRow)>,
-    ) -> Result<(), NoMemory>
-        ensures fewer { OnOk result (length waiting.new.items ≡ length waiting.old.items - 1) }
-        ensures same { (items : List (names × (ℕ × rows)))
-            → completed (heads count tables.now.tables) self.new (reverse waiting.new.items ++ items)
-            ≡ completed (heads count tables.now.tables) self.old
-            (reverse waiting.old.items ++ items) }
+    /// Takes the next `count` rows of the table that comes next, or all that it has to give.
+    fn take_rows(&mut self, tables: &mut Tables, count: usize) -> Result<usize, NoMemory>
+        ensures whole { self.new.whole ≡ self.old.whole }
+        ensures count { IfOk result (λ taken.
+            taken ≡ min count (length (rest_at (length self.old.whole) tables.old))) }
+        ensures rows { OnOk result (self.new.rows
+            ≡ self.old.rows ++ take count (rest_at (length self.old.whole) tables.old)) }
+        ensures rest { OnOk result
+            (tables.new ≡ with_rows_given (length self.old.whole) count tables.old) }
+        ensures err { OnErr result (self.new ≡ self.old) }
+        ensures same_tables { OnErr result (tables.new ≡ tables.old) }
     {
-        let Some((name, _)) = waiting.last() else {
-            return Ok(());
-        };
-        self.reach(tables, count, *name)?;
-        let ahead = self.rows_ahead(tables, count);
-        self.rows.reserve_exact(ahead)?;
-        self.rows.reserve(1)?;
-        if let Some((_, (_, row))) = waiting.pop() {
-            self.rows.push_reserved(row);
-        }
-        Ok(())
+        self.make_room(tables)?;
+        tables.capture_rows(self.whole.len(), &mut self.rows, count)
     }
 
-    /// Puts the rows that wait into their tables; the last one comes first. `NoMemory` where a
-    /// request for memory was refused: then the others still wait.
-    pub(crate) fn put(
-        &mut self,
-        tables: &Tables,
-        count: usize,
-        waiting: &mut Vec<(Name, NumberedRow)>,
-    ) -> Result<(), NoMemory>
-        ensures ok { OnOk result (waiting.new.items ≡ []) }
-        ensures same { (items : List (names × (ℕ × rows)))
-            → completed (heads count tables.now.tables) self.new (reverse waiting.new.items ++ items)
-            ≡ completed (heads count tables.now.tables) self.old
-            (reverse waiting.old.items ++ items) }
+    /// Takes `count` rows of the table that comes next. Where it has fewer to give, it takes these,
+    /// and the table is whole.
+    fn take_next(&mut self, tables: &mut Tables, count: usize) -> Result<usize, NoMemory>
+        requires next { length self.old.whole < length tables.old.rest }
+        requires given { AreGiven (take (length self.old.whole) tables.old.rest) }
+        ensures passes { PassesRows tables.old tables.new self.old self.new }
+        ensures few { IfOk result (λ taken. taken ≤ count) }
+        ensures rest { IfOk result (λ taken.
+            taken + sum_by length tables.new.rest ≡ sum_by length tables.old.rest) }
+        ensures fewer { sum_by length tables.new.rest ≤ sum_by length tables.old.rest }
+        ensures on { IfOk result (λ taken.
+            0 < count → length self.old.whole < length self.new.whole + taken) }
     {
-        while !waiting.is_empty() {
-            self.put_last(tables, count, waiting)?;
+        let taken = self.take_rows(tables, count)?;
+        if taken == count {
+            return Ok(taken);
         }
-        Ok(())
+        self.close_next(tables)?;
+        Ok(taken)
+    }
+
+    /// Takes the next `count` rows that the capture has still to give, or all of them. `NoMemory`
+    /// where a request for memory was refused: then those that were taken before it are in.
+    pub(crate) fn take(&mut self, tables: &mut Tables, count: usize) -> Result<usize, NoMemory>
+        requires { AreGiven (take (length self.old.whole) tables.old.rest) }
+        ensures passes { PassesRows tables.old tables.new self.old self.new }
+        ensures count { IfOk result (λ taken. taken ≡ min count (sum_by length tables.old.rest)) }
+        ensures rest { IfOk result (λ taken.
+            taken + sum_by length tables.new.rest ≡ sum_by length tables.old.rest) }
+        ensures fewer { sum_by length tables.new.rest ≤ sum_by length tables.old.rest }
+    {
+        let mut taken = 0;
+        while taken < count && self.whole.len() < tables.covered() {
+            taken += self.take_next(tables, count - taken)?;
+        }
+        Ok(taken)
     }
 
     /// All tables are whole: no row more comes.
-    pub(crate) fn finish(&mut self, tables: &Tables, count: usize) -> Result<(), NoMemory>
-        ensures whole { OnOk result
-            (self.new.whole ≡ completed (heads count tables.now.tables) self.old []) }
+    pub(crate) fn finish(&mut self, tables: &Tables) -> Result<(), NoMemory>
+        requires { AreGiven tables.now.rest }
+        ensures whole { OnOk result (self.new.whole ≡ completed_from tables.now self.old) }
         ensures all { OnOk result
-            (slice_get (heads count tables.now.tables) (length self.new.whole) ≡ None) }
-        ensures same { completed (heads count tables.now.tables) self.new []
-            ≡ completed (heads count tables.now.tables) self.old [] }
+            (slice_get (heads (length tables.now.rest) tables.now.tables) (length self.new.whole)
+            ≡ None) }
+        ensures same { completed_from tables.now self.new ≡ completed_from tables.now self.old }
     {
-        while let Some(table) = self.next(tables, count) {
+        while let Some(table) = self.next(tables) {
             self.close(&table)?;
         }
         Ok(())

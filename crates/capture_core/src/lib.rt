@@ -34,18 +34,18 @@
 //! and a step copies the rest.
 //!
 //! The rows come table by table, in the order in which the tables were created, and the grants
-//! behind them. A row is put into the image of its table. Where one of another table comes, the
-//! table before it is whole: its name, owner and columns are copied then, which no change alters.
+//! behind them. The rows of a table go straight into the list that its image has of them, with
+//! neither name nor number. Where the table has no more to give, it is whole: its name, owner and
+//! columns are copied then, which no change alters.
 //!
 //! ```text
-//!               whole            rows       waiting      still due
-//!          ┌──────────────┐   ┌────────┐   ┌───────┐   ┌──────────────────┐
-//! image =  t with its rows     u: 0, 1      u: 2        u: 3, v: 0, grants
+//!               whole            rows             still due
+//!          ┌──────────────┐   ┌────────┐   ┌──────────────────────────┐
+//! image =  t with its rows     u: 0, 1      u: 2, 3     v: 0     grants
 //! ```
 //!
-//! A row that was taken and found no memory for its place waits, and the next step puts it first.
-//! So a step that was refused memory has lost nothing: as many records are left as before, and the
-//! same image is to come.
+//! A step that was refused memory has lost nothing: what it had taken is in its place, as many
+//! records are left as before, and the same image is to come.
 //!
 //! # Cost
 //!

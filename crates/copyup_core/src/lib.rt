@@ -18,7 +18,7 @@
 //! store.remove(1);                    // true
 //! store.push(c)?;                     // 2
 //! store.next_from(1);                 // Some((2, &c))
-//! store.capture_step(&mut out, 5)?;   // 2: (0, a) and (1, b), as they were
+//! store.capture_step(&mut out, 5)?;   // 2: a and b, as they were
 //! ```
 //!
 //! A caller who must not fail half way asks for room first: once `reserve` of k has answered Ok, k
@@ -44,14 +44,14 @@
 //! put by.
 //!
 //! ```text
-//! begin                   a step of 1 gives (0, a)   replace(2, x), remove(3), push(e)
+//! begin                   a step of 1 gives a        replace(2, x), remove(3), push(e)
 //!
 //! entries 0a 1b 2c 3d     0a 1b 2c 3d                0a   1b   2x   3d   4e
 //! states  Live, each      Live, each                 Live Live Live Gone Live
 //! kept    empty           empty                      -    -    c
 //! walk    |---------|        |------|                     |----------|
 //!
-//! a step of 3 gives (1, b), (2, c) and (3, d): what is kept, or else the value of what is not dead
+//! a step of 3 gives b, c and d: what is kept, or else the value of what is not dead
 //! ```
 //!
 //! So nothing that is called between `begin` and the end changes what is captured. The clauses of

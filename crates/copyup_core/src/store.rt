@@ -1,6 +1,7 @@
 //! Items in number order, and at most one capture of them.
 ghost use Rattle.std.specs.Prelude.{◌≡◌, ◌+◌, ◌-◌, ◌<◌, ◌≤◌, ◌↔◌, ◌++◌, min, length, take, None, Some, IsSome, IsNone, is_some, IfSome, IfOk, IsOk, OnOk, OnErr};
 ghost use Rattle.std.specs.Option.{option_map, option_copied};
+ghost use Rattle.std.specs.Map.{values_of};
 
 use crate::fault::PushFault;
 use crate::items::Items;
@@ -247,16 +248,18 @@ impl<V: Twin> Store<V> {
         }
     }
 
-    /// Appends the next `count` items of the capture to `out`, or all that are left, in number
-    /// order and as they were when it began, and gives how many. With none left the capture ends;
-    /// that of a store with nothing in it ends at its first step. A capture must be active.
+    /// Appends the next `count` items of the capture to `out`, or all that are left, in the order
+    /// of their numbers, which are left out, and as they were when it began. It gives how many.
+    /// With none left the capture ends; that of a store with nothing in it ends at its first step.
+    /// A capture must be active.
     ///
     /// `NoMemory` where a request for memory was refused: then the store and the items of `out`
     /// are as before.
-    pub fn capture_step(&mut self, out: &mut Vec<(u64, V)>, count: usize) -> Result<usize, NoMemory>
+    pub fn capture_step(&mut self, out: &mut Vec<V>, count: usize) -> Result<usize, NoMemory>
         requires { IsSome self.old.rest }
         ensures count { IfOk result (λ given. given ≡ min count (length (due self.old))) }
-        ensures items { OnOk result (out.new.items ≡ out.old.items ++ take count (due self.old)) }
+        ensures items { OnOk result
+            (out.new.items ≡ out.old.items ++ values_of (take count (due self.old))) }
         ensures rest { OnOk result (self.new ≡ stepped count self.old) }
         ensures err { OnErr result (self.new ≡ self.old) }
         ensures out_err { OnErr result (out.new.items ≡ out.old.items) }

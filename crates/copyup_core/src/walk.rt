@@ -1,31 +1,30 @@
 //! A capture's walk over slots.
 ghost use Rattle.std.specs.Prelude.{◌≡◌, ◌+◌, ◌<◌, ◌≤◌, ◌++◌, length, vec_len, vec_capacity, IfOk, OnOk, OnErr};
 ghost use Rattle.std.specs.List.{AllWithin, HoldsAt};
+ghost use Rattle.std.specs.Map.{values_of};
 ghost use Rattle.copyup_core.specs.Slot.{Keeps, SameOutside, IsFree, had_item, had_within};
 
 use crate::slots::Slots;
 use base_core::{NoMemory, Twin};
 
 /// Appends a copy of what the slot at a place had when the capture began, if it had an item.
-#[inline]
-fn copy_item<V: Twin>(
-    slots: &Slots<V>,
-    place: usize,
-    out: &mut Vec<(u64, V)>,
-) -> Result<(), NoMemory>
+#[inline(always)]
+fn copy_item<V: Twin>(slots: &Slots<V>, place: usize, out: &mut Vec<V>) -> Result<(), NoMemory>
     requires within { place < length slots.now.items }
     requires room { HoldsAt
         (λ s. vec_len out.old + length (had_item s) ≤ vec_capacity out.old)
         slots.now.items
         place }
     ensures items { OnOk result
-        (HoldsAt (λ s. out.new.items ≡ out.old.items ++ had_item s) slots.now.items place) }
+        (HoldsAt
+        (λ s. out.new.items ≡ out.old.items ++ values_of (had_item s))
+        slots.now.items
+        place) }
     ensures capacity { vec_capacity out.new ≡ vec_capacity out.old }
     ensures err { OnErr result (out.new.items ≡ out.old.items) }
 {
     if let Some(item) = slots.had(place) {
-        let copy = item.try_twin()?;
-        out.push_reserved((slots.number(place), copy));
+        out.push_reserved(item.try_twin()?);
     }
     Ok(())
 }
@@ -37,7 +36,7 @@ pub(crate) fn copy_next<V: Twin>(
     from: usize,
     end: usize,
     count: usize,
-    out: &mut Vec<(u64, V)>,
+    out: &mut Vec<V>,
 ) -> Result<usize, NoMemory>
     requires within { from ≤ end × end ≤ length slots.now.items }
     requires enough { count ≤ length (had_within from end slots.now.items) }
@@ -45,7 +44,8 @@ pub(crate) fn copy_next<V: Twin>(
     ensures stop { IfOk result (λ stop. (from ≤ stop) × (stop ≤ end)) }
     ensures count { IfOk result (λ stop. length (had_within from stop slots.now.items) ≡ count) }
     ensures items { IfOk result
-        (λ stop. out.new.items ≡ out.old.items ++ had_within from stop slots.now.items) }
+        (λ stop.
+        out.new.items ≡ out.old.items ++ values_of (had_within from stop slots.now.items)) }
     ensures err { OnErr result (out.new.items ≡ out.old.items) }
 {
     let start = out.len();

@@ -1,4 +1,4 @@
--- The numbers of links are those of the grants for which they stand.
+-- The numbers of links, and their standings, are those of the grants for which they stand.
 use Rattle.std.proofs.Common.{◌≡◌, ◌∙◌, ℕ, ◌+◌, ◌<◌, List, [], ◌∷◌, length, false, get_or, map, zero, suc, refl, sym, ap, arith}
 use Rattle.std.specs.List.{range_with_len}
 use Rattle.std.proofs.lemmas.List.{length-map, get_or-map}
@@ -6,8 +6,8 @@ use Rattle.std.proofs.lemmas.List.Elements.{All-from_recursion}
 use Rattle.grants_core.specs.Numbers.{IsNumbered}
 use Rattle.grants_core.specs.declared.grant.Grant.{Grant}
 use Rattle.links_core.specs.declared.link.Link.{Link}
-use Rattle.links_core.specs.Links.{AreNumbered, Rises, AreBelow}
-use Rattle.graph_core.specs.Indices.{Indexed, grant_of}
+use Rattle.links_core.specs.Links.{AreNumbered, Rises, AreBelow, standing_of_link}
+use Rattle.graph_core.specs.Indices.{Indexed, grant_of, standing_of}
 
 numbers_same : (indexed : Indexed) (links : List Link) → map (λ g. g.number) (map (grant_of indexed) links) ≡ map (λ l. l.number) links
 numbers_same indexed [] = refl
@@ -60,3 +60,7 @@ numbered_grants indexed links n rises below = record {
 
     number_at : (i : ℕ) (d : Grant) → i < length links → (get_or (map (grant_of indexed) links) i d).number ≡ (get_or links i blank).number
     number_at i d inside = ap (λ (g : Grant). g.number) (get_or-map (grant_of indexed) links i blank d inside)
+
+pub standings_same : (indexed : Indexed) (links : List Link) → map standing_of_link links ≡ map standing_of (map (grant_of indexed) links)
+standings_same indexed [] = refl
+standings_same indexed (l ∷ ls) = ap (λ k. standing_of_link l ∷ k) (standings_same indexed ls)

@@ -1,8 +1,6 @@
 -- A test of all that a list is mapped to.
 use Rattle.std.proofs.Common.{◌≡◌, ◌∙◌, Bool, true, false, ◌||◌, cond, List, [], ◌∷◌, length, map, count_by, refl, sym, ap}
 use Rattle.std.specs.List.{AllByRecursion, list_any, filter}
-use Rattle.links_core.specs.declared.link.Link.{Link}
-use Rattle.links_core.specs.Links.{numbered_as}
 use Rattle.std.proofs.lemmas.List.{length-map}
 use Rattle.std.proofs.lemmas.List.Sums.{length-filter}
 
@@ -43,8 +41,3 @@ module _ {A B : Type 0} (f : A → B) (P : B → Type 0) where
   pub all_under : (xs : List A) → AllByRecursion P (map f xs) → AllByRecursion (λ x. P (f x)) xs
   all_under [] h = tt
   all_under (x ∷ xs) h = (h.0, all_under xs h.1)
-
--- numbers beside the links make no difference
-pub map_numbered : {B : Type 0} (f : Link → B) (xs : List Link) → map (λ p. f p.1) (numbered_as xs) ≡ map f xs
-map_numbered f [] = refl
-map_numbered f (x ∷ xs) = ap (λ k. f x ∷ k) (map_numbered f xs)

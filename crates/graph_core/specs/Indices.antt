@@ -10,6 +10,7 @@ use Rattle.base_core.specs.declared.privilege.Atom.{Atom}
 use Rattle.base_core.specs.declared.privilege.Kind.TheVariants as kinds
 use Rattle.grants_core.specs.declared.grant.Grant.{Grant}
 use Rattle.links_core.specs.declared.link.Link.{Link}
+use Rattle.links_core.specs.declared.standing.Standing.{Standing}
 use Rattle.links_core.specs.Links.{goes_to}
 use Rattle.grants_core.specs.declared.key.Key.{Key}
 use Rattle.graph_core.specs.declared.indices.Place.{Place}
@@ -41,6 +42,10 @@ grant_of indexed l = record {
   grantee = user_at indexed l.grantee;
   option = l.option;
 }
+
+-- the standing of a grant: its number, and whether it has its option
+abbrev pub standing_of : Grant → Standing
+standing_of g = record { number = g.number; option = g.option }
 
 -- each index of the link is of a user, or of a privilege
 pub record IsWithin (indexed : Indexed) (l : Link) : Type 0 where

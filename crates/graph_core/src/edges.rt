@@ -1,9 +1,10 @@
 //! The edges in number order, with an index at each of their sides.
-ghost use Rattle.std.specs.Prelude.{◌≡◌, ◌≤◌, ◌+◌, ◌*◌, ◌^◌, ◌++◌, ◌&&◌, [], length, min, take, drop, OnOk, OnErr, IfOk};
+ghost use Rattle.std.specs.Prelude.{◌≡◌, ◌≤◌, ◌+◌, ◌*◌, ◌^◌, ◌++◌, ◌&&◌, [], length, map, min, take, drop, OnOk, OnErr, IfOk};
 ghost use Rattle.std.specs.List.{list_any};
 ghost use Rattle.grants_core.specs.Content.{singles, gives, count_of, has_made, has_optioned};
 ghost use Rattle.grants_core.specs.Numbers.{IsNumbered};
 ghost use Rattle.grants_core.specs.Valid.{valid, IsInOrder, AreSupported};
+ghost use Rattle.graph_core.specs.Indices.{standing_of};
 ghost use Rattle.graph_core.specs.Revocation.{grants_after};
 
 use crate::indices::Indices;
@@ -11,7 +12,7 @@ use crate::linking::{grants_of, links_of, put_grants};
 use crate::revocation::{Loss, revoke};
 use base_core::{Atom, Moment, NoMemory, User};
 use grants_core::{Grant, Owners, single_grants};
-use links_core::Links;
+use links_core::{Links, Standing};
 use std::alloc::Global;
 use std::marker::Model;
 
@@ -187,6 +188,13 @@ impl Edges {
     {
         let links = self.links.all()?;
         grants_of(self.alloc, &self.indices, &links)
+    }
+
+    /// The standing of each edge, in number order. `NoMemory` where their list has no room.
+    pub fn standings(&self) -> Result<Vec<Standing>, NoMemory>
+        ensures { IfOk result (λ standings. standings.items ≡ map standing_of self.now.edges) }
+    {
+        self.links.standings()
     }
 
     /// Begins a capture of the edges as they are now; an older one is given up. It takes no memory.

@@ -1,12 +1,14 @@
 //! The graph.
-ghost use Rattle.std.specs.Prelude.{◌≡◌, ◌+◌, ◌*◌, ◌^◌, ◌<◌, ◌≤◌, ◌++◌, [], true, false, length, min, take, drop, All, OnOk, OnErr, IfOk};
+ghost use Rattle.std.specs.Prelude.{◌≡◌, ◌+◌, ◌*◌, ◌^◌, ◌<◌, ◌≤◌, ◌++◌, [], true, false, length, map, min, take, drop, All, OnOk, OnErr, IfOk};
 ghost use Rattle.grants_core.specs.Content.{after_create, after_grant, after_revoke, after_revoke_option, may_grant};
 ghost use Rattle.grants_core.specs.Owners.{was_granted};
+ghost use Rattle.graph_core.specs.Indices.{standing_of};
 
 use crate::edges::Edges;
 use crate::revocation::Loss;
 use base_core::{Atom, Moment, Name, NoMemory, User};
 use grants_core::{Authority, Grant, Owners};
+use links_core::Standing;
 use std::alloc::Global;
 use std::marker::Model;
 
@@ -50,6 +52,16 @@ impl Graph {
         ensures { result ≡ length self.now.content.in_force }
     {
         self.edges.len()
+    }
+
+    /// The standing of each grant in force, in the order of their numbers. It goes over all of them,
+    /// and takes an eighth of what a list of them does. `NoMemory` where a request for memory was
+    /// refused.
+    pub fn standings(&self) -> Result<Vec<Standing>, NoMemory>
+        ensures { IfOk result
+            (λ standings. standings.items ≡ map standing_of self.now.content.in_force) }
+    {
+        self.edges.standings()
     }
 
     /// Begins a capture of the grants in force as they are now. One that is active is given up

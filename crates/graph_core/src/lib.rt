@@ -84,7 +84,8 @@
 //!   a chain that is one at most. It needs no memory and never fails; it calls itself at most as
 //!   deep as there are edges of one privilege. `revoke_option` does the same, but for the named
 //!   edges, which stay: one walk over the edges to each user named.
-//! - `in_force` goes over all edges, and makes each anew.
+//! - `in_force` goes over all edges, and makes each anew. `standings` goes over all, and takes 16 bytes
+//!   of each.
 //! - `begin` and `left` are constant, but for an older capture that is given up, and `capture_step`
 //!   makes the grants that it gives. It takes memory for these, and for their links as long as it
 //!   takes; `begin`, `abandon`, `revoke` and `revoke_option` take none.

@@ -64,12 +64,12 @@ pub fn grants_of(alloc: Global, indices: &Indices, links: &[Link]) -> Result<Vec
 }
 
 /// Puts the grants for which these links stand behind the others, where there is room.
-pub fn put_grants(indices: &Indices, links: &[(u64, Link)], out: &mut Vec<Grant>)
-    requires within { AllByRecursion (λ l. IsWithin indices.now l.1) links.now }
+pub fn put_grants(indices: &Indices, links: &[Link], out: &mut Vec<Grant>)
+    requires within { AllByRecursion (IsWithin indices.now) links.now }
     requires room { vec_len out.old + length links.now ≤ vec_capacity out.old }
-    ensures { out.new.items ≡ out.old.items ++ map (λ l. grant_of indices.now l.1) links.now }
+    ensures { out.new.items ≡ out.old.items ++ map (grant_of indices.now) links.now }
 {
-    for (_, link) in links {
+    for link in links {
         put(out, indices.grant(link));
     }
 }

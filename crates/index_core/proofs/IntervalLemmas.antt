@@ -1,7 +1,10 @@
 -- Values within intervals.
 use Rattle.std.proofs.Common.{◌≡◌, ℕ, ◌≤◌, Bool, true, false, ◌&&◌, nat_le, Option, Some, None, refl, sym, ap, ◌∙◌}
+use Rattle.std.specs.Cmp.Lexicographic.{bytes_decides}
 use Rattle.std.proofs.lemmas.Bool.{false≢true, le-leb}
-use Rattle.std.specs.Ordering.{is_eq, is_lt, is_le, is_gt, is_ge}
+use Rattle.std.proofs.lemmas.Bool.Decides.{Decides-int_eq}
+use Rattle.std.proofs.lemmas.Map.Text.{is_eq-slice_cmp}
+use Rattle.std.specs.Ordering.{is_lt, is_gt}
 use Rattle.std.specs.declared.cmp.Ordering.{Ordering}
 use Rattle.std.specs.declared.cmp.Ordering.TheVariants as orderings
 use Rattle.base_core.specs.Filter.{accepts, accepts_order, compares}
@@ -9,6 +12,7 @@ use Rattle.base_core.specs.Values.{value_order}
 use Rattle.base_core.specs.declared.condition.Comparison.{Comparison}
 use Rattle.base_core.specs.declared.condition.Comparison.TheVariants as comparisons
 use Rattle.base_core.specs.declared.value.Value.{Value}
+use Rattle.base_core.specs.declared.value.Value.TheVariants as values
 use Rattle.index_core.specs.declared.interval.Interval.{Interval}
 use Rattle.index_core.specs.Rank.{rank}
 use Rattle.index_core.specs.Within.{admits}
@@ -45,15 +49,12 @@ greater-only orderings.Less e = absurd (false≢true e)
 greater-only orderings.Equal e = absurd (false≢true e)
 greater-only orderings.Greater e = refl
 
-eq-is-le : (o : Ordering) → is_eq o ≡ true → is_le o ≡ true
-eq-is-le orderings.Less e = absurd (false≢true e)
-eq-is-le orderings.Equal e = e
-eq-is-le orderings.Greater e = absurd (false≢true e)
-
-eq-is-ge : (o : Ordering) → is_eq o ≡ true → is_ge o ≡ true
-eq-is-ge orderings.Less e = absurd (false≢true e)
-eq-is-ge orderings.Equal e = e
-eq-is-ge orderings.Greater e = absurd (false≢true e)
+-- values that compare as equal are the same
+same-value : (v w : Value) → compares comparisons.Equal v w ≡ true → v ≡ w
+same-value (values.Int a) (values.Int b) e = ap (λ k. values.Int k) ((Decides-int_eq a b).0 e)
+same-value (values.Int a) (values.Text t) e = absurd (false≢true e)
+same-value (values.Text s) (values.Int b) e = absurd (false≢true e)
+same-value (values.Text s) (values.Text t) e = ap (λ k. values.Text k) ((bytes_decides s t).0 (sym (is_eq-slice_cmp s t) ∙ e))
 
 module _ (c : Comparison) (v w : Value) (met : compares c v w ≡ true) where
   -- the same of the comparison that c is
@@ -72,7 +73,6 @@ module _ (c : Comparison) (v w : Value) (met : compares c v w ≡ true) where
   pub ranks-from : c ≡ comparisons.GreaterEqual → rank w ≤ rank v
   ranks-from is = let o = ordered comparisons.GreaterEqual v w (met-as comparisons.GreaterEqual is) in rank-ge v w o.order o.is o.accepted
 
-  pub ranks-same : c ≡ comparisons.Equal → (rank v ≤ rank w) × (rank w ≤ rank v)
-  ranks-same is =
-      let o = ordered comparisons.Equal v w (met-as comparisons.Equal is) in
-      (rank-le v w o.order o.is (eq-is-le o.order o.accepted), rank-ge v w o.order o.is (eq-is-ge o.order o.accepted))
+  -- so they have the same key, whatever it is
+  pub key-same : c ≡ comparisons.Equal → (key : Value → ℕ) → key v ≡ key w
+  key-same is key = ap key (same-value v w (met-as comparisons.Equal is))

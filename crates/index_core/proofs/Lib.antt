@@ -1,4 +1,4 @@
 pub mod IntervalLemmas
+pub mod KeyLemmas
 pub mod ListedLemmas
-pub mod RangedLemmas
 pub mod RankLemmas

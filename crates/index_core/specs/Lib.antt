@@ -1,5 +1,5 @@
 pub mod Fingerprint
+pub mod Keys
 pub mod Listed
-pub mod Ranged
 pub mod Rank
 pub mod Within

@@ -1,8 +1,8 @@
-//! One line of an index in order.
+//! One line of an index.
 
-/// The number of a row, and the rank of the value that it was noted for.
+/// The number of a row, and the key of the value that it was noted for.
 #[derive(Clone, Copy)]
 pub struct Entry {
-    pub rank: u64,
+    pub key: u64,
     pub number: u64,
 }

@@ -3,6 +3,7 @@ ghost use Rattle.std.specs.Prelude.{◌≡◌};
 ghost use Rattle.std.specs.List.{fold};
 ghost use Rattle.index_core.specs.Fingerprint.{fingerprint, stirred};
 
+use crate::rank::above_lowest;
 use base_core::Value;
 
 /// A prime far from a power of two, so that a byte reaches the bits above it.
@@ -26,12 +27,12 @@ fn folded(bytes: &[u8]) -> u64
     so_far
 }
 
-/// The number under which a value is looked up.
+/// The fingerprint of a value. No two numbers have the same.
 pub fn fingerprint(value: &Value) -> u64
     ensures { result ≡ fingerprint value.now }
 {
     match value {
-        Value::Int(number) => number.cast_unsigned(),
+        Value::Int(number) => above_lowest(*number),
         Value::Text(text) => folded(text.as_bytes()),
     }
 }

@@ -4,14 +4,16 @@ ghost use Rattle.std.specs.declared.cmp.Ordering.TheVariants as orderings;
 ghost use Rattle.base_core.specs.Filter.{compares};
 ghost use Rattle.base_core.specs.Values.{value_order};
 ghost use Rattle.base_core.specs.declared.value.Value.{Value as values};
+ghost use Rattle.index_core.specs.Keys.{key_of};
 ghost use Rattle.index_core.specs.Rank.{rank};
 ghost use Rattle.index_core.specs.Within.{admits, IsWithin};
+ghost use Rattle.index_core.specs.declared.key.Key.{Key as keys};
 
+use crate::key::Key;
 use crate::rank::{above_lowest, rank};
 use base_core::{Comparison, Value};
 
-/// From one value to another, as their ranks tell. Contracts see, by `IsWithin`, which values are
-/// within.
+/// From one key to another. Contracts see, by `IsWithin`, the values of which keys are within.
 #[derive(Clone, Copy)]
 pub struct Interval {
     pub lowest: u64,
@@ -45,7 +47,7 @@ fn lowest_above(value: &Value) -> u64
 impl Interval {
     /// All values are within.
     pub fn whole() -> Interval
-        ensures { (v : values) → IsWithin result v }
+        ensures { (k : keys) (v : values) → IsWithin k result v }
     {
         Interval {
             lowest: 0,
@@ -53,51 +55,48 @@ impl Interval {
         }
     }
 
-    /// Whether it has no end.
-    pub fn is_whole(self) -> bool {
-        self.lowest == 0 && self.highest == u64::MAX
-    }
-
-    /// Its part from this rank on.
-    fn at_least(self, rank: u64) -> Interval
+    /// Its part from this key on.
+    fn at_least(self, key: u64) -> Interval
         ensures { (n : ℕ)
             → admits self n ≡ true
-            → rank ≤ n
+            → key ≤ n
             → admits result n ≡ true }
     {
         Interval {
-            lowest: self.lowest.max(rank),
+            lowest: self.lowest.max(key),
             highest: self.highest,
         }
     }
 
-    /// Its part up to this rank.
-    fn at_most(self, rank: u64) -> Interval
+    /// Its part up to this key.
+    fn at_most(self, key: u64) -> Interval
         ensures { (n : ℕ)
             → admits self n ≡ true
-            → n ≤ rank
+            → n ≤ key
             → admits result n ≡ true }
     {
         Interval {
             lowest: self.lowest,
-            highest: self.highest.min(rank),
+            highest: self.highest.min(key),
         }
     }
 
-    /// The part of it where values stand so to the literal, or somewhat more: it may keep values
-    /// that do not, and keeps each that does.
-    pub fn narrowed(self, comparison: Comparison, literal: &Value) -> Interval
+    /// Its part with this key alone.
+    fn only(self, key: u64) -> Interval
+        ensures { admits self key ≡ true → admits result key ≡ true }
+    {
+        self.at_least(key).at_most(key)
+    }
+
+    /// The part of an interval of ranks where values stand so to the literal, or somewhat more.
+    fn ranked(self, comparison: Comparison, literal: &Value) -> Interval
         ensures { (v : values)
-            → IsWithin self v
+            → admits self (rank v) ≡ true
             → compares comparison v literal.now ≡ true
-            → IsWithin result v }
+            → admits result (rank v) ≡ true }
     {
         match comparison {
-            Comparison::Equal => {
-                let same = rank(literal);
-                self.at_least(same).at_most(same)
-            }
-            Comparison::NotEqual => self,
+            Comparison::Equal | Comparison::NotEqual => self,
             Comparison::Less => self.at_most(highest_below(literal)),
             Comparison::LessEqual => self.at_most(rank(literal)),
             Comparison::Greater => self.at_least(lowest_above(literal)),
@@ -105,11 +104,36 @@ impl Interval {
         }
     }
 
-    /// Whether a rank is within.
-    #[inline(always)]
-    pub fn admits(self, rank: u64) -> bool
-        ensures { result ≡ admits self rank }
+    /// The part of it where values stand so to the literal, or somewhat more: it may keep values
+    /// that do not, and keeps each that does. An interval of fingerprints is narrowed by `=` alone.
+    #[tactic(auto, unfolding(crate::specs::Keys::key_of))]
+    pub fn narrowed(self, key: Key, comparison: Comparison, literal: &Value) -> Interval
+        ensures { (v : values)
+            → IsWithin key self v
+            → compares comparison v literal.now ≡ true
+            → IsWithin key result v }
     {
-        self.lowest <= rank && rank <= self.highest
+        match comparison {
+            Comparison::Equal => self.only(key.of(literal)),
+            _ => match key {
+                Key::Fingerprint => self,
+                Key::Rank => self.ranked(comparison, literal),
+            },
+        }
+    }
+
+    /// Whether a key is within.
+    #[inline(always)]
+    pub fn admits(self, key: u64) -> bool
+        ensures { result ≡ admits self key }
+    {
+        self.lowest <= key && key <= self.highest
+    }
+
+    /// Whether a value is within, by its key.
+    pub fn has(self, key: Key, value: &Value) -> bool
+        ensures { result ≡ admits self (key_of key value.now) }
+    {
+        self.admits(key.of(value))
     }
 }

@@ -1,17 +1,18 @@
-//! Entries in the order of their ranks.
+//! Entries in the order of their keys.
 ghost use Rattle.std.specs.List.Sorted.{IsNonDecreasingBy};
 ghost use Rattle.index_core.specs.declared.entry.Entry.{Entry as entry};
 
 use crate::entry::Entry;
 use crate::interval::Interval;
+use crate::outside::are_outside;
 use base_core::NoMemory;
 
-/// Entries in the order of their ranks, so that those within an interval are found by binary
+/// Entries in the order of their keys, so that those within an interval are found by binary
 /// search.
 #[derive(Drop)]
 pub struct Run {
     entries: Vec<Entry>,
-    ghost sorted: { IsNonDecreasingBy (λ (e : entry). e.rank) entries.items },
+    ghost sorted: { IsNonDecreasingBy (λ (e : entry). e.key) entries.items },
 }
 
 impl Run {
@@ -23,7 +24,7 @@ impl Run {
     pub fn of(mut entries: Vec<Entry>) -> Result<Run, NoMemory>
         ensures { IfOk result (λ run. IsPermutation entries.items run.entries.items) }
     {
-        entries.sort_by_key(|entry| entry.rank)?;
+        entries.sort_by_key(|entry| entry.key)?;
         Ok(Run { entries })
     }
 
@@ -44,9 +45,15 @@ impl Run {
         ensures { result.now ≡ entries_within interval self.now.entries.items }
     {
         let entries = self.entries.as_slice();
-        let end = entries.partition_point(|entry| entry.rank <= interval.highest);
+        if are_outside(entries, interval) {
+            return &[];
+        }
+        let end = entries.partition_point(|entry| entry.key <= interval.highest);
         let (upto, _) = entries.split_at(end);
-        let start = upto.partition_point(|entry| entry.rank < interval.lowest);
+        if are_outside(upto, interval) {
+            return &[];
+        }
+        let start = upto.partition_point(|entry| entry.key < interval.lowest);
         let (_, within) = upto.split_at(start);
         within
     }

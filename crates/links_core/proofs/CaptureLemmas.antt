@@ -1,5 +1,5 @@
 -- What a step of a capture leaves.
-use Rattle.std.proofs.Common.{◌≡◌, ◌∙◌, ◌⊎◌, inl, inr, ℕ, List, [], ◌∷◌, Result, Ok, Err, take, drop, refl, sym, ap, zero, suc}
+use Rattle.std.proofs.Common.{◌≡◌, ◌∙◌, ◌⊎◌, inl, inr, ℕ, List, [], ◌∷◌, Result, Ok, Err, drop, refl, sym, ap, zero, suc}
 use Rattle.std.specs.Result.{OnOk, OnErr}
 use Rattle.std.specs.Option.{unwrap_or}
 use Rattle.copyup_core.specs.Holding.{Holding, due, unfinished}
@@ -27,15 +27,6 @@ own_dropped : (k : ℕ) (xs : List (ℕ × Link)) → xs ≡ numbered_as (links_
 own_dropped zero xs own = own
 own_dropped (suc k) [] own = refl
 own_dropped (suc k) (x ∷ xs) own = own_dropped k xs (ap (drop 1) own)
-
-take_numbered : (k : ℕ) (xs : List Link) → take k (numbered_as xs) ≡ numbered_as (take k xs)
-take_numbered zero xs = refl
-take_numbered (suc k) [] = refl
-take_numbered (suc k) (x ∷ xs) = ap (λ l. (x.number, x) ∷ l) (take_numbered k xs)
-
--- the links that a step gives are the first that were due
-pub given_is : (k : ℕ) (xs : List (ℕ × Link)) → xs ≡ numbered_as (links_in xs) → take k xs ≡ numbered_as (take k (links_in xs))
-given_is k xs own = ap (take k) own ∙ take_numbered k (links_in xs)
 
 -- **after a step, or none, the links stay, and those due stand under their own numbers**
 pub record IsStepped (old new : Holding Link) : Type 0 where

@@ -3,6 +3,7 @@ use Rattle.std.specs.Prelude.{◌≡◌, ◌<◌, ℕ, Bool, false, not, ◌&&�
 use Rattle.std.specs.List.{AllByRecursion, list_any}
 use Rattle.copyup_core.specs.Holding.{value_at}
 use Rattle.links_core.specs.declared.link.Link.{Link}
+use Rattle.links_core.specs.declared.standing.Standing.{Standing}
 use Rattle.links_core.specs.declared.end.End.{End}
 use Rattle.links_core.specs.Ends.{EndsState}
 use Rattle.links_core.specs.Listed.{numbers, count}
@@ -28,6 +29,10 @@ link_off test l = record l { option = l.option && not (test l) }
 -- whether the user made the link, and one of the ends is that of its number
 abbrev pub is_listed_by : ℕ → List End → Link → Bool
 is_listed_by by ends l = l.grantor == by && list_any (λ e. l.number == e.number) ends
+
+-- its number, and whether it has its option
+abbrev pub standing_of_link : Link → Standing
+standing_of_link l = record { number = l.number; option = l.option }
 
 -- how many of the links are of the privilege
 abbrev pub count_at : ℕ → List Link → ℕ

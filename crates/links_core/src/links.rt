@@ -2,14 +2,15 @@
 ghost use Rattle.std.specs.Prelude.{◌≡◌, ◌<◌, ◌≤◌, ◌+◌, ◌^◌, ◌++◌, ◌&&◌, ◌==◌, nat_lt, [], length, map, min, take, drop, find, OnOk, OnErr, IfOk};
 ghost use Rattle.std.specs.List.{list_any};
 ghost use Rattle.links_core.specs.Lists.{HasItem, TakesOut};
-ghost use Rattle.links_core.specs.Links.{goes_to, comes_from, link_off, count_at, numbered_as, AreNumbered, Rises, AreBelow};
+ghost use Rattle.links_core.specs.Links.{goes_to, comes_from, link_off, count_at, AreNumbered, Rises, AreBelow, standing_of_link};
 
 use crate::held::{any_earlier_option, any_option, first_made_by, first_optioned_by};
 use crate::index::{Index, count_of, ends_at, first_at, take_end};
 use crate::link::Link;
 use crate::options::take_options;
 use crate::rooms::{make_rooms, put};
-use crate::walk::all_of;
+use crate::standing::Standing;
+use crate::walk::{all_of, standings_of};
 use base_core::{Moment, NoMemory};
 use copyup_core::Store;
 use std::alloc::Global;
@@ -186,6 +187,14 @@ impl Links {
         all_of(self.alloc, &self.store)
     }
 
+    /// The standing of each link, in number order. `NoMemory` where their list has no room.
+    pub fn standings(&self) -> Result<Vec<Standing>, NoMemory>
+        ensures { IfOk result
+            (λ standings. standings.items ≡ map standing_of_link self.now.links) }
+    {
+        standings_of(self.alloc, &self.store)
+    }
+
     /// Begins a capture of the links as they are now; an older one is given up. It is constant, but
     /// for that, and takes no memory.
     pub fn begin(&mut self)
@@ -211,19 +220,14 @@ impl Links {
         self.store.abandon();
     }
 
-    /// Appends the next `count` links of the capture to `out`, or all that are left, each under its
-    /// number, and gives how many. With none left it appends none. `NoMemory` where a request for
-    /// memory was refused: then the links and those of `out` are as before.
-    pub fn capture_step(
-        &mut self,
-        out: &mut Vec<(u64, Link)>,
-        count: usize,
-    ) -> Result<usize, NoMemory>
+    /// Appends the next `count` links of the capture to `out`, or all that are left, and gives how
+    /// many. With none left it appends none. `NoMemory` where a request for memory was refused: then
+    /// the links and those of `out` are as before.
+    pub fn capture_step(&mut self, out: &mut Vec<Link>, count: usize) -> Result<usize, NoMemory>
         ensures links { self.new.links ≡ self.old.links }
         ensures next { self.new.next ≡ self.old.next }
         ensures count { IfOk result (λ given. given ≡ min count (length self.old.rest)) }
-        ensures items { OnOk result
-            (out.new.items ≡ out.old.items ++ numbered_as (take count self.old.rest)) }
+        ensures items { OnOk result (out.new.items ≡ out.old.items ++ take count self.old.rest) }
         ensures rest { OnOk result (self.new.rest ≡ drop count self.old.rest) }
         ensures err { OnErr result (self.new ≡ self.old) }
         ensures out_err { OnErr result (out.new.items ≡ out.old.items) }

@@ -75,7 +75,7 @@ pub use laws::{
     cut_end_is_kept, gone_on_is_kept, gone_on_script_is_kept, journal_is_loaded, kept_goes_on,
     lines_load_one_journal, nothing_allowed_is_left_out, script_is_kept, told_is_loaded,
 };
-pub use loader::enter_line;
+pub use loader::{enter_line, line_at};
 pub use loading::{Loaded, load, load_or_text, load_whole, load_whole_or_text};
 pub use manner::{CutLine, Form, Manner};
 pub use replay_text::{dropped_text, left_out_text, replay_fault_text};

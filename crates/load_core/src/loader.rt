@@ -92,8 +92,9 @@ pub fn unmarked(line: &[u8]) -> &[u8]
     }
 }
 
-/// The line as it is read: the first, before which nothing was entered, without its mark.
-fn line_at<'l>(system: &System, line: &'l [u8]) -> &'l [u8]
+/// The line as it is read behind this core's journal: the first, before which nothing was entered, without
+/// the byte order mark at its front.
+pub fn line_at<'l>(system: &System, line: &'l [u8]) -> &'l [u8]
     ensures { result.now ≡ line_at system.now.journal line.now }
 {
     if system.journal().is_empty() {

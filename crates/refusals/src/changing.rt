@@ -11,7 +11,7 @@ use base_core::{
 use grants_core::{Authority, Grant};
 use graph_core::Graph;
 use std::alloc::Global;
-use tables_core::{NumberedRow, Tables, columns_differ};
+use tables_core::{Tables, columns_differ};
 
 fn tell_grant(rt: &HostRuntime, grant: &Grant) -> Option<()> {
     let name = str::from_utf8(grant.grantee.0.as_bytes()).ok()?;
@@ -142,15 +142,11 @@ fn updated(rt: &HostRuntime, tables: &mut Tables, sets: &[Assignment]) -> Option
     tables.update(table, sets, &[]).ok()
 }
 
-/// All rows are captured: the rest of them where memory was refused.
-fn captured(
-    rt: &HostRuntime,
-    tables: &mut Tables,
-    out: &mut Vec<(Name, NumberedRow)>,
-) -> Option<()> {
-    if tables.capture_step(out, 3).is_err() {
-        unchanged(rt, tables.left().saturating_add(out.len()) == 3);
-        tables.capture_step(out, 3).ok()?;
+/// All rows of the table are captured, again where that was refused.
+fn captured(rt: &HostRuntime, tables: &mut Tables, out: &mut Vec<Row>) -> Option<()> {
+    if tables.capture_rows(0, out, 3).is_err() {
+        unchanged(rt, tables.left() == 3 && out.is_empty());
+        tables.capture_rows(0, out, 3).ok()?;
     }
     Some(())
 }
@@ -162,9 +158,16 @@ fn tell_row(rt: &HostRuntime, number: u64, row: &Row) -> Option<()> {
     }
 }
 
-fn tell_rows(rt: &HostRuntime, tables: &Tables, out: &[(Name, NumberedRow)]) -> Option<()> {
-    for (_, row) in out {
-        tell_row(rt, row.0, &row.1)?;
+fn tell_captured(rt: &HostRuntime, row: &Row) -> Option<()> {
+    match row.values.as_slice().first()? {
+        Value::Int(value) => println!(rt; "captured {value}").ok(),
+        Value::Text(_) => None,
+    }
+}
+
+fn tell_rows(rt: &HostRuntime, tables: &Tables, out: &[Row]) -> Option<()> {
+    for row in out {
+        tell_captured(rt, row)?;
     }
     let Some(table) = tables.at(0) else {
         return None;
@@ -190,7 +193,7 @@ fn change(
     rt: &HostRuntime,
     tables: &mut Tables,
     sets: &[Assignment],
-    out: &mut Vec<(Name, NumberedRow)>,
+    out: &mut Vec<Row>,
 ) -> Option<()> {
     updated(rt, tables, sets)?;
     captured(rt, tables, out)?;

@@ -46,12 +46,15 @@ fn tell_replaced(rt: &HostRuntime, store: &mut Store<Value>, item: i64) -> Optio
     }
 }
 
+fn tell_captured(rt: &HostRuntime, item: &Value) -> Option<()> {
+    match item {
+        Value::Int(item) => println!(rt; "captured {item}").ok(),
+        Value::Text(_) => None,
+    }
+}
+
 /// Captures one item more, and writes it and how many are left.
-fn tell_step(
-    rt: &HostRuntime,
-    store: &mut Store<Value>,
-    out: &mut Vec<(u64, Value)>,
-) -> Option<()> {
+fn tell_step(rt: &HostRuntime, store: &mut Store<Value>, out: &mut Vec<Value>) -> Option<()> {
     if !store.active() {
         return None;
     }
@@ -60,12 +63,11 @@ fn tell_step(
         unchanged(rt, store.left() == left && out.len() == taken);
         store.capture_step(out, 1).ok()?;
     }
-    let (number, item) = out.last()?;
-    tell_item(rt, *number, item)?;
+    tell_captured(rt, out.last()?)?;
     println!(rt; "left {}", store.left()).ok()
 }
 
-fn tell_all(rt: &HostRuntime, store: &mut Store<Value>, out: &mut Vec<(u64, Value)>) -> Option<()> {
+fn tell_all(rt: &HostRuntime, store: &mut Store<Value>, out: &mut Vec<Value>) -> Option<()> {
     tell_pushed(rt, store, 1)?;
     tell_pushed(rt, store, 2)?;
     if store.active() {

@@ -9,7 +9,7 @@ use Rattle.reader_core.specs.declared.statement.Statement.{Statement}
 use Rattle.reader_core.specs.declared.statement.Statement.TheVariants as statements
 use Rattle.lines_core.specs.declared.line.TheConstants.{LONGEST_LINE}
 use Rattle.tables_core.specs.Contents.{Table}
-use Rattle.grants_core.specs.declared.grant.Grant.{Grant}
+use Rattle.links_core.specs.declared.standing.Standing.{Standing}
 use Rattle.grants_core.proofs.NumberLemmas.{IsNumbered-in_force}
 use Rattle.monitor_core.specs.Verdict.{is_change}
 use Rattle.system_core.specs.Journal.{changes, rights_at, tables_after, tables_at, verdict_at}
@@ -26,7 +26,7 @@ use Rattle.load_core.specs.Loader.{line_at}
 use Rattle.load_core.specs.Loading.{IsUndone, IsUndoneEntry, SaysEntry}
 use Rattle.stream_core.specs.declared.effect.Effect.{Effect}
 use Rattle.stream_core.specs.Effects.{AreEffectsOf}
-use Rattle.stream_core.specs.Losses.{IsReducedTo, is_revoking}
+use Rattle.stream_core.specs.Losses.{is_revoking}
 use Rattle.stream_core.specs.Streamer.{EntersTelling, IsCurrent, IsUntold, StreamerState, TellsEntry, TellsLine, TellsLosses, told_world}
 use Rattle.stream_core.specs.Streams.{contents_at, stream_text}
 use Rattle.stream_core.proofs.Rights.{in_force-left}
@@ -67,7 +67,7 @@ pub in_force-rises : (journal : List Entry) → AllPairs (λ earlier later. earl
 in_force-rises journal = (IsNumbered-in_force (changes journal)).rising
 
 -- ---- a streamer that has not stopped, by its fields
-module _ (untold : Bool) (grants : List Grant) (w : World) (stop : Option Undone) (from : ℕ) (old : StreamerState) where
+module _ (untold : Bool) (standings : List Standing) (w : World) (stop : Option Undone) (from : ℕ) (old : StreamerState) where
   -- what is seen of these fields, once the rest has become this
   abbrev pub seen : Bool → World → Option Undone → StreamerState
   seen u k o = record { world = told_world u k; stop = o; from = from }
@@ -75,11 +75,11 @@ module _ (untold : Bool) (grants : List Grant) (w : World) (stop : Option Undone
   abbrev standing : World → Option Undone → StreamerState
   standing k o = record { world = k; stop = o; from = from }
 
-  module _ (view_is : seen untold w stop ≡ old) (going : old.stop ≡ None) (invariant : stop ≡ None → IsCurrent untold grants w) where
+  module _ (view_is : seen untold w stop ≡ old) (going : old.stop ≡ None) (invariant : stop ≡ None → IsCurrent untold standings w) where
     no_stop : stop ≡ None
     no_stop = ap (λ (s : StreamerState). s.stop) view_is ∙ going
 
-    pub current : IsCurrent untold grants w
+    pub current : IsCurrent untold standings w
     current = invariant no_stop
 
     shown : (k : World) (o : Option Undone) → seen untold k o ≡ standing k o
@@ -115,24 +115,16 @@ module _ (untold : Bool) (grants : List Grant) (w : World) (stop : Option Undone
     refused-here e new at reply o change allowed now is carried stops =
         stopped-here e (reasons.Answer reply) new o (refused_memory w new e at reply change allowed now is carried) carried.3 stops
 
-    -- what a revocation left
-    pub left-now : (e : Entry) (new : World) (before : List Grant) → before ≡ grants → is_revoking e.statement ≡ true → new ≡ with_entry w e → IsReducedTo before (rights_at new.journal).in_force
-    left-now e new before same takes is =
-        subst (λ gs. IsReducedTo gs (rights_at new.journal).in_force) (sym (same ∙ current.in_force))
-        (subst (λ (k : World). IsReducedTo (rights_at w.journal).in_force (rights_at k.journal).in_force) (sym is) (in_force-left w.journal e takes))
-
-    pub rises-before : (before : List Grant) → before ≡ grants → AllPairs (λ earlier later. earlier.number < later.number) before
-    rises-before before same = subst (λ gs. AllPairs (λ earlier later. earlier.number < later.number) gs) (sym (same ∙ current.in_force)) (in_force-rises w.journal)
-
     -- what a revocation took is what it did
-    pub tells-losses : (e : Entry) (new : World) (before : List Grant) (text : List ℕ) → before ≡ grants → is_revoking e.statement ≡ true → new ≡ with_entry w e → TellsLosses from new.journal before text → TellsEntry from w.journal e text
+    pub tells-losses : (e : Entry) (new : World) (before : List Standing) (text : List ℕ) → before ≡ standings → is_revoking e.statement ≡ true → new ≡ with_entry w e → TellsLosses from new.journal before text → TellsEntry from w.journal e text
     tells-losses e new before text same takes is told =
         let later : List Entry = w.journal ++ e ∷ [] in
-        let here : TellsLosses from later (rights_at w.journal).in_force text = subst (λ gs. TellsLosses from later gs text) (same ∙ current.in_force) (subst (λ (k : World). TellsLosses from k.journal before text) is told) in
+        let here : TellsLosses from later before text = subst (λ (k : World). TellsLosses from k.journal before text) is told in
         let long : length later ≡ length w.journal + 1 = length-append w.journal (e ∷ []) in
+        let took = here.are (tables_at w.journal) (rights_at w.journal).in_force (rights_at later).in_force (same ∙ current.in_force) refl (in_force-left w.journal e takes) (in_force-rises w.journal) in
         record {
           all = here.all;
-          are = subst (λ ts. AreEffectsOf (contents_at w.journal) (record { tables = ts; grants = (rights_at later).in_force }) here.all) (sym (tables-kept w.journal e takes)) (here.are (tables_at w.journal));
+          are = subst (λ ts. AreEffectsOf (contents_at w.journal) (record { tables = ts; grants = (rights_at later).in_force }) here.all) (sym (tables-kept w.journal e takes)) took;
           text_is = here.text_is ∙ ap (told_of from here.all) long;
         }
 

@@ -6,6 +6,8 @@ use Rattle.base_core.specs.declared.name.Name.{Name}
 use Rattle.tables_core.specs.Contents.{Table}
 use Rattle.grants_core.specs.declared.grant.Grant.{Grant}
 use Rattle.grants_core.specs.Content.{option_off}
+use Rattle.links_core.specs.declared.standing.Standing.{Standing}
+use Rattle.graph_core.specs.Indices.{standing_of}
 use Rattle.grants_core.proofs.OptionLemmas.{option_kept, options_kept}
 use Rattle.stream_core.specs.declared.effect.Effect.{Effect}
 use Rattle.stream_core.specs.declared.effect.Effect.TheVariants as effects
@@ -77,14 +79,18 @@ unoption-first g gs h =
     ∙ ap (λ b. record g { option = b } ∷ map (option_off (has_number g.number)) gs) (and_not g.option)
     ∙ ap (λ k. record g { option = false } ∷ k) (options_kept (has_number g.number) gs (none-numbered g.number gs h))
 
--- ---- the losses between two lists, of which the second is left of the first
-abbrev pub losses_of : List Grant → List Grant → List Loss
+-- ---- the losses between two lists of standings, of which the second is left of the first
+abbrev pub losses_of : List Standing → List Standing → List Loss
 losses_of [] after = []
 losses_of (g ∷ before) [] = fell g.number ∷ losses_of before []
 losses_of (g ∷ before) (h ∷ after) =
     cond (eqb h.number g.number)
     (cond (g.option && not h.option) (unoption g.number ∷ losses_of before after) (losses_of before after))
     (fell g.number ∷ losses_of before (h ∷ after))
+
+-- the losses between grants
+abbrev pub grant_losses : List Grant → List Grant → List Loss
+grant_losses before after = losses_of (map standing_of before) (map standing_of after)
 
 -- the numbers of the grants rise
 abbrev pub Rising : List Grant → Type 0
@@ -97,41 +103,41 @@ left-later n _ _ (unoptioned {g = g} {before = before} {after = after} rest) h =
 left-later n _ after (falls {g = g} {before = before} rest) h = left-later n before after rest h.1
 
 -- the first grant falls where the others are all that is left
-falls-first : (g : Grant) (before after : List Grant) → AllByRecursion (λ h. g.number < h.number) after → losses_of (g ∷ before) after ≡ fell g.number ∷ losses_of before after
+falls-first : (g : Grant) (before after : List Grant) → AllByRecursion (λ h. g.number < h.number) after → grant_losses (g ∷ before) after ≡ fell g.number ∷ grant_losses before after
 falls-first g before [] h = refl
 falls-first g before (k ∷ after) h =
-    ap (λ b. cond b (cond (g.option && not k.option) (unoption g.number ∷ losses_of before after) (losses_of before after)) (fell g.number ∷ losses_of before (k ∷ after)))
+    ap (λ b. cond b (cond (g.option && not k.option) (unoption g.number ∷ grant_losses before after) (grant_losses before after)) (fell g.number ∷ grant_losses before (k ∷ after)))
     (ne_eqb k.number g.number (λ q. let lt = h.0 in absurd (omega arith)))
 
 not_both : (b : Bool) → (b && not b) ≡ false
 not_both true = refl
 not_both false = refl
 
-stays-first : (g : Grant) (before after : List Grant) → losses_of (g ∷ before) (g ∷ after) ≡ losses_of before after
+stays-first : (g : Grant) (before after : List Grant) → grant_losses (g ∷ before) (g ∷ after) ≡ grant_losses before after
 stays-first g before after =
-    ap (λ b. cond b (cond (g.option && not g.option) (unoption g.number ∷ losses_of before after) (losses_of before after)) (fell g.number ∷ losses_of before (g ∷ after))) (own g)
-    ∙ ap (λ b. cond b (unoption g.number ∷ losses_of before after) (losses_of before after)) (not_both g.option)
+    ap (λ b. cond b (cond (g.option && not g.option) (unoption g.number ∷ grant_losses before after) (grant_losses before after)) (fell g.number ∷ grant_losses before (g ∷ after))) (own g)
+    ∙ ap (λ b. cond b (unoption g.number ∷ grant_losses before after) (grant_losses before after)) (not_both g.option)
 
 abbrev without_option : Grant → Grant
 without_option g = record g { option = false }
 
-loses-first : (g : Grant) (before after : List Grant) → losses_of (g ∷ before) (without_option g ∷ after) ≡ cond g.option (unoption g.number ∷ losses_of before after) (losses_of before after)
+loses-first : (g : Grant) (before after : List Grant) → grant_losses (g ∷ before) (without_option g ∷ after) ≡ cond g.option (unoption g.number ∷ grant_losses before after) (grant_losses before after)
 loses-first g before after =
-    ap (λ b. cond b (cond (g.option && true) (unoption g.number ∷ losses_of before after) (losses_of before after)) (fell g.number ∷ losses_of before (without_option g ∷ after))) (own g)
+    ap (λ b. cond b (cond (g.option && true) (unoption g.number ∷ grant_losses before after) (grant_losses before after)) (fell g.number ∷ grant_losses before (without_option g ∷ after))) (own g)
     ∙ by g.option
   where
-    by : (b : Bool) → cond (b && true) (unoption g.number ∷ losses_of before after) (losses_of before after) ≡ cond b (unoption g.number ∷ losses_of before after) (losses_of before after)
+    by : (b : Bool) → cond (b && true) (unoption g.number ∷ grant_losses before after) (grant_losses before after) ≡ cond b (unoption g.number ∷ grant_losses before after) (grant_losses before after)
     by true = refl
     by false = refl
 
 -- losses are of grants that were there
-later-losses : (n : ℕ) (before after : List Grant) → AllByRecursion (λ g. n < g.number) before → AllByRecursion (λ loss. n < loss.1) (losses_of before after)
+later-losses : (n : ℕ) (before after : List Grant) → AllByRecursion (λ g. n < g.number) before → AllByRecursion (λ loss. n < loss.1) (grant_losses before after)
 later-losses n [] after h = tt
 later-losses n (g ∷ before) [] h = (h.0, later-losses n before [] h.1)
 later-losses n (g ∷ before) (k ∷ after) h = by (eqb k.number g.number) (g.option && not k.option) (later-losses n before after h.1) (later-losses n before (k ∷ after) h.1)
   where
-    by : (same taken : Bool) → AllByRecursion (λ (loss : Loss). n < loss.1) (losses_of before after) → AllByRecursion (λ (loss : Loss). n < loss.1) (losses_of before (k ∷ after))
-        → AllByRecursion (λ (loss : Loss). n < loss.1) (cond same (cond taken (unoption g.number ∷ losses_of before after) (losses_of before after)) (fell g.number ∷ losses_of before (k ∷ after)))
+    by : (same taken : Bool) → AllByRecursion (λ (loss : Loss). n < loss.1) (grant_losses before after) → AllByRecursion (λ (loss : Loss). n < loss.1) (grant_losses before (k ∷ after))
+        → AllByRecursion (λ (loss : Loss). n < loss.1) (cond same (cond taken (unoption g.number ∷ grant_losses before after) (grant_losses before after)) (fell g.number ∷ grant_losses before (k ∷ after)))
     by true true later more = (h.0, later)
     by true false later more = later
     by false taken later more = (h.0, more)
@@ -168,14 +174,14 @@ had-option g gs had same =
     let none : false ≡ g.option = ap (head_option true) same in
     both_ways g.option (sym none) had
 
-pub told : (before after : List Grant) → IsReducedTo before after → Rising before → Tells before after (losses_of before after)
+pub told : (before after : List Grant) → IsReducedTo before after → Rising before → Tells before after (grant_losses before after)
 told _ _ nothing up = record { leads = refl; up = tt; each = tt }
 told _ _ (stays {g = g} {before = before} {after = after} rest) up =
-    let xs = losses_of before after in
+    let xs = grant_losses before after in
     subst (Tells (g ∷ before) (g ∷ after)) (sym (stays-first g before after))
     (told-behind g before after xs (later-losses g.number before after up.0) (told before after rest up.1))
 told _ after (falls {g = g} {before = before} rest) up =
-    let xs = losses_of before after in
+    let xs = grant_losses before after in
     let t = told before after rest up.1 in
     let first = fell-first g before up.0 in
     subst (Tells (g ∷ before) after) (sym (falls-first g before after (left-later g.number before after rest up.0)))
@@ -187,13 +193,13 @@ told _ after (falls {g = g} {before = before} rest) up =
 told _ _ (unoptioned {g = g} {before = before} {after = after} rest) up =
     subst (Tells (g ∷ before) (without_option g ∷ after)) (sym (loses-first g before after)) (by g.option refl (told before after rest up.1))
   where
-    above : AllByRecursion (λ (loss : Loss). g.number < loss.1) (losses_of before after)
+    above : AllByRecursion (λ (loss : Loss). g.number < loss.1) (grant_losses before after)
     above = later-losses g.number before after up.0
 
-    by : (b : Bool) → g.option ≡ b → Tells before after (losses_of before after)
-        → Tells (g ∷ before) (without_option g ∷ after) (cond b (unoption g.number ∷ losses_of before after) (losses_of before after))
+    by : (b : Bool) → g.option ≡ b → Tells before after (grant_losses before after)
+        → Tells (g ∷ before) (without_option g ∷ after) (cond b (unoption g.number ∷ grant_losses before after) (grant_losses before after))
     by true had t =
-        let all = losses_of before after in
+        let all = grant_losses before after in
         let first = unoption-first g before up.0 in
         let behind = told-behind (without_option g) before after all above t in
         record {
@@ -202,7 +208,7 @@ told _ _ (unoptioned {g = g} {before = before} {after = after} rest) up =
           each = ((λ same. had-option g before had (sym first ∙ same)), subst (λ gs. Lose gs all) (sym first) behind.each);
         }
     by false none t =
-        let all = losses_of before after in
+        let all = grant_losses before after in
         let same : g ≡ without_option g = ap (λ b. record g { option = b }) none in
         subst (λ (k : Grant). Tells (g ∷ before) (k ∷ after) all) same (told-behind g before after all above t)
 
@@ -233,10 +239,10 @@ module _ (tables : List (Name × Table)) where
   before_by_number (false, n) (false, m) lt = lt
 
   -- **the losses are the difference**
-  pub AreEffectsOf-losses : (before after : List Grant) → IsReducedTo before after → Rising before → AreEffectsOf (holding before) (holding after) (map effect_of (losses_of before after))
+  pub AreEffectsOf-losses : (before after : List Grant) → IsReducedTo before after → Rising before → AreEffectsOf (holding before) (holding after) (map effect_of (grant_losses before after))
   AreEffectsOf-losses before after left up =
       let t = told before after left up in
-      let xs = losses_of before after in
+      let xs = grant_losses before after in
       record {
         leads = leads-on before xs ∙ ap holding t.leads;
         rises = rises-up number_of effect_of before_by_number xs t.up;

@@ -1,11 +1,10 @@
 -- A streamer: what it has come to, and how it goes on by a line.
-use Rattle.std.specs.Prelude.{◌≡◌, ◌+◌, ◌-◌, ◌<◌, ℕ, Bool, true, false, List, [], ◌∷◌, ◌++◌, length, take, Option, Some, None, Ok}
+use Rattle.std.specs.Prelude.{◌≡◌, ◌+◌, ◌-◌, ◌<◌, ℕ, Bool, true, false, List, [], ◌∷◌, ◌++◌, length, map, take, Option, Some, None, Ok}
 use Rattle.std.specs.Option.{is_some, option_map}
 use Rattle.std.proofs.Common.{Vec, Global, subst, sym, refl}
 use Rattle.lines_core.specs.declared.line.TheConstants.{LONGEST_LINE}
-use Rattle.base_core.specs.declared.name.Name.{Name}
-use Rattle.tables_core.specs.Contents.{Table}
-use Rattle.grants_core.specs.declared.grant.Grant.{Grant}
+use Rattle.links_core.specs.declared.standing.Standing.{Standing}
+use Rattle.graph_core.specs.Indices.{standing_of}
 use Rattle.monitor_core.specs.Verdict.{is_change}
 use Rattle.system_core.specs.Journal.{rights_at, verdict_at}
 use Rattle.system_core.specs.World.{World, with_entry}
@@ -16,6 +15,7 @@ use Rattle.load_core.specs.Loading.{IsUndone, IsUndoneEntry, SaysChange}
 use Rattle.load_core.specs.Loader.{line_at, says-too_long, undone-too_long, unmarked-too_long}
 use Rattle.stream_core.specs.declared.effect.Effect.{Effect}
 use Rattle.stream_core.specs.Effects.{AreEffectsOf}
+use Rattle.stream_core.specs.Losses.{AreLossesOf}
 use Rattle.stream_core.specs.Streams.{contents_at, stream_text}
 
 -- the world whose changes were told, why it stopped, if it did, and up to which moment nothing is told
@@ -29,10 +29,10 @@ abbrev pub told_world : Bool → World → World
 told_world false w = w
 told_world true w = record w { journal = take (length w.journal - 1) w.journal }
 
--- what is kept of the core: its changes are told, and these are the grants in force
-pub record IsCurrent (untold : Bool) (grants : List Grant) (w : World) : Type 0 where
+-- what is kept of the core: its changes are told, and these are the standings of the grants in force
+pub record IsCurrent (untold : Bool) (standings : List Standing) (w : World) : Type 0 where
   pub told : untold ≡ false
-  pub in_force : grants ≡ (rights_at w.journal).in_force
+  pub in_force : standings ≡ map standing_of (rights_at w.journal).in_force
 
 -- the text tells what the entry does behind a journal, unless it is of a moment up to this one
 pub record TellsEntry (from : ℕ) (journal : List Entry) (e : Entry) (text : List ℕ) : Type 0 where
@@ -40,14 +40,12 @@ pub record TellsEntry (from : ℕ) (journal : List Entry) (e : Entry) (text : Li
   pub are : AreEffectsOf (contents_at journal) (contents_at (journal ++ e ∷ [])) all
   pub text_is : text ≡ stream_text from (record { moment = length journal + 1; all = all } ∷ [])
 
--- the text tells what the last entry of a journal took of the grants in force before it, unless it is of a
--- moment up to this one
-pub record TellsLosses (from : ℕ) (journal : List Entry) (before : List Grant) (text : List ℕ)
+-- the text tells what the last entry of a journal took of grants in force before it, of which these are the
+-- standings, unless it is of a moment up to this one
+pub record TellsLosses (from : ℕ) (journal : List Entry) (before : List Standing) (text : List ℕ)
     : Type 0 where
   pub all : List Effect
-  pub are : (tables : List (Name × Table))
-      → AreEffectsOf (record { tables = tables; grants = before })
-      (record { tables = tables; grants = (rights_at journal).in_force }) all
+  pub are : AreLossesOf before (map standing_of (rights_at journal).in_force) all
   pub text_is : text ≡ stream_text from (record { moment = length journal; all = all } ∷ [])
 
 -- why an entry is not told: it is no change that is done, or memory ran out

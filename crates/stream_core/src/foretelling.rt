@@ -1,6 +1,7 @@
 //! The effects of a change that is no revocation, made before it is carried out.
 ghost use Rattle.std.specs.Prelude.{◌≡◌, ◌+◌, ◌++◌, ◌∷◌, [], true, false, length, map, IfOk, Ok};
 ghost use Rattle.grants_core.specs.History.{grants_of};
+ghost use Rattle.graph_core.specs.Indices.{standing_of};
 ghost use Rattle.monitor_core.specs.Verdict.{is_change};
 ghost use Rattle.system_core.specs.Journal.{change_of, rights_at, tables_at, verdict_at};
 ghost use Rattle.stream_core.specs.Effects.{AreEffectsOf};
@@ -11,6 +12,7 @@ use crate::effect::Effect;
 use crate::rows::{deleted, inserted, one, updated};
 use base_core::{Column, Name, NoMemory, Sequence, User};
 use grants_core::Grant;
+use links_core::Standing;
 use reader_core::Statement;
 use std::alloc::Global;
 use system_core::{Entry, System};
@@ -43,6 +45,20 @@ fn granted(alloc: Global, grants: &[Grant]) -> Result<Vec<Effect>, NoMemory>
     let mut all = Vec::new(alloc);
     for grant in grants {
         all.push(Effect::GrantMade(*grant))?;
+    }
+    Ok(all)
+}
+
+/// The standing of each of the grants.
+pub fn standings_of(alloc: Global, grants: &[Grant]) -> Result<Vec<Standing>, NoMemory>
+    ensures { IfOk result (λ all. all.items ≡ map standing_of grants.now) }
+{
+    let mut all = Vec::new(alloc);
+    for grant in grants {
+        all.push(Standing {
+            number: grant.number,
+            option: grant.option,
+        })?;
     }
     Ok(all)
 }

@@ -28,15 +28,16 @@
 //! A `Streamer` is a server of lines, to which `lines_core` gives one after another. It makes the effects of a change
 //! that is no revocation, and their records, before the core carries it out: the head of a table, the number that a
 //! row will have, the rows that a filter chooses, the grants that a GRANT will make. So where memory runs out, nothing
-//! was changed and nothing is told. What a revocation takes is seen behind it, by the grants in force before and after:
-//! both are lists in rising numbers, of which the second is left of the first.
+//! was changed and nothing is told. What a revocation takes is seen behind it, by the standings of the grants in force
+//! before and after, their numbers and options: both are lists in rising numbers, of which the second is left of the
+//! first.
 //!
 //! # Cost
 //!
 //! A change costs what it costs in the core, and its records. A DELETE and an UPDATE look for their rows twice, by an
 //! index where one is kept, else by a walk over the table. A revocation goes over all grants in force, and makes a new
-//! list of them. The memory is that of the core, of one piece of 65,536 bytes, of the grants in force, and of the
-//! effects of one change and their text.
+//! list of 16 bytes for each. The memory is that of the core, of one piece of 65,536 bytes, of twice these lists, and
+//! of the effects of one change and their text; beside it a writer of records, with up to 65,536 bytes of earlier ones.
 #![tactic(auto)]
 
 mod cell;

@@ -1,31 +1,28 @@
 //! A core that tells what the changes do which lines say, up to the first line that says none.
-ghost use Rattle.std.specs.Prelude.{◌≡◌, ◌+◌, ◌<◌, ◌^◌, ◌++◌, ◌∷◌, [], true, false, length, AllPairs, None, Ok, Some, IfOk, IfNone, IfSome};
+ghost use Rattle.std.specs.Prelude.{◌≡◌, ◌+◌, ◌<◌, ◌^◌, ◌++◌, ◌∷◌, [], true, false, length, map, None, Ok, Some, IfOk, IfNone, IfSome};
+ghost use Rattle.graph_core.specs.Indices.{standing_of};
 ghost use Rattle.monitor_core.specs.Verdict.{is_change};
 ghost use Rattle.system_core.specs.Journal.{rights_at, verdict_at};
-ghost use Rattle.stream_core.specs.Losses.{IsReducedTo, is_revoking};
+ghost use Rattle.stream_core.specs.Losses.{is_revoking};
 ghost use Rattle.stream_core.specs.Streams.{stream_text};
 ghost use Rattle.stream_core.specs.Streamer.{EntersTelling, TellsEntry, TellsLine, TellsLosses, stopped_at};
 ghost use Rattle.load_core.specs.Loader.{line_at};
-ghost use Rattle.load_core.specs.Loading.{unmarked};
 
 use crate::effect::Effect;
-use crate::foretelling::{foretold, is_revoking};
+use crate::foretelling::{foretold, is_revoking, standings_of};
 use crate::losses::losses;
 use crate::records::Records;
 use base_core::{Broken, NoMemory, Sink, write_all};
-use grants_core::Grant;
 use lexer_core::{ReadFault, Token};
 use lines_core::{LONGEST_LINE, LineServer};
-use load_core::Undone;
+use links_core::Standing;
+use load_core::{Undone, line_at};
 use monitor_core::is_change;
 use script_core::read_addressed;
 use std::alloc::Global;
 use std::marker::Model;
 use std::mem;
 use system_core::{Entry, Reply, System};
-
-/// U+FEFF in UTF-8.
-const BYTE_ORDER_MARK: [u8; 3] = [0xEF, 0xBB, 0xBF];
 
 /// Contracts see the world whose changes were told, why it stopped, if it did, and up to which moment
 /// nothing is told.
@@ -34,8 +31,8 @@ pub struct Streamer {
     alloc: Global,
     tokens: Vec<Token>,
     system: System,
-    /// The grants in force.
-    grants: Vec<Grant>,
+    /// Of the grants in force.
+    standings: Vec<Standing>,
     from: u64,
     records: Records,
     /// Whether the last change was carried out, and could not be told for want of memory.
@@ -55,7 +52,7 @@ impl Model for Streamer {
       from = s.from;
     } };
 
-    ghost invariant = { λ s. s.stop ≡ None → IsCurrent s.untold s.grants.items s.system };
+    ghost invariant = { λ s. s.stop ≡ None → IsCurrent s.untold s.standings.items s.system };
 }
 
 /// The records of the effects of a moment, unless it is one up to the given one.
@@ -76,74 +73,52 @@ fn told_text(
     }
 }
 
-/// The records of what an allowed change would do that is no revocation, and the grants that it would make.
+/// The records of what an allowed change would do that is no revocation, and the standings of the grants
+/// that it would make.
 fn foretold_text(
     alloc: Global,
     records: &mut Records,
     from: u64,
     system: &System,
     entry: &Entry,
-) -> Result<(Vec<Grant>, Vec<u8>), NoMemory>
+) -> Result<(Vec<Standing>, Vec<u8>), NoMemory>
     requires allowed { let asked = entry.now.statement in
         verdict_at system.now.limits system.now.journal entry.now.user asked ≡ Ok tt }
     requires change { is_change entry.now.statement ≡ true }
     requires gives { is_revoking entry.now.statement ≡ false }
     ensures text { IfOk result
         (λ told. TellsEntry from system.now.journal entry.now told.1.items) }
-    ensures grants { let after = system.now.journal ++ entry.now ∷ [] in
-        IfOk result (λ told. (rights_at after).in_force
-        ≡ (rights_at system.now.journal).in_force ++ told.0.items) }
+    ensures standings { let after = system.now.journal ++ entry.now ∷ [] in
+        IfOk result (λ told. map standing_of (rights_at after).in_force
+        ≡ map standing_of (rights_at system.now.journal).in_force ++ told.0.items) }
 {
     let moment = system.journal().len() as u64 + 1;
     let grants = system.grants_of(entry)?;
     let effects = foretold(alloc, system, entry, &grants)?;
     let text = told_text(alloc, records, from, moment, &effects)?;
-    Ok((grants, text))
+    let standings = standings_of(alloc, &grants)?;
+    Ok((standings, text))
 }
 
-/// The records of what a revocation took, which was the last change, and the grants in force now; these
-/// were in force before it.
+/// The records of what a revocation took, which was the last change, and the standings of the grants in
+/// force now; these were those before it.
 fn losses_text(
     alloc: Global,
     records: &mut Records,
     from: u64,
     system: &System,
-    before: &[Grant],
-) -> Result<(Vec<Grant>, Vec<u8>), NoMemory>
-    requires left { IsReducedTo before.now (rights_at system.now.journal).in_force }
-    requires rising { AllPairs (λ earlier later. earlier.number < later.number) before.now }
+    before: &[Standing],
+) -> Result<(Vec<Standing>, Vec<u8>), NoMemory>
     ensures text { IfOk result
         (λ told. TellsLosses from system.now.journal before.now told.1.items) }
-    ensures grants { IfOk result
-        (λ told. told.0.items ≡ (rights_at system.now.journal).in_force) }
+    ensures standings { IfOk result (λ told. told.0.items
+        ≡ map standing_of (rights_at system.now.journal).in_force) }
 {
     let moment = system.journal().len() as u64;
-    let after = system.in_force()?;
+    let after = system.standings()?;
     let effects = losses(alloc, before, &after)?;
     let text = told_text(alloc, records, from, moment, &effects)?;
     Ok((after, text))
-}
-
-/// The line without the byte order mark at its front. One that is too long keeps it.
-fn unmarked(line: &[u8]) -> &[u8]
-    ensures { result.now ≡ unmarked line.now }
-{
-    if line.len() <= LONGEST_LINE && line.starts_with(&BYTE_ORDER_MARK) {
-        &line[3..]
-    } else {
-        line
-    }
-}
-
-/// The line as it is read: the first, before which nothing was entered, without its mark.
-fn line_at<'l>(system: &System, line: &'l [u8]) -> &'l [u8]
-    ensures { result.now ≡ line_at system.now.journal line.now }
-{
-    if system.journal().is_empty() {
-        unmarked(line)
-    } else {
-        line
-    }
 }
 
 /// Stops for this reason.
@@ -163,7 +138,7 @@ impl Streamer {
             alloc,
             tokens: Vec::new(alloc),
             system,
-            grants: Vec::new(alloc),
+            standings: Vec::new(alloc),
             from,
             records: Records::new(alloc),
             untold: false,
@@ -180,7 +155,7 @@ impl Streamer {
         requires gives { is_revoking entry.statement ≡ false }
         ensures { EntersTelling self.old entry result self.new }
     {
-        let Ok((grants, text)) = foretold_text(
+        let Ok((standings, text)) = foretold_text(
             self.alloc,
             &mut self.records,
             self.from,
@@ -191,7 +166,7 @@ impl Streamer {
             stop_for(&mut self.stop, Undone::Unread);
             return None;
         };
-        if self.grants.extend_from_slice(&grants).is_err() {
+        if self.standings.extend_from_slice(&standings).is_err() {
             drop(entry);
             stop_for(&mut self.stop, Undone::Unread);
             return None;
@@ -229,10 +204,10 @@ impl Streamer {
             &mut self.records,
             self.from,
             &self.system,
-            &self.grants,
+            &self.standings,
         ) {
-            Ok((grants, text)) => {
-                self.grants = grants;
+            Ok((standings, text)) => {
+                self.standings = standings;
                 Some(text)
             }
             Err(NoMemory) => {
@@ -301,7 +276,7 @@ impl Streamer {
         let Streamer {
             tokens,
             system,
-            grants,
+            standings,
             records,
             untold,
             stop,
@@ -310,7 +285,7 @@ impl Streamer {
         let told = system.moment().0.saturating_sub(untold as u64);
         system.free();
         drop(tokens);
-        drop(grants);
+        drop(standings);
         drop(records);
         let why = stop?;
         Some((told + 1, why))

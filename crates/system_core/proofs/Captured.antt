@@ -78,11 +78,11 @@ module _ (accepted : LedgerState) (e : Entry) where
         coming = record {
           number = a.number;
           point = a.point;
-          tables = completed hs a.filled (a.waiting ++ accepted.rows_due);
+          tables = completed hs a.filled accepted.rows_due;
           grants = a.grants ++ accepted.grants_due;
         };
       }) in
-      ap by (heads-entered a.count h.0)
+      ap by (heads-entered (length accepted.rows_due) h.0)
 
   pub checkpointing-entered : (c : Capturing) → CanGoOn c.active (database_of accepted) accepted.grants_due → checkpointing c (entered accepted e) ≡ checkpointing c accepted
   checkpointing-entered c h = ap (λ (o : Option InProgress). record { begun = c.begun; active = o }) (same-progress c.active h)
@@ -94,6 +94,7 @@ module _ (accepted : LedgerState) (e : Entry) where
     omega (arith, h.0, more-after (tables_at accepted.journal) e.user e.statement, ap length (contents-more accepted.journal e)),
     h.1,
     h.2,
+    h.3,
   )
 
 -- **after one more entry the system stands**
@@ -115,7 +116,7 @@ as_active-in_progress None d due = refl
 as_active-in_progress (Some a) d due = refl
 
 -- what is due changes nothing of the checkpoints
-pub keeps-due : (chunk : ℕ) (accepted : LedgerState) (rows : List (Name × (ℕ × Row))) (grants : List Grant) (c : Checkpointing) (images : List Image)
+pub keeps-due : (chunk : ℕ) (accepted : LedgerState) (rows : List (List Row)) (grants : List Grant) (c : Checkpointing) (images : List Image)
     → KeepsCheckpoints chunk accepted c images → KeepsCheckpoints chunk (record accepted { rows_due = rows; grants_due = grants }) c images
 keeps-due chunk accepted rows grants c images h = record {
   some = h.some;

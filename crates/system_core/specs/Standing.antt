@@ -54,7 +54,7 @@ pub record IsSoundJournal (limits : Limits) (journal : List Entry) : Type 0 wher
 pub record LedgerState : Type 0 where
   pub journal : List Entry
   pub limits : Limits
-  pub rows_due : List (Name × (ℕ × Row))
+  pub rows_due : List (List Row)
   pub grants_due : List Grant
 
 -- what a ledger keeps

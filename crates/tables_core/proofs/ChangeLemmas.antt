@@ -1,6 +1,5 @@
 -- What a change to one table, and a new table, make of all of them.
-use Rattle.std.proofs.Common.{◌≡◌, ◌≤◌, ◌+◌, ◌%◌, ◌^◌, ℕ, List, [], ◌∷◌, ◌++◌, Option, Some, None, length, map, drop, refl, sym, ap, subst, ◌∙◌, arith, append-nil, length-append}
-use Rattle.std.specs.List.{flat_map}
+use Rattle.std.proofs.Common.{◌≡◌, ◌≤◌, ◌+◌, ◌%◌, ◌^◌, ℕ, List, [], ◌∷◌, ◌++◌, Option, Some, None, length, map, sum_by, refl, sym, ap, subst, ◌∙◌, arith, append-nil, length-append}
 use Rattle.std.specs.Map.{lookup, set_value}
 use Rattle.std.proofs.lemmas.List.{map-append, take-append-le}
 use Rattle.std.proofs.lemmas.Grind.{flat_map-append}
@@ -14,7 +13,7 @@ use Rattle.base_core.specs.declared.value.Column.{Column}
 use Rattle.base_core.specs.declared.value.Row.{Row}
 use Rattle.tables_core.specs.declared.walk.Walk.{Walk}
 use Rattle.tables_core.specs.Contents.{Table, all_rows, empty_table, table_of, with_change, with_row}
-use Rattle.tables_core.specs.Capture.{StoredTable, KeepsDue, IsWalk, CapturesUpTo, named_due, rest_in, shown_tables}
+use Rattle.tables_core.specs.Capture.{StoredTable, KeepsDue, IsWalk, CapturesUpTo, still_due, rest_in, shown_tables}
 use Rattle.tables_core.proofs.CaptureLemmas.{all_rows-changed, rest-kept, shown-named, walk-kept}
 use Rattle.tables_core.proofs.ContentsLemmas.{with_change-some, with_change-none}
 
@@ -39,8 +38,8 @@ module _ (name : Name) (ts after : List (Name × StoredTable)) (w : Walk) (x y :
   pub shown-same : y.contents ≡ x.contents → shown_tables after ≡ shown_tables ts
   shown-same same = shown-after ∙ set_value_same (same_name name) (shown_tables ts) y.contents (shown-there ∙ ap Some (sym same))
 
-  pub rest-after : KeepsDue w x y → rest_in w.number w.cursor w.end after ≡ rest_in w.number w.cursor w.end ts
-  rest-after kept = ap (rest_in w.number w.cursor w.end) written ∙ rest-kept (same_name name) ts w x y there kept
+  pub rest-after : KeepsDue w x y → rest_in w after ≡ rest_in w ts
+  rest-after kept = ap (rest_in w) written ∙ rest-kept (same_name name) ts w x y there kept
 
   pub walk-after : KeepsDue w x y → (total more : ℕ) → IsWalk ts w total → ((before now : ℕ) → total ≡ before % 2 ^ 64 → now + length x.contents.rows ≡ before + length y.contents.rows → more ≡ now % 2 ^ 64) → IsWalk after w more
   walk-after kept total more s counted =
@@ -54,8 +53,8 @@ module _ (ts : List (Name × StoredTable)) (name : Name) (t : StoredTable) (w : 
   pub shown-added : shown_tables (ts ++ (name, t) ∷ []) ≡ shown_tables ts ++ (name, t.contents) ∷ []
   shown-added = map-append (λ (e : Name × StoredTable). (e.0, e.1.contents)) ts ((name, t) ∷ [])
 
-  pub rest-added : w.end ≤ length ts → rest_in w.number w.cursor w.end (ts ++ (name, t) ∷ []) ≡ rest_in w.number w.cursor w.end ts
-  rest-added within = ap (λ l. flat_map (named_due w.number) (drop w.cursor l)) (take-append-le w.end ts ((name, t) ∷ []) within)
+  pub rest-added : w.end ≤ length ts → rest_in w (ts ++ (name, t) ∷ []) ≡ rest_in w ts
+  rest-added within = ap (map (λ (k : Name × StoredTable). still_due w k.1)) (take-append-le w.end ts ((name, t) ∷ []) within)
 
   captures-added : (n : ℕ) (us : List (Name × StoredTable)) → t.capture ≤ n → CapturesUpTo n us → CapturesUpTo n (us ++ (name, t) ∷ [])
   captures-added n [] le h = (le, tt)
@@ -72,9 +71,8 @@ module _ (ts : List (Name × StoredTable)) (name : Name) (t : StoredTable) (w : 
   pub walk-added : (total : ℕ) → t.capture ≡ w.number → t.contents.rows ≡ [] → IsWalk ts w total → IsWalk (ts ++ (name, t) ∷ []) w total
   walk-added total capture empty s = record {
     captures = captures-added w.number ts (omega arith) s.captures;
-    ordered = s.ordered;
     within = let long = length-append ts ((name, t) ∷ []) in let k = s.within in omega arith;
-    left_is = s.left_is ∙ ap length (sym (rest-added s.within));
+    left_is = s.left_is ∙ ap (λ l. sum_by length l) (sym (rest-added s.within));
     total_is = s.total_is ∙ ap (λ rows. length rows % 2 ^ 64) (sym (rows-added empty));
   }
 

@@ -1,5 +1,5 @@
 -- What a change to one table makes of all of them, and what look-ups find after it.
-use Rattle.std.proofs.Common.{◌≡◌, ℕ, List, Bool, true, false, cond, Option, Some, None, IsSome, length, option_map, sym, ap, ◌∙◌, refl}
+use Rattle.std.proofs.Common.{◌≡◌, List, Bool, true, false, cond, Option, Some, None, IsSome, length, option_map, sym, ap, ◌∙◌, refl}
 use Rattle.std.specs.Map.{set_value, keys_of}
 use Rattle.std.specs.Option.{option_map_or}
 use Rattle.std.proofs.lemmas.Cmp.{nat_list_eq_equiv}
@@ -13,7 +13,7 @@ use Rattle.tables_core.specs.Contents.{Table, Database, table_of, with_change}
 use Rattle.tables_core.specs.Laws.{LookUpAfterChange, LookUpAfterNew, NamesAfterChange}
 
 -- equal tables, with as much left to give, are equal databases
-pub same_database : {tables others : List (Name × Table)} {rest left : List (Name × (ℕ × Row))} → tables ≡ others → rest ≡ left → ◌≡◌ {A = Database} (record { tables = tables; rest = rest }) (record { tables = others; rest = left })
+pub same_database : {tables others : List (Name × Table)} {rest left : List (List Row)} → tables ≡ others → rest ≡ left → ◌≡◌ {A = Database} (record { tables = tables; rest = rest }) (record { tables = others; rest = left })
 same_database e r = rw (e, r)
 
 module _ (name : Name) (change : Table → Table) (tables : List (Name × Table)) where

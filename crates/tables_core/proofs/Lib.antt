@@ -9,4 +9,5 @@ pub mod IntervalLemmas
 pub mod NewRowLemmas
 pub mod NumberLemmas
 pub mod PickingLemmas
+pub mod ReachLemmas
 pub mod ResolvedLemmas

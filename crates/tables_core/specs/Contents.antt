@@ -1,7 +1,7 @@
 -- What tables hold, and what each change makes of it.
-use Rattle.std.specs.Prelude.{◌≡◌, ℕ, ◌+◌, Bool, not, List, [], ◌∷◌, ◌++◌, Option, slice_get, map, filter, option_and_then, if◌then◌else◌}
+use Rattle.std.specs.Prelude.{ℕ, ◌+◌, Bool, not, List, [], ◌∷◌, ◌++◌, Option, slice_get, slice_set, slice_index_or, map, drop, filter, option_and_then, if◌then◌else◌}
 use Rattle.std.specs.List.{filter_map, flat_map, fold}
-use Rattle.std.specs.Map.{lookup, set_value}
+use Rattle.std.specs.Map.{lookup, set_value, values_of}
 use Rattle.std.specs.Option.{option_map_or}
 use Rattle.base_core.specs.Words.{same_name}
 use Rattle.base_core.specs.Filter.{column_index, cell, with_value, is_chosen}
@@ -22,14 +22,26 @@ pub record Table : Type 0 where
   pub rows : List (ℕ × Row)
 
 -- what there is: the tables in the order of their creation, each under its name; and the rows that
--- a capture has still to give, each with its number and the name of its table
+-- a capture has still to give, as a list for each table that it covers, which are the first ones
 pub record Database : Type 0 where
   pub tables : List (Name × Table)
-  pub rest : List (Name × (ℕ × Row))
+  pub rest : List (List Row)
 
 -- the rows of all tables, each with its number and the name of its table, one table after another
 abbrev pub all_rows : List (Name × Table) → List (Name × (ℕ × Row))
 all_rows tables = flat_map (λ t. map (λ numbered. (t.0, numbered)) t.1.rows) tables
+
+-- the rows of each table, in order, without their numbers
+abbrev pub rows_by_table : List (Name × Table) → List (List Row)
+rows_by_table tables = map (λ t. values_of t.1.rows) tables
+
+-- what a capture has still to give of the table at a place: nothing where it does not cover it
+abbrev pub rest_at : ℕ → Database → List Row
+rest_at place d = slice_index_or d.rest place []
+
+-- the first k of these rows are given, or all
+abbrev pub with_rows_given : ℕ → ℕ → Database → Database
+with_rows_given place k d = record d { rest = slice_set d.rest place (drop k (rest_at place d)) }
 
 -- whether a numbered row satisfies the filter
 abbrev pub satisfies : List Column → List Condition → ℕ × Row → Bool
@@ -94,9 +106,3 @@ abbrev pub with_change : Name → (Table → Table)
     → List (Name × Table) → List (Name × Table)
 with_change name change tables =
     option_map_or (λ t. set_value (same_name name) tables (change t)) (table_of tables name) tables
-
--- a first part of what was left went to the end of a vector
-pub record Moves {A : Type 0} (left rest before after : List A) : Type 0 where
-  pub moved : List A
-  pub taken : left ≡ moved ++ rest
-  pub given : after ≡ before ++ moved

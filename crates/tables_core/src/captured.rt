@@ -1,13 +1,12 @@
 //! The rows of one table, and the capture that their own was begun for.
-ghost use Rattle.std.specs.Prelude.{◌≡◌, ◌+◌, ◌≤◌, ◌<◌, ◌^◌, ◌++◌, ◌∷◌, [], min, length, vec_len, vec_capacity, map, take, drop, IsSome, IfOk, OnOk, OnErr};
+ghost use Rattle.std.specs.Prelude.{◌≡◌, ◌+◌, ◌≤◌, ◌<◌, ◌^◌, ◌++◌, ◌∷◌, [], min, length, take, drop, IfOk, OnOk, OnErr};
+ghost use Rattle.std.specs.Map.{values_of};
 ghost use Rattle.copyup_core.specs.Holding.{due};
 ghost use Rattle.tables_core.specs.Capture.{rows_due_for};
 
-use crate::rows::NumberedRow;
 use crate::walk::Walk;
-use base_core::{Name, NoMemory, Row};
+use base_core::{NoMemory, Row};
 use copyup_core::{PushFault, Store};
-use std::alloc::Global;
 
 /// Rows, and the number of the last capture that their own was begun for.
 #[derive(Drop)]
@@ -39,8 +38,8 @@ impl Captured {
         ensures contents { self.new.store.contents ≡ self.old.store.contents }
         ensures next { self.new.store.next ≡ self.old.store.next }
         ensures capture { self.old.capture ≤ walk.number → self.new.capture ≤ walk.number }
-        ensures joined { walk.cursor < walk.end → self.new.capture ≡ walk.number }
-        ensures due { walk.cursor < walk.end
+        ensures joined { 0 < walk.left → self.new.capture ≡ walk.number }
+        ensures due { 0 < walk.left
             → due self.new.store ≡ rows_due_for walk.number self.old }
     {
         if walk.is_active() {
@@ -61,7 +60,7 @@ impl Captured {
         ensures err { OnErr result (self.new.store.contents ≡ self.old.store.contents) }
         ensures err_next { OnErr result (self.new.store.next ≡ self.old.store.next) }
         ensures capture { self.old.capture ≤ walk.number → self.new.capture ≤ walk.number }
-        ensures due { walk.cursor < walk.end
+        ensures due { 0 < walk.left
             → rows_due_for walk.number self.new ≡ rows_due_for walk.number self.old }
     {
         self.prepare(walk);
@@ -72,25 +71,33 @@ impl Captured {
         }
     }
 
+    /// How many rows there are to give for the capture of this number.
+    pub fn left(&self, number: u64) -> usize
+        ensures { result ≡ length (rows_due_for number self.now) }
+    {
+        if self.capture == number {
+            self.store.left()
+        } else {
+            self.store.len()
+        }
+    }
+
     /// Appends to `out` the next `count` rows, or all, that there are to give for the capture of
-    /// this number, each with this name, and gives how many.
-    pub fn capture_step(
+    /// this number, and gives how many.
+    pub fn capture_rows(
         &mut self,
-        alloc: Global,
         number: u64,
-        name: Name,
-        out: &mut Vec<(Name, NumberedRow)>,
+        out: &mut Vec<Row>,
         count: usize,
     ) -> Result<usize, NoMemory>
         ensures capture { self.new.capture ≡ number }
         ensures contents { self.new.store.contents ≡ self.old.store.contents }
         ensures next { self.new.store.next ≡ self.old.store.next }
-        ensures given { IfOk result
+        ensures count { IfOk result
             (λ given. given ≡ min count (length (rows_due_for number self.old))) }
         ensures items { OnOk result
             (out.new.items
-            ≡ out.old.items
-            ++ map (λ numbered. (name, numbered)) (take count (rows_due_for number self.old))) }
+            ≡ out.old.items ++ values_of (take count (rows_due_for number self.old))) }
         ensures left { OnOk result
             (due self.new.store ≡ drop count (rows_due_for number self.old)) }
         ensures err { OnErr result (due self.new.store ≡ rows_due_for number self.old) }
@@ -101,43 +108,6 @@ impl Captured {
             self.store.abandon();
             return Ok(0);
         }
-        step(alloc, &mut self.store, name, out, count)
-    }
-}
-
-/// A step of a store's capture, each row with this name.
-fn step(
-    alloc: Global,
-    store: &mut Store<Row>,
-    name: Name,
-    out: &mut Vec<(Name, NumberedRow)>,
-    count: usize,
-) -> Result<usize, NoMemory>
-    requires { IsSome store.old.rest }
-    ensures contents { store.new.contents ≡ store.old.contents }
-    ensures next { store.new.next ≡ store.old.next }
-    ensures given { IfOk result (λ given. given ≡ min count (length (due store.old))) }
-    ensures items { OnOk result
-        (out.new.items
-        ≡ out.old.items ++ map (λ numbered. (name, numbered)) (take count (due store.old))) }
-    ensures left { OnOk result (due store.new ≡ drop count (due store.old)) }
-    ensures err { OnErr result (due store.new ≡ due store.old) }
-    ensures out_err { OnErr result (out.new.items ≡ out.old.items) }
-{
-    out.reserve(count.min(store.left()))?;
-    let mut taken = Vec::new(alloc);
-    let given = store.capture_step(&mut taken, count)?;
-    put_named(name, taken, out);
-    Ok(given)
-}
-
-/// Moves the rows to the end of `out`, each with this name.
-fn put_named(name: Name, taken: Vec<NumberedRow>, out: &mut Vec<(Name, NumberedRow)>)
-    requires { vec_len out.old + length taken.items ≤ vec_capacity out.old }
-    ensures { out.new.items
-        ≡ out.old.items ++ map (λ numbered. (name, numbered)) taken.items }
-{
-    for numbered in taken {
-        out.push_reserved((name, numbered));
+        self.store.capture_step(out, count)
     }
 }

@@ -1,11 +1,8 @@
 //! The indexes of one table.
-ghost use Rattle.std.specs.Prelude.{◌≡◌, ◌<◌, [], List, Some, IfSome, filter, length, map, not, slice_get};
-ghost use Rattle.std.specs.List.{Contains};
+ghost use Rattle.std.specs.Prelude.{◌≡◌, ◌<◌, [], List, Some, IfSome, filter, length, map, not};
 ghost use Rattle.std.specs.List.Sorted.{IsStrictlyIncreasing};
-ghost use Rattle.base_core.specs.declared.value.Value.{Value as values};
-ghost use Rattle.base_core.specs.Filter.{at_index, cell_meets, column_index};
+ghost use Rattle.base_core.specs.Filter.{column_index};
 ghost use Rattle.index_core.specs.Listed.{listed};
-ghost use Rattle.index_core.specs.Ranged.{ranged};
 ghost use Rattle.tables_core.specs.Contents.{assigned_row, satisfies};
 ghost use Rattle.tables_core.specs.Indexing.{Numbered, EachLists, ListAll, ListsEachPassing, assigns};
 ghost use Rattle.tables_core.specs.Picking.{rows_at, without_rows};
@@ -13,22 +10,16 @@ ghost use Rattle.tables_core.specs.Picking.{rows_at, without_rows};
 use crate::column_index::ColumnIndex;
 use crate::interval::interval_at;
 use crate::listed::keep_chosen;
-use crate::listing::Listing;
+use crate::question::{Question, are_few};
 use crate::resolved::Resolved;
 use crate::rows::NumberedRow;
-use base_core::{Assignment, Column, Comparison, Condition, Row, Value, column_index};
+use base_core::{Assignment, Column, Comparison, Condition, Row, column_index};
 use copyup_core::Store;
-use index_core::{Index, Interval, OrderedIndex};
+use index_core::{Index, Interval, Key};
 use std::alloc::Global;
 
 /// How many columns of a table are kept in mind. One that is asked for in both ways counts twice.
 const MOST: usize = 8;
-
-/// An index by value serves where there are more than so many times the rows that it lists.
-const VALUE_FRACTION: usize = 8;
-
-/// An index in order serves where there are at least so many times the rows that it lists.
-const ORDER_FRACTION: usize = 4;
 
 /// The columns that were asked for, with their indexes.
 #[derive(Drop)]
@@ -39,21 +30,22 @@ pub struct Indexes {
     kept: Vec<ColumnIndex>,
 }
 
-/// The place of the column that a condition compares with a value of its type, and whether it asks
-/// for values in their order, as any comparison but `=` does. None for `<>`, which no index serves.
-fn asked_of(columns: &[Column], condition: &Condition) -> Option<(usize, bool)>
+/// The place of the column that a condition compares with a value of its type, and the keys by which
+/// it asks: by fingerprints for `=`, by ranks for values in their order. None for `<>`, which no
+/// index serves.
+fn asked_of(columns: &[Column], condition: &Condition) -> Option<(usize, Key)>
     ensures { IfSome result (λ asked.
         column_index columns.now condition.now.column ≡ Some asked.0) }
 {
-    let in_order = match condition.comparison {
-        Comparison::Equal => false,
+    let key = match condition.comparison {
+        Comparison::Equal => Key::Fingerprint,
         Comparison::NotEqual => return None,
-        _ => true,
+        _ => Key::Rank,
     };
     let place = column_index(columns, condition.column)?;
     let column = columns.get(place)?;
     if condition.literal.has_type(column.ty) {
-        Some((place, in_order))
+        Some((place, key))
     } else {
         None
     }
@@ -143,29 +135,13 @@ impl Indexes {
         }
     }
 
-    /// Where this question for the column at this place is kept in mind.
-    fn position(&self, place: usize, in_order: bool) -> Option<usize>
+    /// Where the column at this place is kept in mind, as asked for by such keys.
+    fn position(&self, place: usize, key: Key) -> Option<usize>
         ensures { IfSome result (λ at. at < length self.now.kept.items) }
     {
-        self.kept.iter().position(|column| column.place == place && column.in_order == in_order)
-    }
-
-    /// The index by value of the column at this place, if there is one.
-    fn index_at(&self, place: usize) -> Option<&Index>
-        ensures { IfSome result (λ index. (r : Numbered) (v : values)
-            → EachLists self.now.kept.items r
-            → slice_get r.1.values place ≡ Some v
-            → Contains (listed index.now v) r.0) }
-    {
-        for column in self.kept.as_slice() {
-            if column.place != place {
-                continue;
-            }
-            if let Some(Listing::ByValue(index)) = &column.index {
-                return Some(index);
-            }
-        }
-        None
+        self.kept
+            .iter()
+            .position(|column| column.place == place && column.key == key)
     }
 
     /// A column without an index, among those that are kept in mind.
@@ -175,24 +151,34 @@ impl Indexes {
         self.kept.iter().position(|column| column.index.is_none())
     }
 
-    /// Keeps in mind that a column was asked for, and makes its index where it was before.
-    fn ask(&mut self, place: usize, in_order: bool, rows: &Store<Row>)
+    /// Keeps in mind that a column was asked for, and makes some more of its index where it was
+    /// before.
+    fn ask(&mut self, question: &Question<'_>, rows: &Store<Row>)
         ensures { ListAll self.old.kept.items rows.now.contents
             → ListAll self.new.kept.items rows.now.contents }
     {
-        if let Some(at) = self.position(place, in_order) {
-            self.kept[at].ask(self.alloc, rows);
+        if let Some(at) = self.position(question.place, question.key) {
+            self.kept[at].ask(self.alloc, question, rows);
         } else if self.kept.len() < MOST {
-            drop(self.kept.push(ColumnIndex::asked_once(place, in_order)));
+            drop(
+                self.kept
+                    .push(ColumnIndex::asked_once(question.place, question.key)),
+            );
         } else if let Some(at) = self.idle() {
-            self.kept[at].turn_to(place, in_order);
+            self.kept[at].turn_to(question.place, question.key);
         }
     }
 
-    /// Prepares for a look-up of the rows that a filter chooses: a column gets an index once it is
-    /// asked for again, where there are many rows. Both ends of an interval are one question, where
-    /// they stand side by side.
-    pub fn prepare(&mut self, columns: &[Column], rows: &Store<Row>, filter: &[Condition])
+    /// Prepares for a look-up of the rows that a filter chooses, in a table into which so many rows
+    /// were ever inserted: a column gets an index once it is asked for again, where there are many
+    /// rows. Both ends of an interval are one question, where they stand side by side.
+    pub fn prepare(
+        &mut self,
+        columns: &[Column],
+        rows: &Store<Row>,
+        inserted: u64,
+        filter: &[Condition],
+    )
         ensures { ListAll self.old.kept.items rows.now.contents
             → ListAll self.new.kept.items rows.now.contents }
     {
@@ -201,74 +187,47 @@ impl Indexes {
         }
         let mut last = None;
         for condition in filter {
-            let Some((place, in_order)) = asked_of(columns, condition) else {
+            let Some((place, key)) = asked_of(columns, condition) else {
                 continue;
             };
-            if in_order && last == Some(place) {
+            if key == Key::Rank && last == Some(place) {
                 continue;
             }
-            self.ask(place, in_order, rows);
+            let question = Question {
+                columns,
+                filter,
+                place,
+                key,
+                inserted,
+            };
+            self.ask(&question, rows);
             last = Some(place);
         }
     }
 
-    /// The index by value that lists the rows which meet a condition on the column at this place.
-    fn serving(&self, place: Option<usize>, condition: &Condition) -> Option<&Index>
-        ensures { IfSome result (λ index. ListsEachPassing self.now.kept.items
-            (λ r. cell_meets condition.now (at_index r.1.values place))
-            (listed index.now condition.now.literal)) }
-    {
-        match condition.comparison {
-            Comparison::Equal => self.index_at(place?),
-            _ => None,
-        }
-    }
-
-    /// Of the indexes by value that list the rows which the filter chooses the one that lists
-    /// fewest, and the value for which it does.
-    fn best<'a>(&'a self, conditions: &Resolved<'a, Condition>) -> Option<(&'a Index, &'a Value)>
-        ensures { IfSome result (λ best. ListsEachPassing self.now.kept.items
-            (satisfies conditions.now.columns.now conditions.now.items.now)
-            (listed best.0.now best.1.now)) }
-    {
-        let mut best = None;
-        let mut fewest = usize::MAX;
-        for (at, condition) in conditions.items().iter().enumerate() {
-            let Some(index) = self.serving(conditions.index_of(at, condition), condition) else {
-                continue;
-            };
-            let count = index.count(&condition.literal);
-            if count >= fewest {
-                continue;
-            }
-            fewest = count;
-            best = Some((index, &condition.literal));
-        }
-        best
-    }
-
-    /// Of the indexes in order that list the rows which the filter chooses, and fewer numbers than
-    /// `fewest`, the one that lists fewest, and the interval in which it does.
+    /// Of the indexes that list few of so many rows for the filter the one that lists fewest, and
+    /// the interval in which it lists all that the filter chooses.
     fn narrowest<'a>(
         &'a self,
         conditions: &Resolved<'_, Condition>,
-        fewest: usize,
-    ) -> Option<(&'a OrderedIndex, Interval)>
+        rows: usize,
+    ) -> Option<(&'a Index, Interval)>
         ensures { IfSome result (λ best. ListsEachPassing self.now.kept.items
             (satisfies conditions.now.columns.now conditions.now.items.now)
-            (ranged best.0.now best.1)) }
+            (listed best.0.now best.1)) }
     {
         let mut best = None;
-        let mut fewest = fewest;
+        let mut fewest = usize::MAX;
         for column in self.kept.as_slice() {
-            let Some(Listing::InOrder(index)) = &column.index else {
+            let Some(index) = column.whole() else {
                 continue;
             };
-            let Some(interval) = interval_at(conditions, column.place) else {
+            let key = index.key();
+            let Some(interval) = interval_at(conditions, column.place, key) else {
                 continue;
             };
             let count = index.count(interval);
-            if count >= fewest {
+            if count >= fewest || !are_few(key, count, rows) {
                 continue;
             }
             fewest = count;
@@ -285,23 +244,8 @@ impl Indexes {
             (satisfies conditions.now.columns.now conditions.now.items.now)
             numbers.items) }
     {
-        let by_value = self.best(conditions);
-        let few = match by_value {
-            Some((index, literal)) => index.count(literal),
-            None => usize::MAX,
-        };
-        let narrow = few.min(rows / ORDER_FRACTION + 1);
-        if let Some((index, interval)) = self.narrowest(conditions, narrow) {
-            let Ok(numbers) = index.numbers(interval) else {
-                return None;
-            };
-            return Some(numbers);
-        }
-        if few >= rows / VALUE_FRACTION {
-            return None;
-        }
-        let (index, literal) = by_value?;
-        let Ok(numbers) = index.numbers(literal) else {
+        let (index, interval) = self.narrowest(conditions, rows)?;
+        let Ok(numbers) = index.numbers(interval) else {
             return None;
         };
         Some(numbers)

@@ -6,18 +6,18 @@ ghost use Rattle.tables_core.specs.Indexing.{IsCellWithin, IsCellKept};
 
 use crate::resolved::Resolved;
 use base_core::Condition;
-use index_core::Interval;
+use index_core::{Interval, Key};
 
 /// The interval of the values that meet a condition besides.
-fn narrowed(so_far: Option<Interval>, condition: &Condition) -> Interval
+fn narrowed(so_far: Option<Interval>, key: Key, condition: &Condition) -> Interval
     ensures { (cell : Option values)
-        → IsCellKept so_far cell
+        → IsCellKept key so_far cell
         → cell_meets condition.now cell ≡ true
-        → IsCellWithin result cell }
+        → IsCellWithin key result cell }
 {
     match so_far {
-        Some(interval) => interval.narrowed(condition.comparison, &condition.literal),
-        None => Interval::whole().narrowed(condition.comparison, &condition.literal),
+        Some(interval) => interval.narrowed(key, condition.comparison, &condition.literal),
+        None => Interval::whole().narrowed(key, condition.comparison, &condition.literal),
     }
 }
 
@@ -28,11 +28,12 @@ fn with_condition(
     condition: &Condition,
     index: Option<usize>,
     place: usize,
+    key: Key,
 ) -> Option<Interval>
     ensures { (row : List values)
-        → IsCellKept so_far (slice_get row place)
+        → IsCellKept key so_far (slice_get row place)
         → cell_meets condition.now (at_index row index) ≡ true
-        → IsCellKept result (slice_get row place) }
+        → IsCellKept key result (slice_get row place) }
 {
     let Some(at) = index else {
         return so_far;
@@ -40,15 +41,15 @@ fn with_condition(
     if at != place {
         return so_far;
     }
-    Some(narrowed(so_far, condition))
+    Some(narrowed(so_far, key, condition))
 }
 
-/// An interval within which each row that the filter chooses has its value at this place. None
-/// where no condition is on the column there.
-pub fn interval_at(conditions: &Resolved<'_, Condition>, place: usize) -> Option<Interval>
+/// An interval within which each row that the filter chooses has the key of its value at this
+/// place. None where no condition is on the column there.
+pub fn interval_at(conditions: &Resolved<'_, Condition>, place: usize, key: Key) -> Option<Interval>
     ensures { (row : List values)
         → is_chosen conditions.now.columns.now conditions.now.items.now row ≡ true
-        → IsCellKept result (slice_get row place) }
+        → IsCellKept key result (slice_get row place) }
 {
     let mut interval = None;
     for (at, condition) in conditions.items().iter().enumerate() {
@@ -57,6 +58,7 @@ pub fn interval_at(conditions: &Resolved<'_, Condition>, place: usize) -> Option
             condition,
             conditions.index_of(at, condition),
             place,
+            key,
         );
     }
     interval

@@ -4,8 +4,8 @@
 //! order of their creation, each with its name, its owner, its columns, the number of rows ever
 //! inserted, and the rows that it has now. A row's number is how many rows were inserted into its
 //! table before it: it stays when the row is updated, and no later row gets it once the row is
-//! deleted. Its `rest` are the rows that a capture has still to give, each with its number and the
-//! name of its table.
+//! deleted. Its `rest` are the rows that a capture has still to give: a list for each table that it
+//! covers, which are the first ones.
 //!
 //! The one contract: each change makes of `tables` exactly what its definition in
 //! `specs/Contents.antt` says and leaves `rest` as it is, each look-up answers by `tables`, and a
@@ -29,45 +29,54 @@
 //! tables.begin();                            // a capture of the one row
 //! tables.update(pay, &wage_is_7, &[])?;      // row 0 is (7)
 //! tables.select(pay, &[wage], &[])?          // the one row (7)
-//! tables.capture_step(&mut out, 100)?        // 1: (pay, (0, (5))), as it was
+//! tables.capture_rows(0, &mut out, 100)?     // 1: (5), as it was
 //! ```
 //!
 //! # How a capture works
 //!
 //! Each table keeps its rows in a [`Store`](copyup_core::Store), which can be captured by itself,
 //! by Copy-on-Update. Were `begin` to begin the capture of each store, it would go over all tables.
-//! So it only gives the new capture a number, and notes how many tables there are. A table bears
-//! the number of the last capture that its own store's was begun for. That is begun for this one
-//! before the first change to the table, or when the steps come to it. Until then nothing of the
-//! table was changed, so that what it has to give is all that it has.
+//! So it only gives the new capture a number, and notes how many tables and rows there are. A table
+//! bears the number of the last capture that its own store's was begun for. That is begun for this
+//! one before the first change to the table, or when the capture's rows are asked of it. Until then
+//! nothing of the table was changed, so that what it has to give is all that it has.
 //!
 //! ```text
-//! begin: capture 4        an INSERT into b           a step goes over a, and ends in b
+//! begin: capture 4        an INSERT into b           the rows of a, and one of b
 //!
 //! table   a  b  c         a  b  c                    a  b  c
 //! bears   3  3  1         3  4  1                    4  4  1
-//! walk    |-----|         |-----|                       |--|
+//! left    5  2  4         5  2  4                    0  1  4
 //! ```
 //!
-//! A table that was created after `begin` bears the capture's number from the start, and has
-//! nothing to give. What a capture that was given up left in a table goes before the next change to
-//! that table.
+//! The rows are asked for table by table, and come without their numbers, straight into the list
+//! that the caller has for that table. Once no row of any is left, the capture is over. A table that
+//! was created after `begin` is not covered. What a capture that was given up left in a table goes
+//! before the next change to that table.
 //!
 //! # How rows are found
 //!
-//! A table with many rows, 256 or more, keeps an index of a column that is asked for again: an
-//! [`Index`](index_core::Index) by value where `column = literal` asks for it, and an
-//! [`OrderedIndex`](index_core::OrderedIndex) where `<`, `<=`, `>` or `>=` does. `prepare`, `update`
-//! and `delete` ask, each for the columns of its filter; at most eight such questions about a table
-//! are kept in mind. `select`, `update` and `delete` take the index that lists fewest rows, one by
-//! value for its literal, and one in order for the interval that all conditions on its column leave.
-//! Where these are fewer than an eighth of the table's, or in order a quarter at most, they go over
-//! them in the order of their numbers, and else over all rows.
+//! A table with many rows, 256 or more, keeps an [`Index`](index_core::Index) of a column that is
+//! asked for again: one by fingerprints where `column = literal` asks for it, and one by ranks where
+//! `<`, `<=`, `>` or `>=` does. `prepare`, `update` and `delete` ask, each for the columns of its
+//! filter; at most eight such questions about a table are kept in mind. `select`, `update` and
+//! `delete` take the index that lists fewest rows in the interval which all conditions on its column
+//! leave. Where these are fewer than an eighth of the table's, or by ranks a quarter at most, they
+//! go over them in the order of their numbers, and else over all rows.
 //!
-//! An index lists each row that it must, and may list more: an `insert` notes its row and an
-//! `update` the new values of the columns that it assigns, and nothing is ever taken out. So each
-//! number that is listed is looked up, and the whole filter is asked of the row that is found. What
-//! the calls answer does not depend on which indexes there are.
+//! **No index is begun that would not serve.** First 64 rows are looked at, which are spread evenly
+//! over the numbers. Where too many of them have what is asked for, none is made, and the next 16
+//! questions about the column look at none.
+//!
+//! **An index is made in steps**, one at each question about its column. A step notes the next rows,
+//! in the order of their numbers: 8,192, or a 64th of all where that is more. The index answers
+//! nothing before it has come to the last row, and until then all rows are gone over. A row that is
+//! inserted or changed meanwhile is noted if the index has come to its number, and else later.
+//!
+//! An index that is whole lists each row that it must, and may list more: an `insert` notes its row
+//! and an `update` the new values of the columns that it assigns, and nothing is ever taken out. So
+//! each number that is listed is looked up, and the whole filter is asked of the row that is found.
+//! What the calls answer does not depend on which indexes there are.
 //!
 //! ```text
 //! rows     0 ann 5    1 bob 7    2 ann 9       index of names: ann 0 2, bob 1
@@ -98,19 +107,18 @@
 //! for each row that the filter chooses. By an index they go over the rows that it lists instead,
 //! each with a look-up by its number.
 //!
-//! To make an index takes one walk over the rows, and one in order a sort besides. With one by value
-//! each `insert` takes a look-up by hash more, and so does each row that an `update` changes in its
-//! column. With one in order each takes an entry at the end of a list, which the next question about
-//! the column puts in order. An index by value takes 37 bytes for each value that it lists, 8 for
-//! each number where a value has several, and room to grow, and one in order 16 for each number, and
-//! room to grow.
+//! To make an index takes one walk over the rows and a sort, in the steps of above. With one each
+//! `insert` takes an entry more at the end of a list, and so does each row that an `update` changes
+//! in its column. Every 4,096th entry, and the next question about the column, put these in order,
+//! and go over 131,072 entries at most, or over a sixteenth of all. So no call waits longer for an
+//! index than for that, or for a step, and what values there are changes nothing of it. An index
+//! takes 16 bytes for each number that it lists, and up to 64 KiB.
 //!
-//! `begin`, `left` and `abandon` are constant, but that once in 2^64 captures `begin` goes over the
-//! tables. `capture_step` of k copies k rows at most, each by sharing its values, and goes over the
-//! tables that it leaves behind, each once in a capture. To a change a capture adds two comparisons
-//! and what the store keeps for it, and no memory.
+//! `begin`, `covered`, `left`, `left_at` and `abandon` are constant, but that once in 2^64 captures
+//! `begin` goes over the tables. `capture_rows` of k copies k rows at most, each by sharing its
+//! values. To a change a capture adds two comparisons and what the store keeps for it, and no memory.
 //!
-//! `create`, `insert`, `select`, `update` and `capture_step` take memory, and `prepare`, `delete` and
+//! `create`, `insert`, `select`, `update` and `capture_rows` take memory, and `prepare`, `delete` and
 //! an index take some where they get it. No other call does.
 #![tactic(auto)]
 
@@ -125,7 +133,8 @@ mod indexes;
 mod interval;
 mod laws;
 mod listed;
-mod listing;
+mod question;
+mod reach;
 mod resolved;
 mod rows;
 mod scan;

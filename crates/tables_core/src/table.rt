@@ -1,5 +1,6 @@
 //! One table.
-ghost use Rattle.std.specs.Prelude.{◌≡◌, ◌+◌, ◌<◌, ◌^◌, ◌↔◌, ◌++◌, [], IfOk, OnOk, OnErr, IsTrue, min, length, map, take, drop};
+ghost use Rattle.std.specs.Prelude.{◌≡◌, ◌+◌, ◌<◌, ◌^◌, ◌↔◌, ◌++◌, [], IfOk, OnOk, OnErr, IsTrue, min, length, take, drop};
+ghost use Rattle.std.specs.Map.{values_of};
 ghost use Rattle.tables_core.specs.Capture.{KeepsDue, due_for};
 ghost use Rattle.tables_core.specs.Contents.{empty_table, with_row, without_chosen_rows, with_updated_rows, selected_rows};
 ghost use Rattle.tables_core.specs.Fitting.{ColumnsDiffer, ValuesFit, AssignmentsFit, IsWellTyped};
@@ -10,7 +11,7 @@ use crate::captured::Captured;
 use crate::indexes::Indexes;
 use crate::listed::rows_listed;
 use crate::resolved::Resolved;
-use crate::rows::{self, NumberedRow};
+use crate::rows;
 use crate::update::update_chosen;
 use crate::walk::Walk;
 use base_core::{Assignment, Column, Condition, Name, NoMemory, Row, Sequence, User, Value};
@@ -156,7 +157,8 @@ impl Table {
         ensures { self.new ≡ self.old }
     {
         let columns = self.columns.as_slice();
-        self.indexes.prepare(columns, &self.rows.store, filter);
+        self.indexes
+            .prepare(columns, &self.rows.store, self.inserted, filter);
     }
 
     /// The named columns of the chosen rows.
@@ -193,7 +195,8 @@ impl Table {
         ensures due { KeepsDue walk self.old self.new }
     {
         let columns = self.columns.as_slice();
-        self.indexes.prepare(columns, &self.rows.store, filter);
+        self.indexes
+            .prepare(columns, &self.rows.store, self.inserted, filter);
         update_chosen(
             alloc,
             walk,
@@ -212,7 +215,8 @@ impl Table {
         ensures due { KeepsDue walk self.old self.new }
     {
         let columns = self.columns.as_slice();
-        self.indexes.prepare(columns, &self.rows.store, filter);
+        self.indexes
+            .prepare(columns, &self.rows.store, self.inserted, filter);
         self.rows.prepare(walk);
         let dropped = rows::drop_chosen(columns, &mut self.rows.store, &self.indexes, filter);
         self.indexes.note_dropped(dropped, self.rows.store.len());
@@ -227,28 +231,30 @@ impl Table {
         self.rows.capture = 0;
     }
 
+    /// How many rows the table has to give for the capture of this number.
+    pub fn left(&self, number: u64) -> usize
+        ensures { result ≡ length (due_for number self.now) }
+    {
+        self.rows.left(number)
+    }
+
     /// Appends to `out` the next `count` rows, or all, that the table has to give for the capture
-    /// of this number, each with this name, and gives how many.
-    pub fn capture_step(
+    /// of this number, and gives how many.
+    pub fn capture_rows(
         &mut self,
-        alloc: Global,
         number: u64,
-        name: Name,
-        out: &mut Vec<(Name, NumberedRow)>,
+        out: &mut Vec<Row>,
         count: usize,
     ) -> Result<usize, NoMemory>
         ensures capture { self.new.capture ≡ number }
         ensures contents { self.new.contents ≡ self.old.contents }
-        ensures given { IfOk result
-            (λ given. given ≡ min count (length (due_for number self.old))) }
+        ensures count { IfOk result (λ given. given ≡ min count (length (due_for number self.old))) }
         ensures items { OnOk result
-            (out.new.items
-            ≡ out.old.items
-            ++ map (λ numbered. (name, numbered)) (take count (due_for number self.old))) }
+            (out.new.items ≡ out.old.items ++ values_of (take count (due_for number self.old))) }
         ensures left { OnOk result (self.new.due ≡ drop count (due_for number self.old)) }
         ensures err { OnErr result (self.new.due ≡ due_for number self.old) }
         ensures out_err { OnErr result (out.new.items ≡ out.old.items) }
     {
-        self.rows.capture_step(alloc, number, name, out, count)
+        self.rows.capture_rows(number, out, count)
     }
 }

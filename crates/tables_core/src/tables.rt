@@ -1,16 +1,15 @@
 //! All tables, by name.
-ghost use Rattle.std.specs.Prelude.{IfSome, ◌≡◌, ◌+◌, ◌<◌, ◌^◌, ◌%◌, ◌↔◌, ◌++◌, ◌∷◌, [], IfOk, OnOk, OnErr, IsTrue, IsSome, IsSomeAnd, Some, None, slice_get, min, length, option_map};
+ghost use Rattle.std.specs.Prelude.{IfSome, ◌≡◌, ◌+◌, ◌≤◌, ◌<◌, ◌^◌, ◌%◌, ◌↔◌, ◌++◌, ◌∷◌, [], IfOk, OnOk, OnErr, IsTrue, IsSome, IsSomeAnd, Some, None, slice_get, min, length, take, sum_by, option_map};
 ghost use Rattle.std.specs.Option.{option_copied, option_map_or};
 ghost use Rattle.std.specs.List.{IsDistinct};
 ghost use Rattle.std.specs.Map.{keys_of};
 ghost use Rattle.base_core.specs.Words.{same_name};
-ghost use Rattle.tables_core.specs.Contents.{Moves, all_rows, empty_table, with_row, without_chosen_rows, with_updated_rows, selected_rows, table_of, column_of, with_change};
+ghost use Rattle.tables_core.specs.Contents.{all_rows, rows_by_table, rest_at, with_rows_given, empty_table, with_row, without_chosen_rows, with_updated_rows, selected_rows, table_of, column_of, with_change};
 ghost use Rattle.tables_core.specs.Fitting.{ColumnsDiffer, ValuesFit, AssignmentsFit, IsWellTyped};
 
 mod foreseeing;
 
-use crate::capture::{next_number, walk_on};
-use crate::rows::NumberedRow;
+use crate::capture::next_number;
 use crate::table::Table;
 use crate::walk::Walk;
 use base_core::{
@@ -38,7 +37,7 @@ pub struct TableView<'a> {
 
 /// Tables in the order of their creation, and at most one capture of them all. Contracts see the
 /// list of the tables, each with its name, as the `tables` of a record, and the rows that the
-/// capture has still to give as its `rest`.
+/// capture has still to give, table by table, as its `rest`.
 #[derive(Drop)]
 pub struct Tables {
     alloc: Global,
@@ -57,7 +56,7 @@ impl Model for Tables {
 
     ghost view = { λ t. record {
       tables = shown_tables t.tables.entries;
-      rest = rest_in t.walk.number t.walk.cursor t.walk.end t.tables.entries;
+      rest = rest_in t.walk t.tables.entries;
     } };
 
     ghost invariant = { λ t. IsWalk t.tables.entries t.walk t.total };
@@ -80,7 +79,6 @@ impl Tables {
             tables: IndexMap::new(alloc),
             walk: Walk {
                 number: 0,
-                cursor: 0,
                 end: 0,
                 left: 0,
             },
@@ -267,9 +265,10 @@ impl Tables {
         Ok(())
     }
 
-    /// Prepares for a [`select`](Tables::select) with this filter: a column that it asks for by `=`
-    /// gets an index where it was asked for before, unless there are few rows or memory is refused.
-    /// Nothing that can be seen changes. Where there is no such table, it does nothing.
+    /// Prepares for a [`select`](Tables::select) with this filter: a column that it compares, but by
+    /// `<>`, gets an index where it was asked for before, a part of it at each such call, unless
+    /// there are few rows, it would not serve, or memory is refused. Nothing that can be seen
+    /// changes. Where there is no such table, it does nothing.
     #[inline(never)]
     pub fn prepare(&mut self, name: Name, filter: &[Condition])
         ensures { self.new ≡ self.old }
@@ -346,23 +345,46 @@ impl Tables {
     /// than 2^63 rows in all. It is constant but once in 2^64 captures, and takes no memory.
     pub fn begin(&mut self)
         requires { length (all_rows self.old.tables) < 2 ^ 63 }
-        ensures { self.new ≡ record self.old { rest = all_rows self.old.tables } }
+        ensures { self.new ≡ record self.old { rest = rows_by_table self.old.tables } }
     {
         let number = next_number(&mut self.tables, self.walk.number);
-        let covered = Walk {
+        self.walk = Walk {
             number,
-            cursor: 0,
             end: self.tables.len(),
-            left: 0,
+            left: self.total,
         };
-        self.walk = covered.standing_at(0, self.total);
+    }
+
+    /// How many tables the capture covers, the first ones in the order of creation. That stays once
+    /// no row is left, and is 0 where none was begun, or the last one was given up.
+    #[inline]
+    pub fn covered(&self) -> usize
+        ensures count { result ≡ length self.now.rest }
+        ensures within { result ≤ length self.now.tables }
+    {
+        self.walk.end
     }
 
     /// How many rows the capture has still to give. 0 where none is active.
+    #[inline]
     pub fn left(&self) -> usize
-        ensures { result ≡ length self.now.rest }
+        ensures { result ≡ sum_by length self.now.rest }
     {
         self.walk.left
+    }
+
+    /// How many rows the capture has still to give of the table at this place in the order of
+    /// creation, counted from 0. 0 where it does not cover that table.
+    pub fn left_at(&self, place: usize) -> usize
+        ensures { result ≡ length (rest_at place self.now) }
+    {
+        if !self.walk.covers(place) {
+            return 0;
+        }
+        match self.tables.get_index(place) {
+            Some((_, table)) => table.left(self.walk.number),
+            None => 0,
+        }
     }
 
     /// Gives the capture up. Where none is active, nothing changes. It is constant, and takes no
@@ -370,33 +392,38 @@ impl Tables {
     pub fn abandon(&mut self)
         ensures { self.new ≡ record self.old { rest = [] } }
     {
-        self.walk = self.walk.standing_at(self.walk.end, 0);
+        self.walk.end = 0;
+        self.walk.left = 0;
     }
 
-    /// Appends to `out` the next `count` rows of the capture, or all that are left, each as it was
-    /// when the capture began, with its number and the name of its table, and gives how many. The
-    /// rows come table by table, in the order of their numbers. With none left it appends nothing.
+    /// Appends to `out` the next `count` rows that the capture has still to give of the table at
+    /// this place in the order of creation, counted from 0, or all of these: as they were when it
+    /// began, and in the order of their numbers, which are left out. It gives how many, so that
+    /// fewer than `count` say that the table has no more to give. Of a table that the capture does
+    /// not cover it appends none.
     ///
-    /// `NoMemory` where a request for memory was refused: the rows captured before it are in `out`,
-    /// and are no more left.
-    pub fn capture_step(
+    /// `NoMemory` where a request for memory was refused: then the capture and the rows of `out`
+    /// are as before.
+    pub fn capture_rows(
         &mut self,
-        out: &mut Vec<(Name, NumberedRow)>,
+        place: usize,
+        out: &mut Vec<Row>,
         count: usize,
     ) -> Result<usize, NoMemory>
-        ensures tables { self.new.tables ≡ self.old.tables }
-        ensures moves { Moves self.old.rest self.new.rest out.old.items out.new.items }
-        ensures count { IfOk result (λ given. given ≡ min count (length self.old.rest)) }
-        ensures left { IfOk result (λ given.
-            given + length self.new.rest ≡ length self.old.rest) }
+        ensures count { IfOk result (λ given. given ≡ min count (length (rest_at place self.old))) }
+        ensures items { OnOk result
+            (out.new.items ≡ out.old.items ++ take count (rest_at place self.old)) }
+        ensures rest { OnOk result (self.new ≡ with_rows_given place count self.old) }
+        ensures err { OnErr result (self.new ≡ self.old) }
+        ensures out_err { OnErr result (out.new.items ≡ out.old.items) }
     {
-        let stop = walk_on(self.alloc, &mut self.tables, self.walk, out, count);
-        self.walk = self
-            .walk
-            .standing_at(stop.place, self.walk.left - stop.given);
-        if stop.refused {
-            return Err(NoMemory);
+        let walk = self.walk;
+        if !walk.covers(place) {
+            return Ok(0);
         }
-        Ok(stop.given)
+        let (_, table) = self.tables.pair_mut(place);
+        let given = table.capture_rows(walk.number, out, count)?;
+        self.walk.left -= given;
+        Ok(given)
     }
 }

@@ -141,7 +141,7 @@ pub fn update_chosen(
     ensures no_memory { OnErr result (rows.new.store.contents ≡ rows.old.store.contents) }
     ensures next { rows.new.store.next ≡ rows.old.store.next }
     ensures capture { rows.old.capture ≤ walk.number → rows.new.capture ≤ walk.number }
-    ensures due { walk.cursor < walk.end
+    ensures due { 0 < walk.left
         → rows_due_for walk.number rows.new ≡ rows_due_for walk.number rows.old }
 {
     // No two rows have one number: theirs rise, as `len` tells.

@@ -1,13 +1,14 @@
 //! The core: one event after another, each a step of the machine.
 //! `describing` has what is told of a statement that is only described, `granting` the grants that a statement would
 //! make, and `imaging` the images that are kept.
-ghost use Rattle.std.specs.Prelude.{ℕ, ◌≡◌, ◌↔◌, ◌<◌, ◌≤◌, ◌++◌, ◌∷◌, [], true, false, not, length, Ok, Some, IsSome, IsTrue, is_some, IfOk, MatchResult};
+ghost use Rattle.std.specs.Prelude.{ℕ, ◌≡◌, ◌↔◌, ◌<◌, ◌≤◌, ◌++◌, ◌∷◌, [], true, false, not, length, map, Ok, Some, IsSome, IsTrue, is_some, IfOk, MatchResult};
 ghost use Rattle.base_core.specs.Full.{IsFull};
 ghost use Rattle.grants_core.specs.History.{in_force_after};
 ghost use Rattle.monitor_core.specs.Verdict.{first_lack, is_change};
 ghost use Rattle.tables_core.specs.Contents.{table_of};
 ghost use Rattle.reader_core.specs.declared.statement.Statement.TheVariants as statements;
 ghost use Rattle.grants_core.specs.Lawful.{AreLawful};
+ghost use Rattle.graph_core.specs.Indices.{standing_of};
 ghost use Rattle.system_core.specs.Journal.{verdict_at, tables_at, changes, rights_at};
 ghost use Rattle.system_core.specs.World.{opening, entry, moment_of, size_of, IsLawfulWorld};
 ghost use Rattle.system_core.specs.Judging.{checkpoint_checks, verdict_of};
@@ -27,6 +28,7 @@ use capture_core::{Capture, Progress};
 use catalogue_core::Catalogue;
 use export_core::Ticket;
 use grants_core::{Authority, Change, Grant};
+use links_core::Standing;
 use monitor_core::is_change;
 use reader_core::{MAX_ITEMS, Statement};
 use std::alloc::{AllocError, Global};
@@ -153,6 +155,15 @@ impl System {
         ensures { IfOk result (λ found. found.items ≡ (rights_at self.now.journal).in_force) }
     {
         self.ledger.rights().in_force()
+    }
+
+    /// The standing of each grant in force, in the order in which they were made: its number, and
+    /// whether it has its option. `NoMemory` where a request for memory was refused.
+    pub fn standings(&self) -> Result<Vec<Standing>, NoMemory>
+        ensures { IfOk result (λ standings. standings.items
+            ≡ map standing_of (rights_at self.now.journal).in_force) }
+    {
+        self.ledger.rights().standings()
     }
 
     /// The accepted changes, each as what it changes of rights: the privileges of GRANT, and of

@@ -1,8 +1,8 @@
 use Rattle.std.proofs.Common.{ℕ, List, [], ◌∷◌, ◌∙◌, ap, length, subst}
-use Rattle.grants_core.specs.declared.grant.Grant.{Grant}
+use Rattle.links_core.specs.declared.standing.Standing.{Standing}
 use Rattle.system_core.specs.declared.machine.event.Entry.{Entry}
 use Rattle.stream_core.specs.declared.effect.Effect.{Effect}
-use Rattle.stream_core.specs.Effects.{AreEffectsOf}
+use Rattle.stream_core.specs.Losses.{AreLossesOf}
 use Rattle.stream_core.specs.Streams.{ChangeTold, stream_text}
 use Rattle.stream_core.proofs.streamer.losses_text.Goals as goal
 
@@ -13,7 +13,6 @@ returns-clause-text c =
     let said : List Entry → List Effect → List ℕ = λ journal all. let one : ChangeTold = record { moment = length journal; all = all } in stream_text c.args.from (one ∷ []) in
     record {
       all = effects;
-      are = λ tables. subst (λ (gs : List Grant). AreEffectsOf (record { tables = tables; grants = before }) (record { tables = tables; grants = gs }) effects)
-          (c.deref.ensures.value ∙ c.in_ok-after.ensures) (c.in_ok-effects.ensures tables);
+      are = subst (λ (after : List Standing). AreLossesOf before after effects) (c.deref.ensures.value ∙ c.in_ok-after.ensures) c.in_ok-effects.ensures;
       text_is = c.in_ok-text.ensures ∙ ap (said c.journal.result.now) c.deref-2.ensures.value ∙ ap (λ j. said j effects) c.journal.ensures.journal;
     }

@@ -6,8 +6,8 @@ use Rattle.tables_core.proofs.interval.narrowed.Goals as goal
 
 pub returns-in-Some : goal.returns-in-Some
 returns-in-Some c = λ cell within met.
-    cell-narrowed c.args.condition.now c.in-Some.interval c.narrowed.result cell c.narrowed.ensures (subst (λ (o : Option Interval). IsCellKept o cell) c.in-Some.is within) met
+    cell-narrowed c.args.key c.args.condition.now c.in-Some.interval c.narrowed.result cell c.narrowed.ensures (subst (λ (o : Option Interval). IsCellKept c.args.key o cell) c.in-Some.is within) met
 
 pub returns-in-None : goal.returns-in-None
 returns-in-None c = λ cell within met.
-    cell-narrowed c.args.condition.now c.whole.result c.narrowed-in-None.result cell c.narrowed-in-None.ensures (cell-whole c.args.condition.now c.whole.result cell c.whole.ensures met) met
+    cell-narrowed c.args.key c.args.condition.now c.whole.result c.narrowed-in-None.result cell c.narrowed-in-None.ensures (cell-whole c.args.key c.args.condition.now c.whole.result cell (c.whole.ensures c.args.key) met) met

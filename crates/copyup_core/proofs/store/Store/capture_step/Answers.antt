@@ -1,5 +1,6 @@
 use Rattle.std.proofs.Common.{◌++◌, [], min, drop, ap, sym, subst, ◌∙◌, Option}
 use Rattle.std.specs.Option.{unwrap_or}
+use Rattle.std.specs.Map.{values_of}
 use Rattle.std.proofs.lemmas.List.{drop_min}
 use Rattle.copyup_core.specs.Holding.{unfinished}
 use Rattle.copyup_core.specs.declared.window.Window.{Window}
@@ -37,7 +38,7 @@ returns-clause-items g c =
     let sound = subst (λ (o : Option Window). IsSoundStore xs s.next s.len o) c.unwrap-window.ensures c.self.invariant in
     let e = c.in_ok-stop.ensures in
     let out = c.args.out.now.items in
-    rw (← c.self.view_is, c.unwrap-window.ensures) (e.items ∙ ap (λ t. t ++ had_within w.cursor stop xs) c.reserve.ensures.items ∙ ap (λ t. out ++ t) (given-stepped xs s.next s.len stop c.args.count given w sound e.stop.0 e.stop.1 e.count c.min-given.ensures))
+    rw (← c.self.view_is, c.unwrap-window.ensures) (e.items ∙ ap (λ t. t ++ values_of (had_within w.cursor stop xs)) c.reserve.ensures.items ∙ ap (λ t. out ++ values_of t) (given-stepped xs s.next s.len stop c.args.count given w sound e.stop.0 e.stop.1 e.count c.min-given.ensures))
 
 pub returns-clause-rest : goal.returns-clause-rest
 returns-clause-rest g c =

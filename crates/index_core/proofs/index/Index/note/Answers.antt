@@ -1,26 +1,12 @@
-use Rattle.std.proofs.Common.{ℕ, Option, nat_eq, is_some, sym, ap, ◌∙◌}
-use Rattle.std.specs.Option.{option_copied_mut}
-use Rattle.indexmap.specs.IndexMap.{get}
-use Rattle.index_core.specs.Fingerprint.{fingerprint}
-use Rattle.index_core.specs.Listed.{listed}
-use Rattle.index_core.specs.declared.numbers.Numbers.{Numbers}
-use Rattle.index_core.proofs.ListedLemmas.{kept-written}
+use Rattle.std.proofs.Common.{subst}
+use Rattle.index_core.specs.Within.{IsWithin}
+use Rattle.index_core.specs.declared.key.Key.{Key}
 use Rattle.index_core.proofs.index.Index.note.Goals as goal
 
-pub returns-in_err-add-in-Some-clause-kept : goal.returns-in_err-add-in-Some-clause-kept
-unfolding listed
-returns-in_err-add-in-Some-clause-kept c = λ v n is.
-    let before : ℕ → Option Numbers = λ q. get nat_eq c.args.self.now.lists q in
-    let after : ℕ → Option Numbers = λ q. get nat_eq (c.get_mut.follows.lender c.add.new.self) q in
-    let found = sym c.get_mut.ensures.value ∙ ap option_copied_mut c.in-Some.is in
-    let written = (c.get_mut.follows.holds c.add.new.self).3 (ap is_some found) in
-    kept-written before after c.fingerprint-key.result c.in-Some.numbers.now c.add.new.self found written.0 c.add.ensures.kept (fingerprint v) n is
+pub returns-in_ok-sort_tail-clause-noted : goal.returns-in_ok-sort_tail-clause-noted
+returns-in_ok-sort_tail-clause-noted c = λ i within.
+    (c.in_ok-sort_tail.ensures.same i c.args.number).0
+    (c.in_ok-push.ensures.noted i (subst (λ (k : Key). IsWithin k i c.args.value.now) c.sort_tail.ensures.key within))
 
-pub returns-in_ok-add-in-Some-clause-kept : goal.returns-in_ok-add-in-Some-clause-kept
-unfolding listed
-returns-in_ok-add-in-Some-clause-kept c = λ v n is.
-    let before : ℕ → Option Numbers = λ q. get nat_eq c.args.self.now.lists q in
-    let after : ℕ → Option Numbers = λ q. get nat_eq (c.get_mut.follows.lender c.add.new.self) q in
-    let found = sym c.get_mut.ensures.value ∙ ap option_copied_mut c.in-Some.is in
-    let written = (c.get_mut.follows.holds c.add.new.self).3 (ap is_some found) in
-    kept-written before after c.fingerprint-key.result c.in-Some.numbers.now c.add.new.self found written.0 c.add.ensures.kept (fingerprint v) n is
+pub returns-in_ok-sort_tail-clause-kept : goal.returns-in_ok-sort_tail-clause-kept
+returns-in_ok-sort_tail-clause-kept c = λ i n is. (c.in_ok-sort_tail.ensures.same i n).0 (c.in_ok-push.ensures.kept i n is)

@@ -1,21 +1,17 @@
-use Rattle.std.proofs.Common.{◌≤◌, sym, subst}
-use Rattle.index_core.specs.Rank.{rank}
-use Rattle.index_core.proofs.IntervalLemmas.{ranks-same, ranks-upto, ranks-from}
+use Rattle.std.proofs.Common.{◌≡◌, ◌∙◌, true, sym, subst}
+use Rattle.index_core.specs.Keys.{key_of}
+use Rattle.index_core.specs.Within.{admits}
+use Rattle.index_core.specs.declared.key.Key.{Key}
+use Rattle.index_core.proofs.IntervalLemmas.{key-same}
 use Rattle.index_core.proofs.interval.Interval.narrowed.Goals as goal
 
 pub returns-in-Equal : goal.returns-in-Equal
 returns-in-Equal c = λ v within met.
-    let same = ranks-same c.args.comparison v c.args.literal.now met c.in-Equal.is in
-    c.at_most.ensures (rank v)
-    (c.at_least.ensures (rank v) within (subst (λ k. k ≤ rank v) (sym c.rank-same.ensures) same.1))
-    (subst (λ k. rank v ≤ k) (sym c.rank-same.ensures) same.0)
+    let same = key-same c.args.comparison v c.args.literal.now met c.in-Equal.is (key_of c.args.key) ∙ sym c.of.ensures in
+    subst (λ n. admits c.only.result n ≡ true) (sym same) (c.only.ensures (subst (λ n. admits c.args.self n ≡ true) same within))
 
-pub returns-in-LessEqual : goal.returns-in-LessEqual
-returns-in-LessEqual c = λ v within met.
-    c.at_most-in-LessEqual.ensures (rank v) within
-    (subst (λ k. rank v ≤ k) (sym c.rank.ensures) (ranks-upto c.args.comparison v c.args.literal.now met c.in-LessEqual.is))
-
-pub returns-in-GreaterEqual : goal.returns-in-GreaterEqual
-returns-in-GreaterEqual c = λ v within met.
-    c.at_least-in-GreaterEqual.ensures (rank v) within
-    (subst (λ k. k ≤ rank v) (sym c.rank-in-GreaterEqual.ensures) (ranks-from c.args.comparison v c.args.literal.now met c.in-GreaterEqual.is))
+pub returns-in-Rank : goal.returns-in-Rank
+unfolding key_of
+returns-in-Rank c = λ v within met.
+    subst (λ (k : Key). admits c.ranked.result (key_of k v) ≡ true) (sym c.in-Rank.is)
+    (c.ranked.ensures v (subst (λ (k : Key). admits c.args.self (key_of k v) ≡ true) c.in-Rank.is within) met)

@@ -1,9 +1,9 @@
 use Rattle.std.proofs.Common.{◌∙◌, ◌++◌, ℕ, take, drop, ap, sym, subst}
-use Rattle.std.proofs.lemmas.List.{drop-map}
+use Rattle.std.proofs.lemmas.List.{drop-map, take-map}
 use Rattle.copyup_core.specs.Holding.{due}
 use Rattle.links_core.specs.declared.link.Link.{Link}
-use Rattle.links_core.specs.Links.{Linked, links_in, numbered_as, IsLinked}
-use Rattle.links_core.proofs.CaptureLemmas.{either, then_ok, is_stepped, due_stepped, given_is}
+use Rattle.links_core.specs.Links.{Linked, links_in, IsLinked}
+use Rattle.links_core.proofs.CaptureLemmas.{either, then_ok, is_stepped, due_stepped}
 use Rattle.links_core.proofs.links.Links.capture_step.Goals as goal
 
 pub invariant_of-self : goal.invariant_of-self
@@ -16,8 +16,8 @@ pub returns-clause-items : goal.returns-clause-items
 returns-clause-items c =
     let count = c.args.count in
     then_ok c.capture_step.result
-    (λ h. h ∙ ap (λ k. c.args.out.now.items ++ k) (given_is count (due c.self.inside.store) c.self.invariant.2)
-    ∙ ap (λ (k : Linked). c.args.out.now.items ++ numbered_as (take count k.rest)) c.self.view_is)
+    (λ h. h ∙ ap (λ k. c.args.out.now.items ++ k) (sym (take-map (λ (p : ℕ × Link). p.1) count (due c.self.inside.store)))
+    ∙ ap (λ (k : Linked). c.args.out.now.items ++ take count k.rest) c.self.view_is)
     c.capture_step.ensures.items
 
 pub returns-clause-rest : goal.returns-clause-rest

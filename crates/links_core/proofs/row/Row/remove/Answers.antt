@@ -1,4 +1,4 @@
-use Rattle.std.proofs.Common.{◌≡◌, ◌-◌, ◌+◌, ◌++◌, ◌∙◌, [], take, drop, length, length-drop, ap, refl, sym, arith}
+use Rattle.std.proofs.Common.{◌-◌, ◌+◌, ◌++◌, ◌∙◌, [], take, drop, length, length-drop, ap, refl, arith}
 use Rattle.links_core.specs.Ends.{EndsState}
 use Rattle.links_core.proofs.RowLemmas.{spliced_behind, moved_up}
 use Rattle.links_core.proofs.row.Row.remove.Goals.{then-place-ends, else-place-ends}

@@ -12,4 +12,4 @@ returns-then-not-may_change c =
     let reply = c.deny-reply.result in
     let change = sym c.is_change.ensures ∙ c.if-not-is_change.false in
     let undone = refused w c.args.entry reply (λ allowed. false≢true (sym c.if-not-may_change.true ∙ c.may_change.ensures.1 (allowed, change))) c.deny-reply.ensures change in
-    stopped-here i.untold i.grants.items w i.stop i.from c.args.self.now c.self.view_is c.requires c.self.invariant c.args.entry (reasons.Answer reply) w c.stop_for-then-not-may_change.new.stop undone refl c.stop_for-then-not-may_change.ensures
+    stopped-here i.untold i.standings.items w i.stop i.from c.args.self.now c.self.view_is c.requires c.self.invariant c.args.entry (reasons.Answer reply) w c.stop_for-then-not-may_change.new.stop undone refl c.stop_for-then-not-may_change.ensures

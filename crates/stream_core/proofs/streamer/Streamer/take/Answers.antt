@@ -14,7 +14,7 @@ returns-in-Ok-clause-told c =
     let old = c.args.self.now in
     let e = entry 0 c.in-Ok.user c.in-Ok.statement in
     let line : List ℕ = line_at old.world.journal c.args.line.now in
-    let read : c.line_at-line.result.now ≡ line = line-here i.untold i.grants.items i.system i.stop i.from old c.self.view_is c.requires c.self.invariant c.args.line.now c.line_at-line.result.now c.line_at-line.ensures in
+    let read : c.line_at-line.result.now ≡ line = line-here i.untold i.standings.items i.system i.stop i.from old c.self.view_is c.requires c.self.invariant c.args.line.now c.line_at-line.result.now c.line_at-line.ensures in
     let says : SaysEntry LONGEST_LINE line e = record { asks = subst (λ l. Asks LONGEST_LINE l e.user e.statement) read c.in-Ok.ensures.asks; pass = refl } in
     line-told old c.enter.new.self e line says c.enter.result c.requires (subst (λ (s : StreamerState). EntersTelling s e c.enter.result c.enter.new.self) c.self.view_is c.enter.ensures)
 
@@ -24,6 +24,6 @@ returns-in-Ok-clause-stopped c =
     let old = c.args.self.now in
     let e = entry 0 c.in-Ok.user c.in-Ok.statement in
     let line : List ℕ = line_at old.world.journal c.args.line.now in
-    let read : c.line_at-line.result.now ≡ line = line-here i.untold i.grants.items i.system i.stop i.from old c.self.view_is c.requires c.self.invariant c.args.line.now c.line_at-line.result.now c.line_at-line.ensures in
+    let read : c.line_at-line.result.now ≡ line = line-here i.untold i.standings.items i.system i.stop i.from old c.self.view_is c.requires c.self.invariant c.args.line.now c.line_at-line.result.now c.line_at-line.ensures in
     let says : SaysEntry LONGEST_LINE line e = record { asks = subst (λ l. Asks LONGEST_LINE l e.user e.statement) read c.in-Ok.ensures.asks; pass = refl } in
     line-stopped old c.enter.new.self e line says c.enter.result (subst (λ (s : StreamerState). EntersTelling s e c.enter.result c.enter.new.self) c.self.view_is c.enter.ensures)

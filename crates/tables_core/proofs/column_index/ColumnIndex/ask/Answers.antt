@@ -1,6 +1,10 @@
 use Rattle.std.proofs.lemmas.List.Elements.{All-weaker}
-use Rattle.tables_core.specs.Indexing.{ColumnLists}
+use Rattle.std.proofs.Common.{List}
+use Rattle.tables_core.specs.Indexing.{Numbered, ColumnLists}
 use Rattle.tables_core.proofs.column_index.ColumnIndex.ask.Goals as goal
 
-pub returns-then-self : goal.returns-then-self
-returns-then-self c = λ h. All-weaker (λ r. ColumnLists c.make.new.self r) (λ r. ColumnLists c.settle.new.self r) c.settle.ensures c.args.rows.now.contents (c.make.ensures h)
+pub returns : goal.returns
+returns c = λ h.
+    let rows : List Numbered = c.args.rows.now.contents in
+    All-weaker (λ r. ColumnLists c.grow.new.self r) (λ r. ColumnLists c.settle.new.self r) c.settle.ensures rows
+    (c.grow.ensures (All-weaker (λ r. ColumnLists c.args.self.now r) (λ r. ColumnLists c.begin.new.self r) c.begin.ensures rows h))

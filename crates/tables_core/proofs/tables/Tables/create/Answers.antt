@@ -37,4 +37,4 @@ returns-clause-rest c =
     let ts = c.self.inside.tables.entries in
     let absent = none-there c.args.name ts (rw (← c.self.view_is) at c.requires.new) in
     let entries = c.in_ok-insert.ensures.entries ∙ insert_entry-new same_name c.self.inside.tables c.args.name c.new-table.result absent in
-    rw (← c.self.view_is) (ap (rest_in w.number w.cursor w.end) entries ∙ rest-added ts c.args.name c.new-table.result w c.self.invariant.within)
+    rw (← c.self.view_is) (ap (rest_in w) entries ∙ rest-added ts c.args.name c.new-table.result w c.self.invariant.within)

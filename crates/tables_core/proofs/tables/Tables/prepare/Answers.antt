@@ -26,6 +26,6 @@ returns c =
       | in-Some b ↦
           let found = sym c.get_mut.ensures.value ∙ ap option_copied_mut b.in-Some.is in
           let same = same-written c.args.name c.self.inside.tables.entries _ b.in-Some.table.now b.prepare.new.self found (c.get_mut.follows.holds b.prepare.new.self).0 b.prepare.ensures in
-          rw b.self-inside-is (same_database (ap shown_tables same) (ap (rest_in w.number w.cursor w.end) same))
+          rw b.self-inside-is (same_database (ap shown_tables same) (ap (rest_in w) same))
       | in_default b ↦ rw b.self-inside-is (rw c.get_mut.follows.holds-at-none)
     ])

@@ -1,6 +1,0 @@
-use Rattle.std.proofs.Common.{◌≡◌, ◌++◌, take}
-use Rattle.index_core.specs.Ranged.{entries_of, numbers_within}
-use Rattle.index_core.proofs.ordered_index.push_from_runs.Given as goal
-
-abbrev pub invariant-loop-run : goal.invariant-loop-run
-invariant-loop-run l = l.numbers.items ≡ l.fn.numbers.items ++ numbers_within l.interval (entries_of (take l.run-index l.runs))

@@ -1,9 +1,0 @@
-use Rattle.std.proofs.Common.{sym, ◌∙◌}
-use Rattle.tables_core.proofs.table.Table.capture_step.Goals as goal
-
-pub invariant_of-self : goal.invariant_of-self
-invariant_of-self c = (
-  rw c.capture_step.ensures.contents c.self.invariant.0,
-  c.self.invariant.1 ∙ sym c.capture_step.ensures.next,
-  rw c.capture_step.ensures.contents c.self.invariant.2,
-)
